@@ -1,0 +1,7 @@
+pub mod Answer
+pub mod Bits
+pub mod Cases
+pub mod Leaf
+pub mod Sd
+pub mod Settings
+pub mod Words

@@ -1,0 +1,108 @@
+-- The SD Physical Layer Simplified Specification: the fields of its registers by bit position, and what they mean. That
+-- document 01's arithmetic agrees with these is proved in proofs/Agree.antt.
+use Prim.Native.Nat.{ℕ, _+_, _*_, _/_, _^_}
+use mathlib.Core.Bool.{Bool, cond, _||_, _&&_}
+use mathlib.Core.List.{List, [], _∷_}
+use lib.Dec.{eqb, ltb}
+use lib.ListN.{getD}
+use Rattle.types.specs.declared.card.CardCapacity.{CardCapacity}
+use Rattle.types.specs.declared.card.CardCapacity.the-variants.{SDSC, SDHC}
+use Rattle.types.specs.declared.error.Error.the-variants.{UnsupportedCardType}
+use Rattle.types.specs.declared.register.CountAnswer.{CountAnswer}
+use Rattle.types.specs.declared.register.CountAnswer.the-variants as Count
+use Rattle.types.specs.declared.register.RateAnswer.{RateAnswer}
+use Rattle.types.specs.declared.register.RateAnswer.the-variants as Rate
+use Rattle.types.specs.declared.register.Wide.{Wide}
+use Rattle.types.specs.Bits.{bits, bit}
+
+-- the 128-bit register of two halves, the first word on top
+abbrev pub wideOf : Wide → ℕ
+wideOf w = w .high * 2 ^ 64 + w .low
+
+-- CSD: CSD_STRUCTURE is 0 in version 1.0 and 1 in version 2.0
+abbrev pub csdStructure : ℕ → ℕ
+csdStructure csd = bits csd 127 126
+
+-- CSD version 1.0. READ_BL_LEN: 9, 10 or 11; the others are reserved
+abbrev pub readBlLen : ℕ → ℕ
+readBlLen csd = bits csd 83 80
+
+abbrev pub cSize1 : ℕ → ℕ
+cSize1 csd = bits csd 73 62
+
+abbrev pub cSizeMult : ℕ → ℕ
+cSizeMult csd = bits csd 49 47
+
+-- memory capacity = BLOCKNR * BLOCK_LEN bytes, where BLOCKNR = (C_SIZE + 1) * MULT, MULT = 2 ^ (C_SIZE_MULT + 2),
+-- BLOCK_LEN = 2 ^ READ_BL_LEN
+unfoldable pub bytes1 : ℕ → ℕ
+bytes1 csd = (cSize1 csd + 1) * 2 ^ (cSizeMult csd + 2) * 2 ^ readBlLen csd
+
+-- CSD version 2.0. memory capacity = (C_SIZE + 1) * 512 KByte
+abbrev pub cSize2 : ℕ → ℕ
+cSize2 csd = bits csd 69 48
+
+unfoldable pub bytes2 : ℕ → ℕ
+bytes2 csd = (cSize2 csd + 1) * (512 * 1024)
+
+-- the capacity in blocks of 512 bytes
+unfoldable pub sdCount : ℕ → CountAnswer
+sdCount csd =
+    cond (eqb (csdStructure csd) 0)
+    (cond (ltb (readBlLen csd) 9 || ltb 11 (readBlLen csd)) (Count.Refused UnsupportedCardType)
+    (Count.Blocks (record { 0 = bytes1 csd / 512 })))
+    (cond (eqb (csdStructure csd) 1) (Count.Blocks (record { 0 = bytes2 csd / 512 })) (Count.Refused UnsupportedCardType))
+
+-- TRAN_SPEED, in both versions: the unit in bits 2:0, the time value in bits 6:3, bit 7 reserved
+abbrev pub tranSpeed : ℕ → ℕ
+tranSpeed csd = bits csd 103 96
+
+-- 100 kbit/s, 1 Mbit/s, 10 Mbit/s, 100 Mbit/s; 4 to 7 are reserved
+abbrev pub unitKilobits : List ℕ
+unitKilobits = 100 ∷ 1_000 ∷ 10_000 ∷ 100_000 ∷ []
+
+-- reserved, 1.0, 1.2, 1.3, 1.5, 2.0, 2.5, 3.0, 3.5, 4.0, 4.5, 5.0, 5.5, 6.0, 7.0, 8.0
+abbrev pub timeTenths : List ℕ
+timeTenths = 0 ∷ 10 ∷ 12 ∷ 13 ∷ 15 ∷ 20 ∷ 25 ∷ 30 ∷ 35 ∷ 40 ∷ 45 ∷ 50 ∷ 55 ∷ 60 ∷ 70 ∷ 80 ∷ []
+
+-- the rate in bits a second: unit times time value, 1,000 bits a kilobit
+unfoldable pub sdRate : ℕ → RateAnswer
+sdRate byte =
+    cond (bit byte 7 || ltb 3 (bits byte 2 0) || eqb (bits byte 6 3) 0) (Rate.Refused UnsupportedCardType)
+    (Rate.Rate (getD unitKilobits (bits byte 2 0) 0 * 1_000 * getD timeTenths (bits byte 6 3) 0 / 10))
+
+-- the argument of a read counts bytes on a standard capacity card, blocks of 512 bytes on all others
+abbrev pub unitBytes : CardCapacity → ℕ
+unitBytes SDSC = 1
+unitBytes SDHC = 512
+
+-- SCR: SD_SPEC in bits 59:56; of SD_BUS_WIDTHS bit 48 says one line, bit 50 four
+abbrev pub sdSpec : ℕ → ℕ
+sdSpec scr = bits scr 59 56
+
+abbrev pub oneLine : ℕ → Bool
+oneLine scr = bit scr 48
+
+abbrev pub fourLines : ℕ → Bool
+fourLines scr = bit scr 50
+
+-- Card status. READY_FOR_DATA is bit 8, CURRENT_STATE bits 12:9, of which 4 is the transfer state
+abbrev pub readyOf : ℕ → Bool
+readyOf status = bit status 8 && eqb (bits status 12 9) 4
+
+-- the places of the error bits: OUT_OF_RANGE, ADDRESS_ERROR, BLOCK_LEN_ERROR, ERASE_SEQ_ERROR, ERASE_PARAM, WP_VIOLATION;
+-- LOCK_UNLOCK_FAILED, COM_CRC_ERROR, ILLEGAL_COMMAND, CARD_ECC_FAILED, CC_ERROR, ERROR, two reserved ones, CSD_OVERWRITE,
+-- WP_ERASE_SKIP, CARD_ECC_DISABLED, ERASE_RESET; AKE_SEQ_ERROR
+abbrev pub errorPlaces : List ℕ
+errorPlaces = 31 ∷ 30 ∷ 29 ∷ 28 ∷ 27 ∷ 26 ∷ 24 ∷ 23 ∷ 22 ∷ 21 ∷ 20 ∷ 19 ∷ 18 ∷ 17 ∷ 16 ∷ 15 ∷ 14 ∷ 13 ∷ 3 ∷ []
+
+-- CARD_IS_LOCKED; APP_CMD
+abbrev pub lockedPlaces : List ℕ
+lockedPlaces = 25 ∷ []
+
+abbrev pub appPlaces : List ℕ
+appPlaces = 5 ∷ []
+
+-- the status in an R6 has COM_CRC_ERROR, ILLEGAL_COMMAND and ERROR in its bits 15 to 13
+abbrev pub shortErrorPlaces : List ℕ
+shortErrorPlaces = 15 ∷ 14 ∷ 13 ∷ []

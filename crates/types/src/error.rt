@@ -1,0 +1,102 @@
+// Why the driver refuses, and the number that each answer has.
+ghost use mathlib.Core.Path.{_≡_};
+ghost use Rattle.types.specs.Answer.{errorTold, answerTold, carried};
+
+pub enum Error {
+    Timeout,
+    SoftwareTimeout,
+    Crc,
+    StBitErr,
+    Overrun,
+    Underrun,
+    Dma,
+    IncompleteTransfer,
+    ResponseMismatch,
+    CardStatus(u32),
+    CardLocked,
+    UnsupportedCardVersion,
+    UnsupportedCardType,
+    UnsupportedBusWidth,
+    SignalingSwitchFailed,
+    NoCard,
+    BadClock,
+    InvalidConfig,
+    InvalidBufferLength,
+    AddressOutOfRange,
+}
+
+// What a call comes to. The last three are not the driver's: the script had no word left, the row list no room, or the
+// book that holds the call is none.
+pub enum Answer {
+    Accepted,
+    Refused(Error),
+    ScriptEnded,
+    TraceFull,
+    BadBook,
+}
+
+impl Error {
+    pub fn number(self) -> u8
+        ensures { λ r. ⌜ r ≡ errorTold self .number ⌝ }
+    {
+        match self {
+            Error::Timeout => 1,
+            Error::SoftwareTimeout => 2,
+            Error::Crc => 3,
+            Error::StBitErr => 4,
+            Error::Overrun => 5,
+            Error::Underrun => 6,
+            Error::Dma => 7,
+            Error::IncompleteTransfer => 8,
+            Error::ResponseMismatch => 9,
+            Error::CardStatus(_) => 10,
+            Error::CardLocked => 11,
+            Error::UnsupportedCardVersion => 12,
+            Error::UnsupportedCardType => 13,
+            Error::UnsupportedBusWidth => 14,
+            Error::SignalingSwitchFailed => 15,
+            Error::NoCard => 16,
+            Error::BadClock => 17,
+            Error::InvalidConfig => 18,
+            Error::InvalidBufferLength => 19,
+            Error::AddressOutOfRange => 20,
+        }
+    }
+
+    // The card's status word, at CardStatus; 0 elsewhere.
+    pub fn word(self) -> u32
+        ensures { λ r. ⌜ r ≡ carried (errorTold self) ⌝ }
+    {
+        match self {
+            Error::CardStatus(word) => word,
+            _ => 0,
+        }
+    }
+}
+
+impl Answer {
+    pub fn number(self) -> u8
+        ensures { λ r. ⌜ r ≡ answerTold self .number ⌝ }
+    {
+        match self {
+            Answer::Accepted => 0,
+            Answer::Refused(error) => error.number(),
+            Answer::ScriptEnded => 21,
+            Answer::TraceFull => 22,
+            Answer::BadBook => 23,
+        }
+    }
+
+    // The word that the answer carries: the card's status at CardStatus, 0 elsewhere.
+    pub fn word(self) -> u32
+        ensures { λ r. ⌜ r ≡ carried (answerTold self) ⌝ }
+    {
+        match self {
+            Answer::Refused(error) => error.word(),
+            Answer::Accepted => 0,
+            Answer::ScriptEnded => 0,
+            Answer::TraceFull => 0,
+            Answer::BadBook => 0,
+        }
+    }
+}

@@ -1,0 +1,157 @@
+// The 128-bit registers of a card as two 64-bit halves, the first word on top; the capacity and the rate in its CSD.
+ghost use mathlib.Core.Path.{_≡_};
+ghost use Rattle.types.specs.Bits.{bits};
+ghost use Rattle.types.specs.Sd.{wideOf};
+ghost use Rattle.types.specs.Leaf.{countOf, rateOf, sizeOf};
+use crate::error::Error;
+
+// CID and CSD: bit 127 is the top bit of `high`, bit 0 the lowest of `low`.
+pub struct Wide {
+    pub high: u64,
+    pub low: u64,
+}
+
+// A count of blocks of 512 bytes: never a frequency, and more than 32 bits hold.
+pub struct BlockCount(pub u64);
+
+pub enum CountAnswer {
+    Blocks(BlockCount),
+    Refused(Error),
+}
+
+pub enum RateAnswer {
+    Rate(u32),
+    Refused(Error),
+}
+
+pub enum SizeAnswer {
+    Bytes(u64),
+    Refused(Error),
+}
+
+// What each unit of TRAN_SPEED stands for, in bits a second.
+const UNITS: [u32; 4] = [100_000, 1_000_000, 10_000_000, 100_000_000];
+
+// What each value of TRAN_SPEED stands for, in tenths.
+const TENTHS: [u32; 16] = [
+    0,
+    10,
+    12,
+    13,
+    15,
+    20,
+    25,
+    30,
+    35,
+    40,
+    45,
+    50,
+    55,
+    60,
+    70,
+    80,
+];
+
+impl Wide {
+    // Bits 127:126, CSD_STRUCTURE.
+    fn structure(self) -> u64
+        ensures { λ r. ⌜ r ≡ bits (wideOf self) 127 126 ⌝ }
+    {
+        self.high / 0x4000_0000_0000_0000
+    }
+
+    // Bits 83:80, READ_BL_LEN.
+    fn block_length(self) -> u64
+        ensures { λ r. ⌜ r ≡ bits (wideOf self) 83 80 ⌝ }
+    {
+        self.high / 0x1_0000 % 16
+    }
+
+    // Bits 73:62, C_SIZE of version 1: ten bits above bit 64 and two below it.
+    fn size_1(self) -> u64
+        ensures { λ r. ⌜ r ≡ bits (wideOf self) 73 62 ⌝ }
+    {
+        self.high % 0x400 * 4 + self.low / 0x4000_0000_0000_0000
+    }
+
+    // Bits 49:47, C_SIZE_MULT.
+    fn multiplier(self) -> u64
+        ensures { λ r. ⌜ r ≡ bits (wideOf self) 49 47 ⌝ }
+    {
+        self.low / 0x8000_0000_0000 % 8
+    }
+
+    // Bits 69:48, C_SIZE of version 2: six bits above bit 64 and sixteen below it.
+    fn size_2(self) -> u64
+        ensures { λ r. ⌜ r ≡ bits (wideOf self) 69 48 ⌝ }
+    {
+        self.high % 0x40 * 0x1_0000 + self.low / 0x1_0000_0000_0000
+    }
+
+    // Bits 103:96, TRAN_SPEED.
+    pub fn transfer_rate(self) -> u8
+        ensures { λ r. ⌜ r ≡ bits (wideOf self) 103 96 ⌝ }
+    {
+        (self.high / 0x1_0000_0000 % 256) as u8
+    }
+}
+
+impl BlockCount {
+    // Bytes in a block.
+    pub const BLOCK: u64 = 512;
+    // The most blocks that a card can have, 2 TiB of them.
+    pub const MOST: u64 = 4_294_967_296;
+
+    // The bytes of so many blocks.
+    pub fn bytes(self) -> SizeAnswer
+        ensures { λ r. ⌜ r ≡ sizeOf (self .0) ⌝ }
+    {
+        let count = self.0;
+        if count > BlockCount::MOST {
+            return SizeAnswer::Refused(Error::AddressOutOfRange);
+        }
+        SizeAnswer::Bytes(BlockCount::BLOCK * count)
+    }
+}
+
+// The blocks of 512 bytes that a CSD tells.
+pub fn block_count(csd: Wide) -> CountAnswer
+    ensures { λ r. ⌜ r ≡ countOf (wideOf csd) ⌝ }
+{
+    let version = csd.structure();
+    if version == 0 {
+        let length = csd.block_length();
+        if length < 9 {
+            return CountAnswer::Refused(Error::UnsupportedCardType);
+        }
+        if 11 < length {
+            return CountAnswer::Refused(Error::UnsupportedCardType);
+        }
+        let size = csd.size_1() + 1;
+        let shift = csd.multiplier() + 2 + (length - 9);
+        return CountAnswer::Blocks(BlockCount(size << shift));
+    }
+    if version == 1 {
+        let size = csd.size_2() + 1;
+        return CountAnswer::Blocks(BlockCount(size * 1024));
+    }
+    CountAnswer::Refused(Error::UnsupportedCardType)
+}
+
+// The rate in bits a second that a TRAN_SPEED byte encodes.
+pub fn transfer_rate(encoded: u8) -> RateAnswer
+    ensures { λ r. ⌜ r ≡ rateOf encoded ⌝ }
+{
+    if encoded / 128 % 2 == 1 {
+        return RateAnswer::Refused(Error::UnsupportedCardType);
+    }
+    let unit = encoded % 8;
+    if unit > 3 {
+        return RateAnswer::Refused(Error::UnsupportedCardType);
+    }
+    let value = encoded / 8 % 16;
+    if value == 0 {
+        return RateAnswer::Refused(Error::UnsupportedCardType);
+    }
+    RateAnswer::Rate(UNITS[unit as usize] / 10 * TENTHS[value as usize])
+}
