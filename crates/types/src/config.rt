@@ -1,6 +1,9 @@
 // The settings of a host.
 ghost use mathlib.Core.Path.{_≡_};
-ghost use Rattle.types.specs.Settings.{defaults};
+ghost use Rattle.types.specs.Settings.{defaults, madeOf};
+use crate::clock::Hertz;
+use crate::error::Answer;
+use crate::error::Error;
 
 pub struct Config {
     pub data_transfer_timeout: u32,
@@ -19,6 +22,10 @@ impl Config {
     pub const POLL_LIMIT: u32 = 1_000_000;
 
     pub const CARD_READY_ATTEMPTS: u16 = 1_000;
+    // The sources that identification's 400,000 Hz can be made of: a source of 1 Hz would be a clock of 0 Hz.
+    pub const LEAST_SOURCE: u32 = 2;
+
+    pub const MOST_SOURCE: u32 = 102_800_000;
 
     pub fn default() -> Config
         ensures { λ r. ⌜ r ≡ defaults ⌝ }
@@ -30,5 +37,31 @@ impl Config {
             card_ready_attempts: Config::CARD_READY_ATTEMPTS,
             allow_clock_bypass: false,
         }
+    }
+
+    // What making a host of this source and these settings answers.
+    pub fn judge(self, source: Hertz) -> Answer
+        ensures { λ r. ⌜ r ≡ madeOf (source .0) self ⌝ }
+    {
+        let hertz = source.0;
+        if self.poll_limit == 0 {
+            return Answer::Refused(Error::InvalidConfig);
+        }
+        if self.card_ready_attempts == 0 {
+            return Answer::Refused(Error::InvalidConfig);
+        }
+        if self.data_transfer_timeout == 0 {
+            return Answer::Refused(Error::InvalidConfig);
+        }
+        if self.software_timeout_ms == 0 {
+            return Answer::Refused(Error::InvalidConfig);
+        }
+        if hertz < Config::LEAST_SOURCE {
+            return Answer::Refused(Error::BadClock);
+        }
+        if hertz > Config::MOST_SOURCE {
+            return Answer::Refused(Error::BadClock);
+        }
+        Answer::Accepted
     }
 }
