@@ -1,5 +1,5 @@
 -- Document 01's arithmetic agrees with SD's fields: capacity, rate and address follow the SD specification.
-use Prim.Native.Nat.{ℕ, zero, suc, _+_, _*_, _-_, _/_, _%_, _^_, _<_, _≤_}
+use Prim.Native.Nat.{ℕ, zero, suc, _+_, _*_, _-_, _/_, _^_, _<_, _≤_}
 use mathlib.Core.Bool.{Bool, true, false, cond, _||_}
 use mathlib.Core.List.{List, [], _∷_, map}
 use mathlib.Core.Path.{_≡_, refl, ap, sym, _∙_}
@@ -8,7 +8,7 @@ use native.Mathlib.Omega.{arith}
 use lib.Dec.{eqb, ltb, lit<}
 use lib.ListN.{getD}
 use lib.Pow.{pow-add}
-use borrow.Author.Tests.{eqb-true, eqb-false, ltb-true, ltb-false}
+use borrow.Author.Tests.{eqb-false, ltb-false}
 use Rattle.types.specs.declared.card.CardCapacity.{CardCapacity}
 use Rattle.types.specs.declared.card.CardCapacity.the-variants.{SDSC, SDHC}
 use Rattle.types.specs.declared.card.AddressAnswer.the-variants as Address

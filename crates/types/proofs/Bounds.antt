@@ -1,14 +1,13 @@
 -- How large the answers can be: an SDSC card has at most 8,388,608 blocks, any card at most 4,294,967,296.
 use Prim.Native.Nat.{ℕ, _+_, _*_, _-_, _^_, _<_, _≤_}
 use mathlib.Core.Bool.{Bool, true, false, cond, _||_}
-use mathlib.Core.Path.{_≡_, refl, ap}
-use native.Mathlib.Nat.{le-trans, mul-le-mul}
+use mathlib.Core.Path.{_≡_, refl}
+use native.Mathlib.Nat.{mul-le-mul}
 use native.Mathlib.Omega.{arith}
 use lib.Dec.{eqb, ltb}
 use lib.Pow.{pow-mono}
 use borrow.Author.Tests.{ltb-false}
 use Rattle.types.specs.declared.register.BlockCount.{BlockCount}
-use Rattle.types.specs.declared.register.CountAnswer.{CountAnswer}
 use Rattle.types.specs.declared.register.CountAnswer.the-variants.{Blocks, Refused}
 use Rattle.types.specs.declared.error.Error.the-variants.{UnsupportedCardType}
 use Rattle.types.specs.Bits.{bits}

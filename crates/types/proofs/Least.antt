@@ -1,14 +1,13 @@
 -- Demand 2: without bypass, for a nonzero source and a request of 1 to 80,000,000 Hz, the answer's divisor is the least
 -- from 2 to 257 with source at most divisor times request, and it is refused exactly if there is none.
-use Prim.Native.Nat.{ℕ, _+_, _*_, _-_, _/_, _%_, _<_, _≤_}
+use Prim.Native.Nat.{ℕ, _+_, _*_, _-_, _/_, _<_, _≤_}
 use mathlib.Core.Bool.{Bool, true, false, cond}
-use mathlib.Core.Path.{_≡_, refl, ap, sym, _∙_}
+use mathlib.Core.Path.{_≡_, refl}
 use native.Mathlib.Nat.{div-lt-iff-lt-mul, div-add-mod', mod-lt, mul-le-mul-right, le-trans, add-mul, le-max-left, le-max-right, max-le}
 use native.Mathlib.Omega.{arith}
-use lib.Dec.{ltb, eqb}
-use borrow.Author.Tests.{ne-eqb, le-ltb, lt-ltb, ltb-true, ltb-false}
+use lib.Dec.{ltb}
+use borrow.Author.Tests.{ne-eqb, le-ltb, ltb-true, ltb-false}
 use Rattle.types.specs.declared.clock.Clock.{Clock}
-use Rattle.types.specs.declared.clock.ClockAnswer.{ClockAnswer}
 use Rattle.types.specs.declared.clock.ClockAnswer.the-variants.{Set, Refused}
 use Rattle.types.specs.declared.error.Error.{Error}
 use Rattle.types.specs.declared.error.Error.the-variants.{BadClock}

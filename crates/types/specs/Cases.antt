@@ -3,7 +3,6 @@ use Prim.Native.Nat.{ℕ, _+_, _*_, _^_}
 use mathlib.Core.Bool.{true, false}
 use mathlib.Core.List.{List, [], _∷_, map}
 use mathlib.Core.Path.{_≡_, refl}
-use Rattle.types.specs.declared.card.CardCapacity.{CardCapacity}
 use Rattle.types.specs.declared.card.CardCapacity.the-variants.{SDSC, SDHC}
 use Rattle.types.specs.Answer.{Told, told, errorTold, clockTold, countTold, rateTold, addressTold, dataTold}
 use Rattle.types.specs.Leaf.{divisorOf, clockOf, countOf, rateOf, unitsOf, addressOf, firstMatch, dataOf}

@@ -1,5 +1,5 @@
 -- Document 01, 'Leaf rules': the arithmetic of the driver's plain functions, in its order and words.
-use Prim.Native.Nat.{ℕ, _+_, _*_, _-_, _/_, _%_, _^_, max}
+use Prim.Native.Nat.{ℕ, _+_, _*_, _-_, _/_, _^_, max}
 use mathlib.Core.Bool.{Bool, true, false, cond, _||_, _&&_}
 use mathlib.Core.List.{List, [], _∷_}
 use lib.Dec.{eqb, ltb, leb}

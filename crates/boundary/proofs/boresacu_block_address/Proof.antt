@@ -1,5 +1,5 @@
 use mathlib.Core.Path.{sym, _∙_}
-use native.Mathlib.Nat.{zero-add, add-zero}
+use native.Mathlib.Nat.{zero-add}
 use Rattle.boundary.proofs.Told.{same}
 use Rattle.boundary.specs.Packed.{addressWord}
 use borrow.Author.Needs.{needs}

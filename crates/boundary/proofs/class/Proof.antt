@@ -1,5 +1,4 @@
 use borrow.Author.Tests.{eq-eqb, ne-eqb}
-use borrow.Author.Needs.{needs}
 use Rattle.boundary.proofs.class.Statement.{statement}
 use Rattle.boundary.proofs.class.Tie as tie
 

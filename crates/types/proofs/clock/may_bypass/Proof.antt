@@ -1,4 +1,3 @@
-use borrow.Author.Needs.{needs}
 use Rattle.types.proofs.clock.may_bypass.Statement.{statement}
 use Rattle.types.proofs.clock.may_bypass.Tie as tie
 

@@ -1,6 +1,6 @@
 use Prim.Native.Nat.{_/_, _%_}
 use borrow.Author.Tests.{eq-eqb, ne-eqb, lt-ltb, le-ltb}
-use native.Mathlib.Nat.{div-one, div-le-self, lt-of-le-of-lt, mul-le-mul}
+use native.Mathlib.Nat.{div-one, lt-of-le-of-lt, mul-le-mul}
 use native.Mathlib.Omega.{arith}
 use lib.Dec.{lit<}
 use Rattle.types.specs.Leaf.{rateOf, rateUnits, rateTenths}

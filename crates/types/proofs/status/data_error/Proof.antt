@@ -1,6 +1,5 @@
 use borrow.Author.Tests.{eq-eqb, ne-eqb}
 use Rattle.types.specs.Leaf.{firstMatch, dataOf}
-use borrow.Author.Needs.{needs}
 use Rattle.types.proofs.status.data_error.Statement.{statement}
 use Rattle.types.proofs.status.data_error.Tie as tie
 

@@ -6,7 +6,6 @@ use borrow.Author.Tests.{eq-eqb, ne-eqb, lt-ltb, le-ltb}
 use Rattle.types.specs.declared.error.Answer.the-variants.{Accepted, Refused}
 use Rattle.types.specs.declared.error.Error.the-variants.{BadClock}
 use Rattle.types.specs.Settings.{madeOf}
-use borrow.Author.Needs.{needs}
 use Rattle.types.proofs.config.Config.judge.Statement.{statement}
 use Rattle.types.proofs.config.Config.judge.Tie as tie
 

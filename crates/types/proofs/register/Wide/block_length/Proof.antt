@@ -1,6 +1,5 @@
 use mathlib.Core.Path.{sym}
-use Rattle.types.proofs.Halves.{upper, across}
-use borrow.Author.Needs.{needs}
+use Rattle.types.proofs.Halves.{upper}
 use Rattle.types.proofs.register.Wide.block_length.Statement.{statement}
 use Rattle.types.proofs.register.Wide.block_length.Tie as tie
 

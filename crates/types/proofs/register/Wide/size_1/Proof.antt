@@ -1,6 +1,6 @@
 use mathlib.Core.Path.{sym}
 use native.Mathlib.Omega.{arith}
-use Rattle.types.proofs.Halves.{upper, across}
+use Rattle.types.proofs.Halves.{across}
 use borrow.Author.Needs.{needs}
 use Rattle.types.proofs.register.Wide.size_1.Statement.{statement}
 use Rattle.types.proofs.register.Wide.size_1.Tie as tie

@@ -1,7 +1,6 @@
 use mathlib.Core.Path.{sym, _∙_}
 use lib.Pow.{shr-mod}
-use Rattle.types.proofs.Halves.{upper, across}
-use borrow.Author.Needs.{needs}
+use Rattle.types.proofs.Halves.{upper}
 use Rattle.types.proofs.register.Wide.structure.Statement.{statement}
 use Rattle.types.proofs.register.Wide.structure.Tie as tie
 

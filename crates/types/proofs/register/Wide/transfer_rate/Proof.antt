@@ -1,5 +1,5 @@
 use mathlib.Core.Path.{sym}
-use Rattle.types.proofs.Halves.{upper, across}
+use Rattle.types.proofs.Halves.{upper}
 use borrow.Author.Needs.{needs}
 use Rattle.types.proofs.register.Wide.transfer_rate.Statement.{statement}
 use Rattle.types.proofs.register.Wide.transfer_rate.Tie as tie

@@ -1,5 +1,4 @@
 use borrow.Author.Tests.{eq-eqb, ne-eqb}
-use borrow.Author.Needs.{needs}
 use Rattle.types.proofs.status.CardStatus.ready.Statement.{statement}
 use Rattle.types.proofs.status.CardStatus.ready.Tie as tie
 
