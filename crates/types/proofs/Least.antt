@@ -37,7 +37,7 @@ module _ (source requested : ℕ) (nonzero : 1 ≤ source) (low : 1 ≤ requeste
 
   at-least-2 : 2 ≤ divisorOf source requested
   unfolding divisorOf
-  at-least-2 = le-max-left 2 (roundedUp source requested)
+  at-least-2 = le-max-left 2 _
 
   slow-enough : source ≤ divisorOf source requested * requested
   unfolding divisorOf

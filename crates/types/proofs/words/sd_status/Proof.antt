@@ -15,7 +15,7 @@ use Rattle.types.proofs.words.sd_status.Tie as tie
 module _ (words z : List ℕ) (sixteen : length z ≡ 16) where
   long : length (sdStatusOf words) ≡ 16
   unfolding sdStatusOf
-  long = length-counted (λ i. turned (getD words (15 - i) 0)) 0 16
+  long = length-counted _ 0 16
 
   step : (i v : ℕ) → i < 16 → v ≡ turned (getD words (15 - i) 0) → set (over (sdStatusOf words) z i) i v ≡ over (sdStatusOf words) z (i + 1)
   unfolding sdStatusOf
