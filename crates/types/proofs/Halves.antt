@@ -2,7 +2,8 @@
 -- arithmetic.) The halves meet at bit k + b, and the laws hold for every place and width.
 use Prim.Native.Nat.{ℕ, _+_, _*_, _/_, _%_, _^_, _<_}
 use mathlib.Core.Path.{_≡_, sym, ap, _∙_}
-use native.Mathlib.Nat.{add-comm, mul-assoc, add-mul-div-right}
+use native.Mathlib.Nat.{add-comm, mul-assoc, mod-lt, add-mul-div-right}
+use lib.Arith.{digits-lt}
 use lib.Pow.{pow-pos, pow-add, shr-shr, shr-lt, high, low, mod-pow-add}
 
 -- w bits from bit m + k on, where the halves meet at bit m
@@ -25,3 +26,7 @@ across hi j k b {lo} h = ap (λ (x : ℕ). x % 2 ^ (j + k)) shifted ∙ mod-pow-
 
     parts : ((hi * 2 ^ k + lo / 2 ^ b) / 2 ^ k % 2 ^ j) * 2 ^ k + (hi * 2 ^ k + lo / 2 ^ b) % 2 ^ k ≡ hi % 2 ^ j * 2 ^ k + lo / 2 ^ b
     parts = rw (high hi k fits, low hi k fits)
+
+-- and what is put together so fits j + k bits
+pub across-lt : (hi j k b : ℕ) {lo : ℕ} → lo < 2 ^ (k + b) → hi % 2 ^ j * 2 ^ k + lo / 2 ^ b < 2 ^ (j + k)
+across-lt hi j k b h = rw (pow-add 2 j k) (digits-lt (mod-lt hi (pow-pos j)) (shr-lt k b h))

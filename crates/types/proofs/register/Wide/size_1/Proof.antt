@@ -1,12 +1,13 @@
 use mathlib.Core.Path.{sym}
-use native.Mathlib.Omega.{arith}
-use Rattle.types.proofs.Halves.{across}
+use native.Mathlib.Nat.{lt-of-lt-of-le}
+use lib.Dec.{lit≤}
+use Rattle.types.proofs.Halves.{across, across-lt}
 use borrow.Author.Needs.{needs}
 use Rattle.types.proofs.register.Wide.size_1.Statement.{statement}
 use Rattle.types.proofs.register.Wide.size_1.Tie as tie
 
 add-result : tie.Need-add-result
-add-result c = omega (arith, c .struct-known2 .given .1 .0 .fits)
+add-result c = record { fits = lt-of-lt-of-le (across-lt _ 10 2 62 (c .struct-known2 .given .1 .0 .fits)) (lit≤ tt) }
 
 returns : tie.Need-returns
 returns c = sym (across _ 10 2 62 (c .struct-known2 .given .1 .0 .fits))
