@@ -1,0 +1,111 @@
+//! Document 01's cases K1 to K10, through the wrapper and the linked archive.
+
+use boresacu::CardCapacity::{SDHC, SDSC};
+use boresacu::Error::{AddressOutOfRange, BadClock, InvalidBufferLength, UnsupportedCardType};
+use boresacu::{block_address, block_count, clock_setting, transfer_rate, Error, Hertz};
+
+/// Divisor field, bypass, and frequency.
+fn clock(source: u32, requested: u32, allow_bypass: bool) -> Result<(u8, bool, u32), Error> {
+    let clock = clock_setting(Hertz(source), requested, allow_bypass)?;
+    Ok((clock.divisor, clock.bypass, clock.frequency.0))
+}
+
+/// A CSD of version 0.
+fn csd_0(block_length: u128, size: u128, multiplier: u128) -> u128 {
+    block_length << 80 | size << 62 | multiplier << 47
+}
+
+/// A CSD of version 1, whose block length is always 9.
+fn csd_1(size: u128) -> u128 {
+    1 << 126 | 9 << 80 | size << 48
+}
+
+#[test]
+fn k1_slowest_clock() {
+    assert_eq!(
+        clock(102_800_000, 400_000, false),
+        Ok((255, false, 400_000))
+    );
+    assert_eq!(clock(102_800_001, 400_000, false), Err(BadClock));
+}
+
+#[test]
+fn k2_clock_rounded_down() {
+    assert_eq!(
+        clock(144_000_000, 25_000_000, false),
+        Ok((4, false, 24_000_000))
+    );
+}
+
+#[test]
+fn k3_source_of_one_hertz() {
+    assert_eq!(clock(1, 400_000, false), Ok((0, false, 0)));
+}
+
+#[test]
+fn k4_bypass() {
+    assert_eq!(
+        clock(25_000_000, 25_000_000, false),
+        Ok((0, false, 12_500_000))
+    );
+    assert_eq!(
+        clock(25_000_000, 25_000_000, true),
+        Ok((0, true, 25_000_000))
+    );
+}
+
+#[test]
+fn k5_capacity_version_0() {
+    assert_eq!(block_count(csd_0(9, 0, 0)), Ok(4));
+    assert_eq!(block_count(csd_0(11, 4095, 7)), Ok(8_388_608));
+    assert_eq!(block_count(csd_0(8, 0, 0)), Err(UnsupportedCardType));
+    assert_eq!(block_count(csd_0(12, 0, 0)), Err(UnsupportedCardType));
+}
+
+#[test]
+fn k6_capacity_version_1() {
+    assert_eq!(block_count(csd_1(0)), Ok(1_024));
+    assert_eq!(block_count(csd_1(0x3f_ffff)), Ok(4_294_967_296));
+}
+
+#[test]
+fn k7_transfer_rate() {
+    assert_eq!(transfer_rate(0x32), Ok(25_000_000));
+    assert_eq!(transfer_rate(0x5a), Ok(50_000_000));
+    for encoded in [0x02, 0xb2, 0x34] {
+        assert_eq!(transfer_rate(encoded), Err(UnsupportedCardType));
+    }
+}
+
+#[test]
+fn k8_last_block_of_sdsc() {
+    assert_eq!(
+        block_address(SDSC, 8_388_608, 8_388_607, 1),
+        Ok(4_294_966_784)
+    );
+    assert_eq!(
+        block_address(SDSC, 8_388_608, 8_388_607, 2),
+        Err(AddressOutOfRange)
+    );
+}
+
+#[test]
+fn k9_last_block_of_sdhc() {
+    let last = u32::MAX;
+    assert_eq!(block_address(SDHC, 4_294_967_296, last, 1), Ok(last));
+}
+
+#[test]
+fn k10_blocks_of_one_read() {
+    for card_type in [SDSC, SDHC] {
+        assert_eq!(block_address(card_type, 1_024, 0, 511), Ok(0));
+        assert_eq!(
+            block_address(card_type, 1_024, 0, 512),
+            Err(InvalidBufferLength)
+        );
+        assert_eq!(
+            block_address(card_type, 1_024, 0, 0),
+            Err(InvalidBufferLength)
+        );
+    }
+}
