@@ -54,7 +54,7 @@ const TENTHS: [u32; 16] = [
 
 impl Wide {
     // Bits 127:126, CSD_STRUCTURE.
-    fn structure(self) -> u64
+    pub fn structure(self) -> u64
         ensures { λ r. ⌜ r ≡ bits (wideOf self) 127 126 ⌝ }
     {
         self.high / 0x4000_0000_0000_0000

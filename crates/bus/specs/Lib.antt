@@ -1,0 +1,6 @@
+pub mod Command
+pub mod Ready
+pub mod Clock
+pub mod Transfer
+pub mod Bounds
+pub mod Cases

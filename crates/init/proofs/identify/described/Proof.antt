@@ -1,0 +1,10 @@
+use mathlib.Core.Path.{refl}
+use borrow.Author.Needs.{needs}
+use Rattle.init.proofs.identify.described.Statement.{statement}
+use Rattle.init.proofs.identify.described.Tie as tie
+
+returns : tie.Need-returns
+returns c = rw (c .before .before .class .ensures, c .before .response-value .ensures, c .response-value2 .ensures)
+
+pub described-spec : {M : Type 1} → statement M
+described-spec = tie.close (tie.spec (λ c κs. search needs) (λ c κs. search needs) (λ c κs. search needs) returns)

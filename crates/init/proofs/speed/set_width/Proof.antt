@@ -1,0 +1,18 @@
+use mathlib.Core.Path.{_≡_}
+use Rattle.init.specs.Initialise.{setWidth}
+use Rattle.tape.specs.Laws.{seq, bind, forget}
+use borrow.Author.Needs.{needs}
+use Rattle.init.proofs.speed.set_width.Statement.{statement}
+use Rattle.init.proofs.speed.set_width.Tie as tie
+
+returns : tie.Need-returns
+unfolding setWidth
+returns c =
+    let told = c .before .before .before .before .before .before .before .before in
+    let able = told .before .before in
+    let start = c .before .before .before .before .before .before .before .before .before .before .before .before .before .before in
+    seq (rw (able .before .fits2 .ensures) at (able .ensure .ensures (start .args .script .now) (start .args .rows .now)))
+    (seq (told .app-command .ensures) (forget (rw (c .before .before .before .before .width .ensures) at (c .before .before .before .send .ensures))))
+
+pub set-width-spec : {M : Type 1} → statement M
+set-width-spec = tie.close (tie.spec (λ c κs. search needs) (λ c κs. search needs) (λ c κs. search needs) (λ c κs. search needs) (λ c κs. search needs) (λ c. search needs) returns)

@@ -1,0 +1,2 @@
+pub mod Initialise
+pub mod Lent

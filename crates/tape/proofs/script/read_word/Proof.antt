@@ -1,0 +1,53 @@
+use borrow.Author.Tests.{le-ltb, lt-ltb}
+use lib.Seq.{getD-drop}
+use lib.ListN.{length, getD, length-drop}
+use mathlib.Core.List.{List}
+use mathlib.Core.Path.{_≡_, ap, sym, _∙_}
+use Prim.Native.Nat.{ℕ, _≤_, _<_, _-_, _+_}
+use native.Mathlib.Omega.{arith}
+use Rattle.tape.specs.Run.{Behind, run}
+use Rattle.tape.specs.Steps.{word}
+use Rattle.tape.specs.Laws.{from-going, from-stopped}
+use borrow.Author.Needs.{needs}
+use Rattle.tape.proofs.script.read_word.Statement.{statement}
+use Rattle.tape.proofs.script.read_word.Tie as tie
+
+-- r lies behind the first n words of s, and u words have been taken of s
+module _ (s r : List ℕ) (n u : ℕ) (left : Behind n r s) (h : n ≤ u) where
+  len : length r ≡ length s - n
+  len = ap length (left .part) ∙ length-drop n s
+
+  outside : length r ≤ u - n → length s ≤ u
+  outside e = omega (arith, len)
+
+  inside : u - n < length r → u < length s
+  inside e = omega (arith, len)
+
+  at-place : getD s u 0 ≡ getD r (u - n) 0
+  at-place =
+      let place : n + (u - n) ≡ u = omega arith in
+      sym (ap (λ (k : ℕ). getD s k 0) place) ∙ sym (getD-drop n s (u - n) 0) ∙ sym (ap (λ (x : List ℕ). getD x (u - n) 0) (left .part))
+
+returns : tie.Need-returns
+returns c = λ kind s l part. from-stopped (c .enum-told2 .given .1)
+
+returns-2 : tie.Need-returns-2
+unfolding run word
+returns-2 c =
+    let test = c .before in
+    let going = test .before in
+    let after = going .before .before .before .before .pre .0 in
+    λ kind s l part. from-going (going .enum-told .given .1)
+    (rw (le-ltb _ _ (outside s _ _ _ part after (test .if1 .taken)), c .stopped .ensures))
+
+returns-3 : tie.Need-returns-3
+unfolding run word
+returns-3 c =
+    let test = c .before in
+    let going = test .before in
+    let after = going .before .before .before .before .pre .0 in
+    λ kind s l part. from-going (going .enum-told .given .1)
+    (rw (lt-ltb _ _ (inside s _ _ _ part after (test .if1 .left)), at-place s _ _ _ part after))
+
+pub read-word-spec : {M : Type 1} → statement M
+read-word-spec = tie.close (tie.spec (λ c. search needs) (λ c. search needs) returns (λ c. search needs) (λ c κs. search needs) returns-2 (λ c. search needs) (λ c. search needs) (λ c. search needs) returns-3)

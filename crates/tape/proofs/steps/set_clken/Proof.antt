@@ -1,0 +1,14 @@
+use Rattle.tape.specs.Steps.{setClken}
+use Rattle.tape.specs.Laws.{looking}
+use borrow.Author.Needs.{needs}
+use Rattle.tape.proofs.steps.set_clken.Statement.{statement}
+use Rattle.tape.proofs.steps.set_clken.Tie as tie
+
+returns : tie.Need-returns
+unfolding setClken
+returns c =
+    let wrote = c .before .before in
+    λ s. looking _ (rw (wrote .before .before .with-clken .ensures) at (wrote .write-row .ensures s))
+
+pub set-clken-spec : {M : Type 1} → statement M
+set-clken-spec = tie.close (tie.spec (λ c κs. search needs) (λ c κs. search needs) (λ c. search needs) returns)

@@ -1,0 +1,72 @@
+-- Document 01, 'Script and rows': the rows by number, how their values are packed, and how they lie in a list.
+use Prim.Native.Nat.{ℕ, _+_, _*_, _/_, _%_}
+use mathlib.Core.Bool.{Bool, cond}
+use mathlib.Core.List.{List, [], _∷_}
+use lib.ListN.{length, set}
+use Rattle.types.specs.declared.clock.Clock.{Clock}
+use Rattle.tape.specs.declared.rows.Row.{Row}
+
+abbrev pub POWER : ℕ
+POWER = 1
+
+abbrev pub CLKCR : ℕ
+CLKCR = 2
+
+abbrev pub ARG : ℕ
+ARG = 3
+
+abbrev pub CMD : ℕ
+CMD = 4
+
+abbrev pub DTIMER : ℕ
+DTIMER = 5
+
+abbrev pub DLEN : ℕ
+DLEN = 6
+
+abbrev pub DCTRL : ℕ
+DCTRL = 7
+
+abbrev pub ICR : ℕ
+ICR = 8
+
+abbrev pub MASK : ℕ
+MASK = 9
+
+abbrev pub DCTRL2 : ℕ
+DCTRL2 = 10
+
+-- the spin count of a delay
+abbrev pub DELAY : ℕ
+DELAY = 11
+
+-- CLKCR = divisor field + 256 if enabled + 2048 if wide + 1024 and 16384 (flow control) if bypass
+abbrev pub clkcrOf : Clock → Bool → Bool → ℕ
+clkcrOf clock wide on = clock .divisor + cond on 256 0 + cond wide 2048 0 + cond (clock .bypass) (1024 + 16384) 0
+
+-- a CLKCR value, its bit of 256 as asked
+abbrev pub clkenOf : ℕ → Bool → ℕ
+clkenOf value on = value / 512 * 512 + value % 256 + cond on 256 0
+
+-- CMD = index + 64 * wait kind + 1024
+abbrev pub cmdOf : ℕ → ℕ → ℕ
+cmdOf index wait = index + 64 * wait + 1024
+
+-- DCTRL = 9 + 2 if reading + 16 * block size
+abbrev pub dctrlOf : Bool → ℕ → ℕ
+dctrlOf reading size = 9 + cond reading 2 0 + 16 * size
+
+-- a row is two words, register and value; a list of n words has room for n/2 rows, rounded down
+abbrev pub placeOf : ℕ → ℕ
+placeOf n = 2 * n
+
+abbrev pub rowAt : List ℕ → ℕ → Row → List ℕ
+rowAt l n r = set (set l (placeOf n) (r .register)) (placeOf n + 1) (r .value)
+
+abbrev pub roomOf : List ℕ → ℕ
+roomOf l = length l / 2
+
+-- rows as they lie one after the other
+unfoldable pub wordsOf : List Row → List ℕ
+wordsOf [] = []
+wordsOf (r ∷ rs) = r .register ∷ r .value ∷ wordsOf rs

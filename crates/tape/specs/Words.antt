@@ -1,0 +1,196 @@
+-- Words of the script. Of running any plan: that words past those taken change nothing, what a script's end leaves, and
+-- how many words are taken at most.
+use Prim.Native.Nat.{ℕ, zero, suc, _+_, _*_, _-_, _<_, _≤_}
+use mathlib.Core.Path.{_≡_, refl, ap, sym, _∙_}
+use mathlib.Core.Bool.{Bool, true, false, cond}
+use mathlib.Core.List.{List, [], _∷_, _++_}
+use native.Mathlib.Omega.{arith}
+use native.Mathlib.Nat.{add-comm, suc-add, suc-mul}
+use native.Mathlib.Decide.{decLt}
+use lib.ListN.{length, getD, length-append, List·getD-append}
+use lib.Dec.{ltb}
+use borrow.Author.Tests.{le-ltb, lt-ltb}
+use Rattle.types.specs.declared.error.Error.{Error}
+use Rattle.tape.specs.declared.progress.Halt.the-variants.{Refused, ScriptEnded, TraceFull}
+use Rattle.tape.specs.declared.progress.Line.{Line}
+use Rattle.tape.specs.declared.progress.Pace.{Pace}
+use Rattle.tape.specs.declared.progress.Pace.the-variants.{Going, Stopped}
+use Rattle.tape.specs.declared.script.Reading.{Reading}
+use Rattle.tape.specs.Plan.{Cause, failed, ended, Plan, give, refuse, read, write, look, hold, handle, _then_, fail, ensure, until}
+use Rattle.tape.specs.Rows.{roomOf, rowAt}
+use Rattle.tape.specs.Run.{State, After, noted, run, doesAt, Gave}
+use Rattle.tape.specs.Laws.{by-cases}
+use Rattle.tape.specs.Steps.{word, row, dataFrom}
+use Rattle.tape.specs.Room.{Written, Free, with-row, free}
+
+-- What a call does on a script with more words behind: the same, where it did not come to the script's end; and where
+-- it did, the rows so far are the first of those that it writes then.
+abbrev pub isEnded : Pace → Bool
+isEnded Going = false
+isEnded (Stopped (Refused e)) = false
+isEnded (Stopped ScriptEnded) = true
+isEnded (Stopped TraceFull) = false
+
+pub record Longer (A : Type 0) (x y : Free A) : Type 0 where
+  pub same : isEnded (x .pace) ≡ false → y ≡ x
+  pub rest : List Written
+  pub first : y .rows ≡ x .rows ++ rest
+
+pub more-words : (s t : List ℕ) {A : Type 0} (d : A) (p : Plan A) (u : ℕ) (h : Line) → Longer A (free s d p u h) (free (s ++ t) d p u h)
+unfolding free
+more-words s t d (give a) u h = record { same = λ _. refl; rest = []; first = refl }
+more-words s t d (refuse c) u h = record { same = λ _. refl; rest = []; first = refl }
+more-words s t {A} d (read r k z) u h = by (decLt u (length s)) (more-words s t d (k (getD s u 0)) (u + 1) h)
+  where
+    on : Free A
+    on = free (s ++ t) d (read r k z) u h
+
+    by : Dec (u < length s) → Longer A (free s d (k (getD s u 0)) (u + 1) h) (free (s ++ t) d (k (getD s u 0)) (u + 1) h)
+        → Longer A (free s d (read r k z) u h) on
+    by (yes some) ih =
+        rw (lt-ltb u (length s) some, lt-ltb u (length (s ++ t)) (omega (arith, length-append s t)), List·getD-append s t 0 u some) ih
+    by (no none) ih =
+        rw (le-ltb u (length s) (omega arith)) (record { same = λ e. cc; rest = on .rows; first = refl })
+more-words s t d (write r p) u h =
+    let ih = more-words s t d p u (noted r h) in
+    let row : Written = record { row = r; used = u; line = h } in
+    record {
+      same = λ e. ap (with-row row) (ih .same e);
+      rest = ih .rest;
+      first = ap (λ (xs : List Written). row ∷ xs) (ih .first);
+    }
+more-words s t d (look k) u h = more-words s t d (k h) u h
+more-words s t d (hold h′ p) u h = more-words s t d p u h′
+
+-- p takes at most n words; and what refuses it is an error of the driver: that a script has ended is not for it to say.
+unfoldable pub atMost : {A : Type 0} → ℕ → Plan A → Type 0
+atMost n (give a) = Unit {0}
+atMost n (refuse (failed e)) = Unit {0}
+atMost n (refuse ended) = ⊥
+atMost zero (read r k z) = ⊥
+atMost (suc n) (read r k z) = (w : ℕ) → atMost n (k w)
+atMost n (write r p) = atMost n p
+atMost n (look k) = (h : Line) → atMost n (k h)
+atMost n (hold h p) = atMost n p
+
+pub record AtMost {A : Type 0} (n : ℕ) (p : Plan A) : Type 0 where
+  pub words : atMost n p
+
+more : (m n : ℕ) {A : Type 0} (p : Plan A) → m ≤ n → atMost m p → atMost n p
+unfolding atMost
+more m n (give a) h b = tt
+more m n (refuse (failed e)) h b = tt
+more m n (refuse ended) h b = b
+more zero n (read r k z) h b = absurd b
+more (suc m) zero (read r k z) h b = absurd (omega arith)
+more (suc m) (suc n) (read r k z) h b = λ w. more m n (k w) (omega arith) (b w)
+more m n (write r p) h b = more m n p h b
+more m n (look k) h b = λ g. more m n (k g) h (b g)
+more m n (hold g p) h b = more m n p h b
+
+pub at-most : {m n : ℕ} {A : Type 0} {p : Plan A} → AtMost m p → m ≤ n → AtMost n p
+at-most {m} {n} {A} {p} b h = record { words = more m n p h (b .words) }
+
+module _ {A B : Type 0} (f : A → Plan B) (g : Cause → Plan B) (n : ℕ) (of-value : (a : A) → AtMost n (f a)) (of-error : (e : Error) → AtMost n (g (failed e))) where
+  joined : (m : ℕ) (p : Plan A) → atMost m p → atMost (m + n) (handle f g p)
+  unfolding atMost handle
+  joined m (give a) b = more n (m + n) (f a) (omega arith) (of-value a .words)
+  joined m (refuse (failed e)) b = more n (m + n) (g (failed e)) (omega arith) (of-error e .words)
+  joined m (refuse ended) b = absurd b
+  joined zero (read r k z) b = absurd b
+  joined (suc m) (read r k z) b = rw suc-add (λ w. joined m (k w) (b w))
+  joined m (write r p) b = joined m p b
+  joined m (look k) b = λ h. joined m (k h) (b h)
+  joined m (hold h p) b = joined m p b
+
+pub at-most-handle : {k : ℕ} (m n : ℕ) {A B : Type 0} {p : Plan A} {f : A → Plan B} (g : Cause → Plan B)
+    → AtMost m p → ((a : A) → AtMost n (f a)) → ((e : Error) → AtMost n (g (failed e))) → m + n ≤ k → AtMost k (handle f g p)
+at-most-handle m n {A} {B} {p} {f} g b v e h = at-most (record { words = joined f g n v e m p (b .words) }) h
+
+pub at-most-give : {n : ℕ} {A : Type 0} {a : A} → AtMost n (give a)
+unfolding atMost
+at-most-give = record { words = tt }
+
+pub at-most-fail : {n : ℕ} {A : Type 0} {e : Error} → AtMost {A = A} n (fail e)
+unfolding atMost
+at-most-fail = record { words = tt }
+
+pub at-most-word : {n : ℕ} (r : Reading) → AtMost (suc n) (word r)
+unfolding atMost word
+at-most-word r = record { words = λ w. tt }
+
+pub at-most-row : {n : ℕ} (register value : ℕ) → AtMost n (row register value)
+unfolding atMost row
+at-most-row register value = record { words = tt }
+
+pub at-most-look : {n : ℕ} {A : Type 0} {k : Line → Plan A} → ((h : Line) → AtMost n (k h)) → AtMost n (look k)
+unfolding atMost
+at-most-look b = record { words = λ h. b h .words }
+
+pub at-most-test : {n : ℕ} {A : Type 0} (b : Bool) {p q : Plan A} → AtMost n p → AtMost n q → AtMost n (cond b p q)
+at-most-test {n} {A} b {p} {q} = by-cases (AtMost n) b p q
+
+pub at-most-ensure : {n : ℕ} (b : Bool) (e : Error) → AtMost n (ensure b e)
+unfolding ensure
+at-most-ensure b e = at-most-test b at-most-give at-most-fail
+
+pub at-most-then : {k : ℕ} (m n : ℕ) {A B : Type 0} {p : Plan A} {f : A → Plan B}
+    → AtMost m p → ((a : A) → AtMost n (f a)) → m + n ≤ k → AtMost k (p then f)
+at-most-then m n b v h = at-most-handle m n refuse b v (λ e. at-most-fail) h
+
+-- a step that takes none, and then the next
+pub at-most-after : {n : ℕ} {A B : Type 0} {p : Plan A} {f : A → Plan B} → AtMost 0 p → ((a : A) → AtMost n (f a)) → AtMost n (p then f)
+at-most-after {n} b v = at-most-then 0 n b v (omega arith)
+
+turns : (m limit : ℕ) {A : Type 0} (enough : A → Bool) {p : Plan A} → AtMost m p → AtMost (limit * m) (until limit enough p)
+unfolding until
+turns m zero enough b = at-most-fail
+turns m (suc n) enough b =
+    at-most-then m (n * m) b (λ v. at-most-test (enough v) at-most-give (turns m n enough b)) (rw suc-mul (omega arith))
+
+pub at-most-until : (m limit : ℕ) {k : ℕ} {A : Type 0} (enough : A → Bool) {p : Plan A} → AtMost m p → limit * m ≤ k → AtMost k (until limit enough p)
+at-most-until m limit enough b h = at-most (turns m limit enough b) h
+
+pub at-most-data : (k n : ℕ) → AtMost n (dataFrom k n)
+unfolding dataFrom
+at-most-data k zero = at-most-give
+at-most-data k (suc n) = at-most-then 1 n (at-most-word _) (λ w. at-most-then n 0 (at-most-data (k + 1) n) (λ ws. at-most-give) (omega arith)) (omega arith)
+
+-- At most so many words more; and where the script ended, all of its words.
+pub record Taken (n : ℕ) (s : List ℕ) (u : ℕ) (q : Pace) (u′ : ℕ) : Type 0 where
+  pub most : u′ ≤ u + n
+  pub all : isEnded q ≡ true → u ≤ length s → u′ ≡ length s
+
+abbrev TakenBy : {A : Type 0} → ℕ → List ℕ → ℕ → After A → Type 0
+TakenBy n s u x = Taken n s u (x .state .progress .pace) (x .state .progress .used)
+
+none-taken : (n : ℕ) (s : List ℕ) (u : ℕ) (q : Pace) → isEnded q ≡ false → Taken n s u q u
+none-taken n s u q e = record { most = omega arith; all = λ e′ h. absurd (apart e e′) }
+  where
+    apart : isEnded q ≡ false → isEnded q ≡ true → ⊥
+    apart e e′ = let z : _≡_ {A = ℕ} 0 1 = cc in omega arith
+
+run-taken : (s : List ℕ) (n : ℕ) {A : Type 0} (d : A) (p : Plan A) (u m : ℕ) (h : Line) (l : List ℕ) → atMost n p → TakenBy n s u (run s d p u m h l)
+unfolding atMost run
+run-taken s n d (give a) u m h l b = none-taken n s u Going refl
+run-taken s n d (refuse (failed e)) u m h l b = none-taken n s u (Stopped (Refused e)) refl
+run-taken s n d (refuse ended) u m h l b = absurd b
+run-taken s zero d (read r k z) u m h l b = absurd b
+run-taken s (suc n) {A} d (read r k z) u m h l b = by (decLt u (length s)) (run-taken s n d (k (getD s u 0)) (u + 1) m h l (b (getD s u 0)))
+  where
+    by : Dec (u < length s) → TakenBy n s (u + 1) (run s d (k (getD s u 0)) (u + 1) m h l) → TakenBy (suc n) s u (run s d (read r k z) u m h l)
+    by (yes some) ih =
+        rw (lt-ltb u (length s) some) (record { most = omega (arith, ih .most); all = λ e v. ih .all e (omega arith) })
+    by (no none) ih = rw (le-ltb u (length s) (omega arith)) (record { most = omega arith; all = λ e v. omega arith })
+run-taken s n d (write r p) u m h l b =
+    by-cases (TakenBy n s u) (ltb m (roomOf l)) _ _ (run-taken s n d p u (m + 1) (noted r h) (rowAt l m r) b) (none-taken n s u (Stopped TraceFull) refl)
+run-taken s n d (look k) u m h l b = run-taken s n d (k h) u m h l (b h)
+run-taken s n d (hold h′ p) u m h l b = run-taken s n d p u m h′ l b
+
+pub taken : {s : List ℕ} {n : ℕ} {A : Type 0} {d : A} {p : Plan A} {w : State} {v : A} {w′ : State}
+    → w .progress .pace ≡ Going → AtMost n p → Gave s A d p w v w′
+    → Taken n s (w .progress .used) (w′ .progress .pace) (w′ .progress .used)
+unfolding doesAt
+taken {s} {n} {A} {d} {p} {w} {v} {w′} g b e =
+    rw (← ap (λ (x : After A). x .state) (rw g at (e .same)))
+    at (run-taken s n d p (w .progress .used) (w .progress .rows) (w .progress .line) (w .list) (b .words))

@@ -1,0 +1,5 @@
+// A call's script of readings, its row list, and how far it has come in both: the driver's smallest steps.
+pub mod progress; // progress.rt: how far a call has come, and why it stopped
+pub mod rows; // rows.rt: the row list, and how rows are packed
+pub mod script; // script.rt: the script of readings
+pub mod steps; // steps.rt: idle wait, reset rows, stop rows, the card clock, the guard
