@@ -10,16 +10,17 @@ use Rattle.types.specs.declared.error.Error.the-variants as E
 use Rattle.types.specs.Leaf.{dataOf, firstMatch}
 use Rattle.tape.specs.declared.progress.Halt.the-variants.{Refused, ScriptEnded, TraceFull}
 use Rattle.tape.specs.declared.progress.Line.{Line}
-use Rattle.tape.specs.declared.progress.Pace.{Pace}
 use Rattle.tape.specs.declared.progress.Pace.the-variants.{Going, Stopped}
 use Rattle.tape.specs.Plan.{Plan, handle, ensure, until}
 use Rattle.tape.specs.Run.{After, after, noted, run}
 use Rattle.tape.specs.Steps.{word, row, waitIdle, setClken, resetController, stopData, dataFrom}
-use Rattle.bus.specs.declared.response.Response.the-variants.{R1, R2}
+use Rattle.bus.specs.declared.response.Response.the-variants.{R1}
 use Rattle.bus.specs.declared.transfer.Transfer.{Transfer}
-use Rattle.bus.specs.Command.{formOf, zeros, issue, pollCompletion, waitCompletion, echo, responseWords, judge, answer, complete, commandInner, command}
+use Rattle.bus.specs.Command.{formOf, zeros, issue, pollCompletion, waitCompletion, echo, responseWords, judge, answer}
+use Rattle.bus.specs.Command.{complete, commandInner, command}
 use Rattle.bus.specs.Ready.{retryDelay, readStatus, tryReady, waitReady}
-use Rattle.bus.specs.Transfer.{arm, startData, clean, pollTransfer, drained, settle, dataComplete, waitData, receive, closeGate, stopTransmission, endData, transferData, blockingData}
+use Rattle.bus.specs.Transfer.{arm, startData, clean, pollTransfer, drained, settle, dataComplete, waitData, receive}
+use Rattle.bus.specs.Transfer.{closeGate, stopTransmission, endData, transferData, blockingData}
 
 -- a host whose CLKCR is this, gated or not
 abbrev host : Bool → ℕ → Line
@@ -56,7 +57,8 @@ pub commands :
     ∷ after zeros (Stopped ScriptEnded) 1 4 (host true 260) issued
     ∷ after zeros (Stopped TraceFull) 2 4 (host true 260) issued
     ∷ []
-unfolding run handle ensure until noted word row waitIdle setClken formOf issue pollCompletion waitCompletion echo responseWords judge answer complete commandInner command
+unfolding run handle ensure until noted word row waitIdle setClken formOf issue pollCompletion waitCompletion echo
+    responseWords judge answer complete commandInner command
 commands = refl
 
 -- a card that is busy, and then in the programming state (7): the delay after each attempt, the last too
@@ -66,7 +68,8 @@ cmd13Rows = 8 ∷ 0xc5 ∷ 3 ∷ 0x1234_0000 ∷ 4 ∷ 1101 ∷ []
 pub ready :
     on tt (waitReady 8_000_500 config 0x1234) (host false 260) 16 (0 ∷ 0x40 ∷ 13 ∷ 0x800 ∷ 0 ∷ 0 ∷ 0 ∷ 0 ∷ 0x40 ∷ 13 ∷ 0xf00 ∷ 0 ∷ 0 ∷ 0 ∷ [])
     ≡ after tt (Stopped (Refused E.SoftwareTimeout)) 14 8 (host false 260) (cmd13Rows ++ 11 ∷ 8_001 ∷ cmd13Rows ++ 11 ∷ 8_001 ∷ [])
-unfolding run handle ensure until noted word row waitIdle setClken formOf issue pollCompletion waitCompletion echo responseWords judge answer complete commandInner command retryDelay readStatus tryReady waitReady
+unfolding run handle ensure until noted word row waitIdle setClken formOf issue pollCompletion waitCompletion echo
+    responseWords judge answer complete commandInner command retryDelay readStatus tryReady waitReady
 ready = refl
 
 -- CMD51: two words of a block of eight bytes
@@ -93,5 +96,8 @@ pub transfers :
     ∷ after [] (Stopped (Refused E.IncompleteTransfer)) 12 21 (host true 0)
     (begunRows ++ 9 ∷ 0 ∷ 10 ∷ 0 ∷ 7 ∷ 0 ∷ 4 ∷ 0 ∷ 1 ∷ 0 ∷ 2 ∷ 0 ∷ 3 ∷ 0 ∷ 5 ∷ 0 ∷ 6 ∷ 0 ∷ 8 ∷ 0x00c0_07ff ∷ [])
     ∷ []
-unfolding run handle ensure until noted word row waitIdle setClken formOf issue pollCompletion waitCompletion echo responseWords judge answer complete commandInner command retryDelay readStatus tryReady waitReady resetController stopData dataFrom dataOf firstMatch arm startData clean pollTransfer drained settle dataComplete waitData receive closeGate stopTransmission endData transferData blockingData
+unfolding run handle ensure until noted word row waitIdle setClken formOf issue pollCompletion waitCompletion echo
+    responseWords judge answer complete commandInner command retryDelay readStatus tryReady waitReady resetController
+    stopData dataFrom dataOf firstMatch arm startData clean pollTransfer drained settle dataComplete waitData receive
+    closeGate stopTransmission endData transferData blockingData
 transfers = refl

@@ -4,3 +4,4 @@ pub mod Clock
 pub mod Transfer
 pub mod Bounds
 pub mod Cases
+pub mod Delays

@@ -1,7 +1,7 @@
 // The clock change, and the delay by the card clock.
 ghost use mathlib.Core.Path.{_≡_};
 ghost use mathlib.Core.List.{List};
-ghost use Prim.Native.Nat.{ℕ, _^_, _<_, _≤_};
+ghost use Prim.Native.Nat.{ℕ, _≤_};
 ghost use Rattle.tape.specs.Run.{at, Did};
 ghost use Rattle.bus.specs.Clock.{configureClock, spinsOf, clockDelay};
 use tape::progress;

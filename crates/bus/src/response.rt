@@ -1,6 +1,7 @@
 // The kinds of response, and what each asks of its command.
 ghost use mathlib.Core.Path.{_≡_};
 ghost use mathlib.Core.List.{List};
+ghost use mathlib.Core.Bool.{true, false};
 ghost use Prim.Native.Nat.{ℕ};
 ghost use Rattle.tape.specs.Plan.{give};
 ghost use Rattle.tape.specs.Run.{at, Gave};
@@ -44,6 +45,21 @@ impl Form {
     pub const SHORT: u8 = 1;
 
     pub const LONG: u8 = 3;
+
+    // A short response with checksum and index, and these error bits in its word.
+    fn short(errors: u32, locked: u32) -> Form
+        ensures { λ r. ⌜ r ≡ record { wait = 1; completion = 0x41; silent = false; crc = 0x1; echoes = true; errors = errors; locked = locked } ⌝ }
+    {
+        Form {
+            wait: Form::SHORT,
+            completion: Sta::RESPONDED,
+            silent: false,
+            crc: Sta::CRC_FAILED,
+            echoes: true,
+            errors: errors,
+            locked: locked,
+        }
+    }
 }
 
 impl Response {
@@ -60,15 +76,7 @@ impl Response {
                 errors: 0,
                 locked: 0,
             },
-            Response::R1 => Form {
-                wait: Form::SHORT,
-                completion: Sta::RESPONDED,
-                silent: false,
-                crc: Sta::CRC_FAILED,
-                echoes: true,
-                errors: CardStatus::ERRORS,
-                locked: CardStatus::LOCKED,
-            },
+            Response::R1 => Form::short(CardStatus::ERRORS, CardStatus::LOCKED),
             Response::R2 => Form {
                 wait: Form::LONG,
                 completion: Sta::RESPONDED,
@@ -82,29 +90,13 @@ impl Response {
                 wait: Form::SHORT,
                 completion: Sta::RESPONDED,
                 silent: false,
-                crc: 0,
+                crc: 0, // its checksum is no checksum
                 echoes: false,
                 errors: 0,
                 locked: 0,
             },
-            Response::R6 => Form {
-                wait: Form::SHORT,
-                completion: Sta::RESPONDED,
-                silent: false,
-                crc: Sta::CRC_FAILED,
-                echoes: true,
-                errors: CardStatus::R6_ERRORS,
-                locked: 0,
-            },
-            Response::R7 => Form {
-                wait: Form::SHORT,
-                completion: Sta::RESPONDED,
-                silent: false,
-                crc: Sta::CRC_FAILED,
-                echoes: true,
-                errors: 0,
-                locked: 0,
-            },
+            Response::R6 => Form::short(CardStatus::R6_ERRORS, 0),
+            Response::R7 => Form::short(0, 0),
         }
     }
 }

@@ -2,7 +2,7 @@
 -- `set_clock`. It takes the settings and the asked frequency alone: nothing of an earlier card can reach it.
 use Prim.Native.Nat.{ℕ, _+_, _*_, _/_, _%_, _^_, min}
 use mathlib.Core.Bool.{Bool, true, false, cond, not, _&&_, _||_}
-use mathlib.Core.List.{List, []}
+use mathlib.Core.List.{List}
 use lib.Bits.{bitAnd}
 use lib.Dec.{eqb, ltb}
 use lib.ListN.{getD, replicate}

@@ -1,5 +1,4 @@
 // The first steps of an initialisation: power, CMD0, CMD8.
-ghost use mathlib.Core.Path.{_≡_};
 ghost use mathlib.Core.List.{List};
 ghost use mathlib.Core.Bool.{Bool, false};
 ghost use Prim.Native.Nat.{ℕ};

@@ -1,24 +1,25 @@
 -- The laws by which a step's proof is put together from the contracts of the steps that it calls.
-use Prim.Native.Nat.{ℕ, zero, suc, _+_, _-_, _<_, _≤_}
+use Prim.Native.Nat.{ℕ, zero, suc, _+_, _≤_}
 use mathlib.Core.Path.{_≡_, refl, ap, sym, _∙_}
 use mathlib.Core.Bool.{Bool, true, false, cond}
 use mathlib.Core.List.{List, [], _∷_}
 use native.Mathlib.Omega.{arith}
-use native.Mathlib.Nat.{le-trans, sub-zero}
-use lib.ListN.{length, getD, drop}
+use native.Mathlib.Nat.{le-trans}
+use lib.ListN.{length, getD}
 use lib.Dec.{ltb}
 use borrow.Author.Tests.{le-ltb}
 use Rattle.types.specs.declared.error.Error.{Error}
-use Rattle.types.specs.declared.error.Error.the-variants.{SoftwareTimeout}
 use Rattle.tape.specs.declared.progress.Halt.{Halt}
 use Rattle.tape.specs.declared.progress.Halt.the-variants.{Refused, ScriptEnded, TraceFull}
 use Rattle.tape.specs.declared.progress.Line.{Line}
 use Rattle.tape.specs.declared.progress.Pace.{Pace}
 use Rattle.tape.specs.declared.progress.Pace.the-variants.{Going, Stopped}
 use Rattle.tape.specs.declared.progress.Progress.{Progress}
-use Rattle.tape.specs.Plan.{Nothing, Cause, failed, ended, Plan, give, refuse, read, write, look, hold, handle, _then_, refusing, guard, fail, until}
+use Rattle.tape.specs.Plan.{Nothing, Cause, failed, ended, Plan, give, refuse, read, write, look, hold, handle, _then_}
+use Rattle.tape.specs.Plan.{refusing, guard}
 use Rattle.tape.specs.Rows.{rowAt, roomOf}
-use Rattle.tape.specs.Run.{State, at, After, stopped, noted, keptAt, overAt, run, runFrom, doesAt, does, nextAt, next, Behind, Gave, Did, Settled}
+use Rattle.tape.specs.Run.{State, at, After, stopped, noted, keptAt, run, runFrom, doesAt, does, nextAt, next}
+use Rattle.tape.specs.Run.{Behind, Gave, Did, Settled}
 
 -- a test before a function is a test inside it
 by-test : {X Y : Type 0} (g : X → Y) (b : Bool) {x y : X} {z z′ : Y} → z ≡ g x → z′ ≡ g y → cond b z z′ ≡ g (cond b x y)

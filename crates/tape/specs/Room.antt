@@ -6,39 +6,40 @@ use mathlib.Core.Bool.{Bool, true, false, cond}
 use mathlib.Core.List.{List, [], _∷_, _++_, map}
 use native.Mathlib.Omega.{arith}
 use native.Mathlib.Nat.{add-zero}
-use native.Mathlib.Decide.{decLe}
+use native.Mathlib.Decide.{decLe, decLt}
 use lib.ListN.{length, getD, take, drop, set, length-set}
-use lib.Seq.{drop-set-lt, take-set-le, take-take, sets, sets-eq, take-suc}
+use lib.Seq.{drop-set-lt, take-set-le, take-take, sets, sets-eq}
 use lib.Dec.{ltb}
 use borrow.Author.Tests.{le-ltb, lt-ltb}
-use Rattle.tape.specs.declared.progress.Halt.{Halt}
 use Rattle.tape.specs.declared.progress.Halt.the-variants.{Refused, ScriptEnded, TraceFull}
 use Rattle.tape.specs.declared.progress.Line.{Line}
 use Rattle.tape.specs.declared.progress.Pace.{Pace}
 use Rattle.tape.specs.declared.progress.Pace.the-variants.{Going, Stopped}
 use Rattle.tape.specs.declared.rows.Row.{Row}
-use Rattle.tape.specs.Plan.{Cause, failed, ended, Plan, give, refuse, read, write, look, hold}
+use Rattle.tape.specs.Plan.{failed, ended, Plan, give, refuse, read, write, look, hold}
 use Rattle.tape.specs.Rows.{placeOf, rowAt, roomOf, wordsOf}
-use Rattle.tape.specs.Run.{State, After, after, noted, haltOf, run, runFrom, doesAt, does, Gave}
+use Rattle.tape.specs.Run.{State, After, after, noted, haltOf, run, doesAt, Gave}
 use Rattle.tape.specs.Laws.{by-cases}
 
 -- What every run leaves of a list with n rows written: as many words, those of the first n rows, and those past the rows
--- that it writes.
+-- that it writes, which are no more than there is room for.
 pub record Kept (n : ℕ) (l : List ℕ) (n′ : ℕ) (l′ : List ℕ) : Type 0 where
   pub more : n ≤ n′
+  pub within : n ≤ roomOf l → n′ ≤ roomOf l
   pub long : length l′ ≡ length l
   pub before : take (placeOf n) l′ ≡ take (placeOf n) l
   pub past : drop (placeOf n′) l′ ≡ drop (placeOf n′) l
 
 untouched : {n : ℕ} {l : List ℕ} → Kept n l n l
-untouched = record { more = omega arith; long = refl; before = refl; past = refl }
+untouched = record { more = omega arith; within = λ h. h; long = refl; before = refl; past = refl }
 
-kept-row : {n : ℕ} {l : List ℕ} (r : Row) {n′ : ℕ} {l′ : List ℕ} → Kept (n + 1) (rowAt l n r) n′ l′ → Kept n l n′ l′
-kept-row {n} {l} r {n′} {l′} k =
+kept-row : {n : ℕ} {l : List ℕ} (r : Row) {n′ : ℕ} {l′ : List ℕ} → n < roomOf l → Kept (n + 1) (rowAt l n r) n′ l′ → Kept n l n′ l′
+kept-row {n} {l} r {n′} {l′} room k =
     let half = set l (2 * n) (r .register) in
     let within : 2 * n + 1 < 2 * n′ = omega (arith, k .more) in
     record {
       more = omega (arith, k .more);
+      within = λ h. rw length-set at (rw length-set at (k .within (simp length-set (omega arith))));
       long = k .long ∙ simp length-set;
       before =
           sym (take-take (2 * n) (2 * (n + 1)) l′ (omega arith))
@@ -61,8 +62,11 @@ run-keeps s d (give a) u n h l = untouched
 run-keeps s d (refuse c) u n h l = untouched
 run-keeps s d (read r k z) u n h l =
     by-cases (KeptBy n l) (ltb u (length s)) _ _ (run-keeps s d (k (getD s u 0)) (u + 1) n h l) untouched
-run-keeps s d (write r p) u n h l =
-    by-cases (KeptBy n l) (ltb n (roomOf l)) _ _ (kept-row r (run-keeps s d p u (n + 1) (noted r h) (rowAt l n r))) untouched
+run-keeps s {A} d (write r p) u n h l = by (decLt n (roomOf l)) (run-keeps s d p u (n + 1) (noted r h) (rowAt l n r))
+  where
+    by : Dec (n < roomOf l) → KeptBy (n + 1) (rowAt l n r) (run s d p u (n + 1) (noted r h) (rowAt l n r)) → KeptBy n l (run s d (write r p) u n h l)
+    by (yes room) ih = rw (lt-ltb n (roomOf l) room) (kept-row r room ih)
+    by (no full) ih = rw (le-ltb n (roomOf l) (omega arith)) untouched
 run-keeps s d (look k) u n h l = run-keeps s d (k h) u n h l
 run-keeps s d (hold h′ p) u n h l = run-keeps s d p u n h′ l
 
@@ -226,3 +230,12 @@ full-exactly s {A} d p u n h l e = by (decLe (n + length (free s d p u h .rows))
         ap (λ (y : After A). isFull (y .state .progress .pace))
         (run-full s d (record { row = record { register = 0; value = 0 }; used = u; line = h }) p u n h l (roomOf l - n) (omega arith) (omega arith))
         ∙ sym (lt-ltb (roomOf l) (n + length (x .rows)) (omega arith))
+
+pub gave-full : {s : List ℕ} {A : Type 0} {d : A} {p : Plan A} {w : State} {v : A} {w′ : State}
+    → w .progress .pace ≡ Going → w .progress .rows ≤ roomOf (w .list) → Gave s A d p w v w′
+    → isFull (w′ .progress .pace)
+    ≡ ltb (roomOf (w .list)) (w .progress .rows + length (free s d p (w .progress .used) (w .progress .line) .rows))
+unfolding doesAt
+gave-full {s} {A} {d} {p} {w} g h e =
+    ap (λ (x : After A). isFull (x .state .progress .pace)) (rw g at (e .same))
+    ∙ full-exactly s d p (w .progress .used) (w .progress .rows) (w .progress .line) (w .list) h

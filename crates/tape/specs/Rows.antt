@@ -1,7 +1,9 @@
 -- Document 01, 'Script and rows': the rows by number, how their values are packed, and how they lie in a list.
 use Prim.Native.Nat.{ℕ, _+_, _*_, _/_, _%_}
-use mathlib.Core.Bool.{Bool, cond}
+use mathlib.Core.Path.{_≡_}
+use mathlib.Core.Bool.{Bool, true, false, cond}
 use mathlib.Core.List.{List, [], _∷_}
+use native.Mathlib.Omega.{arith}
 use lib.ListN.{length, set}
 use Rattle.types.specs.declared.clock.Clock.{Clock}
 use Rattle.tape.specs.declared.rows.Row.{Row}
@@ -47,6 +49,12 @@ clkcrOf clock wide on = clock .divisor + cond on 256 0 + cond wide 2048 0 + cond
 -- a CLKCR value, its bit of 256 as asked
 abbrev pub clkenOf : ℕ → Bool → ℕ
 clkenOf value on = value / 512 * 512 + value % 256 + cond on 256 0
+
+-- the bits below it and above it are as they were
+pub clken-alone : (value : ℕ) (on : Bool)
+    → (clkenOf value on % 256 ≡ value % 256) × (clkenOf value on / 256 % 2 ≡ cond on 1 0) × (clkenOf value on / 512 ≡ value / 512)
+clken-alone value true = omega arith
+clken-alone value false = omega arith
 
 -- CMD = index + 64 * wait kind + 1024
 abbrev pub cmdOf : ℕ → ℕ → ℕ

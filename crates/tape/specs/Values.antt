@@ -1,8 +1,7 @@
 -- What holds of every value that a plan can give, and so of the value of a call that is accepted.
 use Prim.Native.Nat.{ℕ, zero, suc, _+_}
 use mathlib.Core.Path.{_≡_, refl, ap}
-use mathlib.Core.Bool.{Bool, true, false, cond}
-use mathlib.Core.List.{List, [], _∷_}
+use mathlib.Core.List.{List}
 use lib.ListN.{length, getD}
 use native.Mathlib.Omega.{arith}
 use lib.Dec.{ltb}
@@ -13,7 +12,7 @@ use Rattle.tape.specs.declared.progress.Pace.the-variants.{Going, Stoppe
 use Rattle.tape.specs.Plan.{Cause, Plan, failed, ended, give, refuse, read, write, look, hold, handle, _then_}
 use Rattle.tape.specs.Rows.{roomOf, rowAt}
 use Rattle.tape.specs.Run.{State, After, noted, haltOf, run, doesAt, Gave}
-use Rattle.tape.specs.Steps.{dataFrom, dataWords}
+use Rattle.tape.specs.Steps.{dataFrom}
 use Rattle.tape.specs.Laws.{by-cases}
 
 unfoldable pub gives : {A : Type 0} → (A → Type 0) → Plan A → Type 0

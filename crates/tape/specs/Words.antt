@@ -1,11 +1,11 @@
 -- Words of the script. Of running any plan: that words past those taken change nothing, what a script's end leaves, and
 -- how many words are taken at most.
-use Prim.Native.Nat.{ℕ, zero, suc, _+_, _*_, _-_, _<_, _≤_}
-use mathlib.Core.Path.{_≡_, refl, ap, sym, _∙_}
+use Prim.Native.Nat.{ℕ, zero, suc, _+_, _*_, _<_, _≤_}
+use mathlib.Core.Path.{_≡_, refl, ap}
 use mathlib.Core.Bool.{Bool, true, false, cond}
 use mathlib.Core.List.{List, [], _∷_, _++_}
 use native.Mathlib.Omega.{arith}
-use native.Mathlib.Nat.{add-comm, suc-add, suc-mul}
+use native.Mathlib.Nat.{suc-add, suc-mul}
 use native.Mathlib.Decide.{decLt}
 use lib.ListN.{length, getD, length-append, List·getD-append}
 use lib.Dec.{ltb}
@@ -16,7 +16,8 @@ use Rattle.tape.specs.declared.progress.Line.{Line}
 use Rattle.tape.specs.declared.progress.Pace.{Pace}
 use Rattle.tape.specs.declared.progress.Pace.the-variants.{Going, Stopped}
 use Rattle.tape.specs.declared.script.Reading.{Reading}
-use Rattle.tape.specs.Plan.{Cause, failed, ended, Plan, give, refuse, read, write, look, hold, handle, _then_, fail, ensure, until}
+use Rattle.tape.specs.Plan.{Cause, failed, ended, Plan, give, refuse, read, write, look, hold, handle, _then_, fail, ensure}
+use Rattle.tape.specs.Plan.{until}
 use Rattle.tape.specs.Rows.{roomOf, rowAt}
 use Rattle.tape.specs.Run.{State, After, noted, run, doesAt, Gave}
 use Rattle.tape.specs.Laws.{by-cases}
@@ -61,6 +62,32 @@ more-words s t d (write r p) u h =
     }
 more-words s t d (look k) u h = more-words s t d (k h) u h
 more-words s t d (hold h′ p) u h = more-words s t d p u h′
+
+-- no more words are taken than there are
+run-within : (s : List ℕ) {A : Type 0} (d : A) (p : Plan A) (u n : ℕ) (h : Line) (l : List ℕ) → u ≤ length s
+    → run s d p u n h l .state .progress .used ≤ length s
+unfolding run
+run-within s d (give a) u n h l e = e
+run-within s d (refuse c) u n h l e = e
+run-within s {A} d (read r k z) u n h l e = by (decLt u (length s)) (run-within s d (k (getD s u 0)) (u + 1) n h l)
+  where
+    by : Dec (u < length s) → (u + 1 ≤ length s → run s d (k (getD s u 0)) (u + 1) n h l .state .progress .used ≤ length s)
+        → run s d (read r k z) u n h l .state .progress .used ≤ length s
+    by (yes some) ih = rw (lt-ltb u (length s) some) (ih (omega arith))
+    by (no none) ih = rw (le-ltb u (length s) (omega arith)) e
+run-within s {A} d (write r p) u n h l e =
+    by-cases (λ (x : After A). x .state .progress .used ≤ length s) (ltb n (roomOf l)) _ _ (run-within s d p u (n + 1) (noted r h) (rowAt l n r) e) e
+run-within s d (look k) u n h l e = run-within s d (k h) u n h l e
+run-within s d (hold h′ p) u n h l e = run-within s d p u n h′ l e
+
+pub within-script : {s : List ℕ} {A : Type 0} {d : A} {p : Plan A} {w : State} {v : A} {w′ : State}
+    → Gave s A d p w v w′ → w .progress .used ≤ length s → w′ .progress .used ≤ length s
+unfolding doesAt
+within-script {s} {A} {d} {p} {w} {v} {w′} e h = rw (ap (λ (x : After A). x .state .progress .used) (e .same)) (by (w .progress .pace))
+  where
+    by : (q : Pace) → doesAt s d q p w .state .progress .used ≤ length s
+    by Going = run-within s d p (w .progress .used) (w .progress .rows) (w .progress .line) (w .list) h
+    by (Stopped x) = h
 
 -- p takes at most n words; and what refuses it is an error of the driver: that a script has ended is not for it to say.
 unfoldable pub atMost : {A : Type 0} → ℕ → Plan A → Type 0

@@ -25,4 +25,7 @@ returns-3 c =
     λ s. on-false _ (ne-eqb _ _ (found .before .if1 .left)) (rw (← found .spins .ensures) (on-false _ (le-ltb _ _ (test .if2 .left)) (c .refuse2 .ensures s _)))
 
 pub clock-delay-spec : {M : Type 1} → statement M
-clock-delay-spec = tie.close (tie.spec (λ c κs. search needs) returns (λ c κs. search needs) (λ c. search needs) (λ c κs. search needs) (λ c κs. search needs) (λ c. search needs) returns-2 returns-3)
+clock-delay-spec =
+    tie.close
+    (tie.spec (λ c κs. search needs) returns (λ c κs. search needs) (λ c. search needs) (λ c κs. search needs)
+    (λ c κs. search needs) (λ c. search needs) returns-2 returns-3)

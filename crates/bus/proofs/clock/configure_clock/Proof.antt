@@ -14,4 +14,7 @@ returns c =
     seq (idle .wait-idle .ensures _ _ (part .rest .ensures .0)) (rw (part .before .clkcr .ensures) at (wrote .write-row .ensures (now (part .before .before .before .before .args .script))))
 
 pub configure-clock-spec : {M : Type 1} → statement M
-configure-clock-spec = tie.close (tie.spec (λ c κs. search needs) (λ c κs. search needs) (λ c κs. search needs) (λ c κs. search needs) (λ c. search needs) returns)
+configure-clock-spec =
+    tie.close
+    (tie.spec (λ c κs. search needs) (λ c κs. search needs) (λ c κs. search needs) (λ c κs. search needs)
+    (λ c. search needs) returns)

@@ -18,4 +18,7 @@ mul-result c =
     record { fits = product (a .source .0) (a .clock .0) (a .cycles) (omega arith) (omega arith) (omega arith) }
 
 pub spins-spec : {M : Type 1} → statement M
-spins-spec = tie.close (tie.spec (λ c. search needs) (λ c. search needs) (λ c. search needs) (λ c. search needs) (λ c. search needs) (λ c. search needs) mul-result (λ c. search needs))
+spins-spec =
+    tie.close
+    (tie.spec (λ c. search needs) (λ c. search needs) (λ c. search needs) (λ c. search needs)
+    (λ c. search needs) (λ c. search needs) mul-result (λ c. search needs))

@@ -9,4 +9,7 @@ unfolding appCommand
 returns c = bind _ (c .before .before .before .before .before .send .ensures) (c .ensure .ensures _ _)
 
 pub app-command-spec : {M : Type 1} → statement M
-app-command-spec = tie.close (tie.spec (λ c. search needs) (λ c κs. search needs) (λ c. search needs) (λ c κs. search needs) (λ c. search needs) returns)
+app-command-spec =
+    tie.close
+    (tie.spec (λ c. search needs) (λ c κs. search needs) (λ c. search needs) (λ c κs. search needs)
+    (λ c. search needs) returns)

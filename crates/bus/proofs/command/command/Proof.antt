@@ -24,4 +24,7 @@ returns-2 c =
     λ s part. looking _ (on-false _ (inner .before .before .if1 .left) (inner .command-inner .ensures s part))
 
 pub command-spec : {M : Type 1} → statement M
-command-spec = tie.close (tie.spec (λ c κs. search needs) command-closing-requires (λ c κs. search needs) (λ c. search needs) returns (λ c. search needs) returns-2)
+command-spec =
+    tie.close
+    (tie.spec (λ c κs. search needs) command-closing-requires (λ c κs. search needs) (λ c. search needs)
+    returns (λ c. search needs) returns-2)

@@ -18,4 +18,7 @@ returns c =
     (seq (idle .wait-idle .ensures s _ part) (seq (issued .issue .ensures s) (c .complete .ensures s _ part)))
 
 pub command-inner-spec : {M : Type 1} → statement M
-command-inner-spec = tie.close (tie.spec (λ c κs. search needs) (λ c κs. search needs) (λ c κs. search needs) complete-requires (λ c. search needs) returns)
+command-inner-spec =
+    tie.close
+    (tie.spec (λ c κs. search needs) (λ c κs. search needs) (λ c κs. search needs) complete-requires
+    (λ c. search needs) returns)

@@ -14,4 +14,7 @@ returns c =
     (seq (arg .write-row2 .ensures s) (rw (icr .before .before .cmd .ensures) at (cmd .write-row3 .ensures s)))
 
 pub issue-spec : {M : Type 1} → statement M
-issue-spec = tie.close (tie.spec (λ c κs. search needs) (λ c κs. search needs) (λ c κs. search needs) (λ c κs. search needs) (λ c. search needs) returns)
+issue-spec =
+    tie.close
+    (tie.spec (λ c κs. search needs) (λ c κs. search needs) (λ c κs. search needs) (λ c κs. search needs)
+    (λ c. search needs) returns)

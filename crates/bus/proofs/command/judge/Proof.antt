@@ -11,4 +11,7 @@ returns c =
     λ s l. seq (unlocked .before .before .ensure .ensures s l) (seq (unlocked .ensure2 .ensures s l) (c .give-words .ensures s l))
 
 pub judge-spec : {M : Type 1} → statement M
-judge-spec = tie.close (tie.spec (λ c. search needs) (λ c κs. search needs) (λ c κs. search needs) (λ c κs. search needs) returns)
+judge-spec =
+    tie.close
+    (tie.spec (λ c. search needs) (λ c κs. search needs) (λ c κs. search needs) (λ c κs. search needs)
+    returns)

@@ -27,4 +27,7 @@ returns-2 c =
     (seq (echoed .check-echo .ensures s l part) (bind _ (taken .take-words .ensures s l part) (c .judge .ensures s l))))
 
 pub take-answer-spec : {M : Type 1} → statement M
-take-answer-spec = tie.close (tie.spec (λ c κs. search needs) returns (λ c κs. search needs) check-echo-requires take-words-requires (λ c κs. search needs) returns-2)
+take-answer-spec =
+    tie.close
+    (tie.spec (λ c κs. search needs) returns (λ c κs. search needs) check-echo-requires take-words-requires
+    (λ c κs. search needs) returns-2)

@@ -34,4 +34,7 @@ returns c =
     (bind _ (fourth .read-word4 .ensures (Reading.Response 3) s l part) (c .give-words .ensures s l))))
 
 pub take-words-spec : {M : Type 1} → statement M
-take-words-spec = tie.close (tie.spec (λ c κs. search needs) read-word-requires-2 read-word-requires-3 read-word-requires-4 (λ c κs. search needs) returns)
+take-words-spec =
+    tie.close
+    (tie.spec (λ c κs. search needs) read-word-requires-2 read-word-requires-3 read-word-requires-4
+    (λ c κs. search needs) returns)

@@ -49,4 +49,7 @@ returns-2 c =
     λ s l part. out-of-turns (loop .loop .inv s l part) (c .before .loop-test .left) (refusal (c .refuse .ensures s l))
 
 pub wait-completion-spec : {M : Type 1} → statement M
-wait-completion-spec = tie.close (tie.spec Inv-loop μ-loop loop-holds poll-completion-requires (λ c κs. search needs) returns (λ c. omega arith) (λ c. omega arith) loop-again (λ c κs. search needs) returns-2)
+wait-completion-spec =
+    tie.close
+    (tie.spec Inv-loop μ-loop loop-holds poll-completion-requires (λ c κs. search needs) returns
+    (λ c. omega arith) (λ c. omega arith) loop-again (λ c κs. search needs) returns-2)

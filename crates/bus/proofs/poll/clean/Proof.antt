@@ -1,6 +1,5 @@
 use mathlib.Core.Path.{sym, _∙_}
-use Rattle.types.specs.Leaf.{dataOf}
-use Rattle.bus.specs.Transfer.{clean, heeded}
+use Rattle.bus.specs.Transfer.{clean}
 use Rattle.tape.specs.Laws.{stay}
 use borrow.Author.Needs.{needs}
 use Rattle.bus.proofs.poll.clean.Statement.{statement}
@@ -20,4 +19,7 @@ returns-2 c =
     λ s l. rw says (c .refuse .ensures s l)
 
 pub clean-spec : {M : Type 1} → statement M
-clean-spec = tie.close (tie.spec (λ c κs. search needs) (λ c. search needs) (λ c. search needs) (λ c κs. search needs) returns returns-2)
+clean-spec =
+    tie.close
+    (tie.spec (λ c κs. search needs) (λ c. search needs) (λ c. search needs) (λ c κs. search needs) returns
+    returns-2)

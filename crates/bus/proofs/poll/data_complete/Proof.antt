@@ -22,4 +22,6 @@ returns-2 c =
     λ s l part. bind _ (test .before .before .poll-transfer .ensures s l part) (on-false _ (ne-eqb _ _ (test .if1 .left)) (c .give-flag .ensures s l))
 
 pub data-complete-spec : {M : Type 1} → statement M
-data-complete-spec = tie.close (tie.spec (λ c κs. search needs) settle-requires (λ c κs. search needs) returns returns-2)
+data-complete-spec =
+    tie.close
+    (tie.spec (λ c κs. search needs) settle-requires (λ c κs. search needs) returns returns-2)

@@ -22,4 +22,7 @@ returns c =
     (bind _ (dma .read-word2 .ensures Reading.Dma s l part) (seq (good .ensure .ensures s l) (c .give-poll .ensures s l))))
 
 pub poll-transfer-spec : {M : Type 1} → statement M
-poll-transfer-spec = tie.close (tie.spec (λ c κs. search needs) (λ c κs. search needs) read-word-requires-2 (λ c κs. search needs) (λ c κs. search needs) returns)
+poll-transfer-spec =
+    tie.close
+    (tie.spec (λ c κs. search needs) (λ c κs. search needs) read-word-requires-2 (λ c κs. search needs)
+    (λ c κs. search needs) returns)

@@ -28,4 +28,7 @@ returns-2 c =
     (on-false _ (sym (found .unfinished .ensures) ∙ test .if1 .left) (seq (done .drained .ensures s l part) (c .give-flag2 .ensures s l)))
 
 pub settle-spec : {M : Type 1} → statement M
-settle-spec = tie.close (tie.spec (λ c κs. search needs) (λ c κs. search needs) (λ c κs. search needs) drained-requires (λ c κs. search needs) returns returns-2)
+settle-spec =
+    tie.close
+    (tie.spec (λ c κs. search needs) (λ c κs. search needs) (λ c κs. search needs) drained-requires
+    (λ c κs. search needs) returns returns-2)

@@ -1,5 +1,4 @@
 use borrow.Author.Tests.{eq-eqb, ne-eqb}
-use borrow.Author.Needs.{needs}
 use Rattle.bus.proofs.poll.unfinished.Statement.{statement}
 use Rattle.bus.proofs.poll.unfinished.Tie as tie
 

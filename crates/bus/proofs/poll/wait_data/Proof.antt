@@ -48,4 +48,7 @@ returns-2 c =
     λ s l part. forget (out-of-turns (loop .loop .inv s l part) (c .before .loop-test .left) (refusal (c .refuse .ensures s l)))
 
 pub wait-data-spec : {M : Type 1} → statement M
-wait-data-spec = tie.close (tie.spec Inv-loop μ-loop loop-holds data-complete-requires (λ c κs. search needs) returns (λ c. omega arith) (λ c. omega arith) loop-again (λ c κs. search needs) returns-2)
+wait-data-spec =
+    tie.close
+    (tie.spec Inv-loop μ-loop loop-holds data-complete-requires (λ c κs. search needs) returns
+    (λ c. omega arith) (λ c. omega arith) loop-again (λ c κs. search needs) returns-2)

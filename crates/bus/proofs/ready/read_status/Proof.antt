@@ -10,4 +10,6 @@ unfolding readStatus
 returns c = mapped firstOf (c .before .before .before .before .send .ensures)
 
 pub read-status-spec : {M : Type 1} → statement M
-read-status-spec = tie.close (tie.spec (λ c. search needs) (λ c κs. search needs) (λ c. search needs) (λ c. search needs) returns)
+read-status-spec =
+    tie.close
+    (tie.spec (λ c. search needs) (λ c κs. search needs) (λ c. search needs) (λ c. search needs) returns)

@@ -23,4 +23,7 @@ returns-2 c =
     (on-false _ (sym (found .ready .ensures) ∙ test .if1 .left) (seq (waited .retry-delay .ensures _) stay))
 
 pub try-ready-spec : {M : Type 1} → statement M
-try-ready-spec = tie.close (tie.spec (λ c κs. search needs) (λ c κs. search needs) (λ c κs. search needs) (λ c κs. search needs) (λ c. search needs) returns (λ c. search needs) returns-2)
+try-ready-spec =
+    tie.close
+    (tie.spec (λ c κs. search needs) (λ c κs. search needs) (λ c κs. search needs) (λ c κs. search needs)
+    (λ c. search needs) returns (λ c. search needs) returns-2)

@@ -52,4 +52,9 @@ returns-2 c =
     forget (out-of-turns (loop .loop .inv .turned) (c .before .loop-test .left) (refusal (c .refuse .ensures _ _)))
 
 pub wait-ready-spec : {M : Type 1} → statement M
-wait-ready-spec = tie.close (tie.spec Inv-loop μ-loop loop-holds (λ c κs. search needs) (λ c κs. search needs) (λ c. search needs) returns (λ c. omega (arith, c .before .before .before .before .before .before .before .before .before .before .before .good .1 .1 .1 .1 .0)) (λ c. omega arith) loop-again (λ c κs. search needs) (λ c. search needs) returns-2)
+wait-ready-spec =
+    tie.close
+    (tie.spec Inv-loop μ-loop loop-holds (λ c κs. search needs) (λ c κs. search needs) (λ c. search needs)
+    returns
+    (λ c. omega (arith, c .before .before .before .before .before .before .before .before .before .before .before .good .1 .1 .1 .1 .0))
+    (λ c. omega arith) loop-again (λ c κs. search needs) (λ c. search needs) returns-2)

@@ -24,4 +24,8 @@ same-length : tie.Need-same-length
 same-length c = keeps (returns c []) .long
 
 pub arm-spec : {M : Type 1} → statement M
-arm-spec = tie.close (tie.spec (λ c κs. search needs) (λ c. search needs) (λ c. search needs) (λ c κs. search needs) (λ c κs. search needs) (λ c κs. search needs) (λ c κs. search needs) (λ c κs. search needs) same-length returns)
+arm-spec =
+    tie.close
+    (tie.spec (λ c κs. search needs) (λ c. search needs) (λ c. search needs) (λ c κs. search needs)
+    (λ c κs. search needs) (λ c κs. search needs) (λ c κs. search needs) (λ c κs. search needs) same-length
+    returns)

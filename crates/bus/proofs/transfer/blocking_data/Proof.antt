@@ -1,5 +1,5 @@
 use Rattle.tape.specs.Steps.{resetController}
-use Rattle.bus.specs.Transfer.{blockingData}
+use Rattle.bus.specs.Transfer.{transferData, blockingData}
 use Rattle.tape.specs.Laws.{guarded, from-stopped}
 use borrow.Author.Needs.{needs}
 use Rattle.bus.proofs.transfer.blocking_data.Statement.{statement}
@@ -10,10 +10,13 @@ unfolding blockingData
 returns c =
     let closed = c .before .before in
     let read = closed .before .before .before .before in
-    guarded resetController (read .before .before .enum-told .given .1) (read .transfer-data .ensures) (closed .close .ensures _)
+    guarded {p = transferData _ _ _ _} resetController (read .before .before .enum-told .given .1) (read .transfer-data .ensures) (closed .close .ensures _)
 
 returns-2 : tie.Need-returns-2
 returns-2 c = from-stopped (c .enum-told2 .given .1)
 
 pub blocking-data-spec : {M : Type 1} → statement M
-blocking-data-spec = tie.close (tie.spec (λ c. search needs) (λ c κs. search needs) (λ c κs. search needs) (λ c. search needs) (λ c. search needs) returns returns-2)
+blocking-data-spec =
+    tie.close
+    (tie.spec (λ c. search needs) (λ c κs. search needs) (λ c κs. search needs) (λ c. search needs)
+    (λ c. search needs) returns returns-2)

@@ -14,4 +14,7 @@ returns c =
     seq (stopped .stop-data .ensures _) (seq (closed .close-gate .ensures _) (seq (ended .stop-transmission .ensures) (waited .wait-ready .ensures)))
 
 pub end-data-spec : {M : Type 1} → statement M
-end-data-spec = tie.close (tie.spec (λ c κs. search needs) (λ c κs. search needs) (λ c κs. search needs) (λ c κs. search needs) (λ c. search needs) returns)
+end-data-spec =
+    tie.close
+    (tie.spec (λ c κs. search needs) (λ c κs. search needs) (λ c κs. search needs) (λ c κs. search needs)
+    (λ c. search needs) returns)

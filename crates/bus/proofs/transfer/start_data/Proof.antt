@@ -17,4 +17,7 @@ returns c =
     (seq (opened .set-clken .ensures _) (forget (told .command-inner .ensures _ (left .rest2 .ensures .0)))))
 
 pub start-data-spec : {M : Type 1} → statement M
-start-data-spec = tie.close (tie.spec (λ c κs. search needs) (λ c κs. search needs) (λ c κs. search needs) (λ c κs. search needs) (λ c κs. search needs) (λ c κs. search needs) (λ c. search needs) returns)
+start-data-spec =
+    tie.close
+    (tie.spec (λ c κs. search needs) (λ c κs. search needs) (λ c κs. search needs) (λ c κs. search needs)
+    (λ c κs. search needs) (λ c κs. search needs) (λ c. search needs) returns)

@@ -1,5 +1,4 @@
 use borrow.Author.Tests.{eq-eqb, ne-eqb}
-use mathlib.Core.Path.{ap}
 use borrow.Author.Needs.{needs}
 use Rattle.init.proofs.identify.agree.Statement.{statement}
 use Rattle.init.proofs.identify.agree.Tie as tie

@@ -1,5 +1,4 @@
 use borrow.Author.Tests.{eq-eqb, ne-eqb}
-use borrow.Author.Needs.{needs}
 use Rattle.init.proofs.identify.class.Statement.{statement}
 use Rattle.init.proofs.identify.class.Tie as tie
 

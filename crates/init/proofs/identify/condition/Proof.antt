@@ -1,4 +1,3 @@
-use native.Mathlib.Nat.{add-zero}
 use borrow.Author.Needs.{needs}
 use Rattle.init.proofs.identify.condition.Statement.{statement}
 use Rattle.init.proofs.identify.condition.Tie as tie

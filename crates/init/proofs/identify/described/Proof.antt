@@ -1,4 +1,3 @@
-use mathlib.Core.Path.{refl}
 use borrow.Author.Needs.{needs}
 use Rattle.init.proofs.identify.described.Statement.{statement}
 use Rattle.init.proofs.identify.described.Tie as tie

@@ -1,4 +1,3 @@
-use mathlib.Core.Path.{_≡_}
 use Rattle.init.specs.Initialise.{powerUp}
 use Rattle.tape.specs.Laws.{seq, bind}
 use borrow.Author.Needs.{needs}

@@ -1,4 +1,3 @@
-use mathlib.Core.Path.{sym}
 use Rattle.init.specs.Initialise.{select}
 use Rattle.tape.specs.Laws.{seq, bind}
 use borrow.Author.Needs.{needs}

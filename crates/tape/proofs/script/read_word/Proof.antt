@@ -50,4 +50,7 @@ returns-3 c =
     (rw (lt-ltb _ _ (inside s _ _ _ part after (test .if1 .left)), at-place s _ _ _ part after))
 
 pub read-word-spec : {M : Type 1} → statement M
-read-word-spec = tie.close (tie.spec (λ c. search needs) (λ c. search needs) returns (λ c. search needs) (λ c κs. search needs) returns-2 (λ c. search needs) (λ c. search needs) (λ c. search needs) returns-3)
+read-word-spec =
+    tie.close
+    (tie.spec (λ c. search needs) (λ c. search needs) returns (λ c. search needs) (λ c κs. search needs)
+    returns-2 (λ c. search needs) (λ c. search needs) (λ c. search needs) returns-3)

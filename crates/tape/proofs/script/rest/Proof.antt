@@ -20,4 +20,7 @@ returns-2 c =
     (record { part = sym (drop-of-length-le (now (a .script)) {i = a .used} (omega arith)) }, omega arith)
 
 pub rest-spec : {M : Type 1} → statement M
-rest-spec = tie.close (tie.spec (λ c. search needs) (λ c. search needs) (λ c. search needs) (λ c. search needs) (λ c. search needs) returns returns-2)
+rest-spec =
+    tie.close
+    (tie.spec (λ c. search needs) (λ c. search needs) (λ c. search needs) (λ c. search needs)
+    (λ c. search needs) returns returns-2)

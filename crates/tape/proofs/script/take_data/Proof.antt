@@ -1,7 +1,7 @@
 use lib.Seq.{drop-cons}
 use lib.ListN.{length, getD, take, drop, length-drop}
 use mathlib.Core.List.{List, [], _∷_}
-use mathlib.Core.Path.{_≡_, refl, ap, sym, _∙_}
+use mathlib.Core.Path.{_≡_, ap, sym, _∙_}
 use Prim.Native.Nat.{ℕ, zero, suc, _≤_, _<_, _-_, _+_}
 use native.Mathlib.Omega.{arith}
 use native.Mathlib.Numerals.{add-one}
@@ -82,4 +82,7 @@ returns-3 c =
     from-going (going .enum-told .given .1) (sym (there s 0 _ _ _ _ l (omega (arith, left))))
 
 pub take-data-spec : {M : Type 1} → statement M
-take-data-spec = tie.close (tie.spec (λ c. search needs) (λ c. search needs) returns (λ c. search needs) (λ c κs. search needs) (λ c. search needs) returns-2 (λ c. search needs) returns-3)
+take-data-spec =
+    tie.close
+    (tie.spec (λ c. search needs) (λ c. search needs) returns (λ c. search needs) (λ c κs. search needs)
+    (λ c. search needs) returns-2 (λ c. search needs) returns-3)

@@ -23,4 +23,8 @@ returns-4 : tie.Need-returns-4
 returns-4 c = λ s. settled-full (c .before .before .before .pace .given .1 ∙ ap Stopped (c .enum-told3 .given .1))
 
 pub close-spec : {M : Type 1} → statement M
-close-spec = tie.close (tie.spec (λ c. search needs) (λ c. search needs) (λ c. search needs) (λ c κs. search needs) (λ c κs. search needs) (λ c κs. search needs) (λ c. search needs) (λ c. search needs) returns (λ c. search needs) returns-2 returns-3 returns-4)
+close-spec =
+    tie.close
+    (tie.spec (λ c. search needs) (λ c. search needs) (λ c. search needs) (λ c κs. search needs)
+    (λ c κs. search needs) (λ c κs. search needs) (λ c. search needs) (λ c. search needs) returns
+    (λ c. search needs) returns-2 returns-3 returns-4)

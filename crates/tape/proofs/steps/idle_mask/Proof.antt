@@ -1,4 +1,3 @@
-use borrow.Author.Needs.{needs}
 use Rattle.tape.proofs.steps.idle_mask.Statement.{statement}
 use Rattle.tape.proofs.steps.idle_mask.Tie as tie
 

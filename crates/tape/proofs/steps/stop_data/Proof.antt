@@ -13,4 +13,7 @@ returns c =
     λ s. seq (mask .write-row .ensures s) (seq (dctrl .write-row2 .ensures s) (icr .write-row3 .ensures s))
 
 pub stop-data-spec : {M : Type 1} → statement M
-stop-data-spec = tie.close (tie.spec (λ c κs. search needs) (λ c κs. search needs) (λ c κs. search needs) (λ c. search needs) returns)
+stop-data-spec =
+    tie.close
+    (tie.spec (λ c κs. search needs) (λ c κs. search needs) (λ c κs. search needs) (λ c. search needs)
+    returns)

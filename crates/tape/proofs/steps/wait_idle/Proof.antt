@@ -1,11 +1,11 @@
 use mathlib.Core.List.{List}
-use mathlib.Core.Path.{_≡_, sym, _∙_}
+use mathlib.Core.Path.{sym, _∙_}
 use Prim.Native.Nat.{ℕ, _-_}
 use native.Mathlib.Omega.{arith}
 use Rattle.types.specs.Bits.{clear}
 use Rattle.tape.specs.declared.script.Reading.the-variants.{Status}
 use Rattle.tape.specs.Run.{at, Behind}
-use Rattle.tape.specs.Steps.{word, idleMask, waitIdle}
+use Rattle.tape.specs.Steps.{word, waitIdle}
 use Rattle.tape.specs.Laws.{refusal, forget}
 use Rattle.tape.specs.Loops.{Turned, no-turn, next-turn, last-turn, out-of-turns, turned-on}
 use borrow.Author.Needs.{needs}
@@ -51,4 +51,7 @@ returns-2 c =
     (forget (out-of-turns (loop .loop .inv s l part) (c .before .loop-test .left) (refusal (c .refuse .ensures s l))))
 
 pub wait-idle-spec : {M : Type 1} → statement M
-wait-idle-spec = tie.close (tie.spec Inv-loop μ-loop (λ c κs. search needs) loop-holds read-word-requires (λ c κs. search needs) returns (λ c. omega arith) (λ c. omega arith) loop-again (λ c κs. search needs) returns-2)
+wait-idle-spec =
+    tie.close
+    (tie.spec Inv-loop μ-loop (λ c κs. search needs) loop-holds read-word-requires (λ c κs. search needs)
+    returns (λ c. omega arith) (λ c. omega arith) loop-again (λ c κs. search needs) returns-2)

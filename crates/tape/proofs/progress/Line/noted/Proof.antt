@@ -1,6 +1,5 @@
 use borrow.Author.Tests.{eq-eqb, ne-eqb}
 use Rattle.tape.specs.Run.{noted}
-use borrow.Author.Needs.{needs}
 use Rattle.tape.proofs.progress.Line.noted.Statement.{statement}
 use Rattle.tape.proofs.progress.Line.noted.Tie as tie
 

@@ -1,0 +1,92 @@
+-- What a call's steps come to, from their contracts.
+use mathlib.Core.Bool.{Bool, true, false, cond}
+use mathlib.Core.List.{List, []}
+use mathlib.Core.Path.{_≡_, refl, ap, sym, _∙_}
+use Prim.Native.Nat.{ℕ}
+use Rattle.tape.specs.declared.progress.Halt.{Halt}
+use Rattle.tape.specs.declared.progress.Halt.the-variants.{Refused, ScriptEnded, TraceFull}
+use Rattle.tape.specs.declared.progress.Line.{Line}
+use Rattle.tape.specs.declared.progress.Pace.{Pace}
+use Rattle.tape.specs.declared.progress.Pace.the-variants.{Going, Stopped}
+use Rattle.tape.specs.declared.progress.Progress.{Progress}
+use Rattle.tape.specs.Plan.{Nothing, Plan}
+use Rattle.tape.specs.Run.{State, at, After, keptAt, run, runFrom, doesAt, Gave}
+use Rattle.host.specs.declared.host.Sdmmc.{Sdmmc}
+use Rattle.host.specs.Calls.{ends, dropped, kept, transferred, approached, served}
+
+-- a choice by a test that is known
+pub if-true : {A : Type 0} {b : Bool} {x : A} (y : A) → b ≡ true → x ≡ cond b x y
+if-true y t = rw t
+
+pub if-false : {A : Type 0} {b : Bool} (x : A) {y : A} → b ≡ false → y ≡ cond b x y
+if-false x t = rw t
+
+-- before the first step of a call
+abbrev pub begun : Line → Progress
+begun line = record { pace = Going; used = 0; rows = 0; line = line }
+
+-- a plan that was started there
+pub from-start : {s : List ℕ} {A : Type 0} {d : A} {p : Plan A} {line : Line} {l : List ℕ} {v : A} {w : State}
+    → Gave s A d p (at (begun line) l) v w → record { value = v; state = w } ≡ run s d p 0 0 line l
+unfolding doesAt
+from-start e = e .same
+
+-- a plan of a call that is still going
+pub from-there : {s : List ℕ} {A : Type 0} {d : A} {p : Plan A} {w : State} {v : A} {w′ : State}
+    → w .progress .pace ≡ Going → Gave s A d p w v w′ → record { value = v; state = w′ } ≡ runFrom s d p w
+unfolding doesAt
+from-there g e = rw g at (e .same)
+
+-- however a call ends, its list is what its plan left
+pub ends-list : (host refused accepted : Sdmmc) (words : List ℕ) (q : Pace) (w : State) → ends host refused accepted words q w .list ≡ w .list
+unfolding ends
+ends-list host refused accepted words Going w = refl
+ends-list host refused accepted words (Stopped (Refused e)) w = refl
+ends-list host refused accepted words (Stopped ScriptEnded) w = refl
+ends-list host refused accepted words (Stopped TraceFull) w = refl
+
+-- and its data words are what its plan gave
+pub ends-taken : (host refused accepted : Sdmmc) (words : List ℕ) (q : Pace) (w : State) → words ≡ keptAt [] words q
+    → ends host refused accepted words q w .taken ≡ words
+unfolding ends keptAt
+ends-taken host refused accepted words Going w e = refl
+ends-taken host refused accepted words (Stopped (Refused x)) w e = sym e
+ends-taken host refused accepted words (Stopped ScriptEnded) w e = sym e
+ends-taken host refused accepted words (Stopped TraceFull) w e = sym e
+
+pub kept-none : (q : Pace) → _≡_ {A = List ℕ} [] (keptAt [] [] q)
+unfolding keptAt
+kept-none Going = refl
+kept-none (Stopped x) = refl
+
+-- A call with a data phase, from what its two parts did.
+module _ (host : Sdmmc) (transfer : Plan (List ℕ)) (next : State → List ℕ → Sdmmc) (s : List ℕ) where
+  -- the data phase is over
+  pub data-done : {w w′ : State} {v : List ℕ} → w .progress .pace ≡ Going → Gave s (List ℕ) [] transfer w v w′
+      → ends host (dropped host w′) (next w′ v) v (w′ .progress .pace) w′ ≡ transferred host transfer next s w
+  unfolding transferred
+  data-done g e =
+      ap (λ (x : After (List ℕ)). ends host (dropped host (x .state)) (next (x .state) (x .value)) (x .value) (x .state .progress .pace) (x .state))
+      (from-there g e)
+
+  at-going : (w : State) {q : Pace} → q ≡ Going → transferred host transfer next s w ≡ approached host transfer next s q w
+  unfolding approached
+  at-going w g = rw g
+
+  at-stopped : (w : State) {q : Pace} (h : Halt) → q ≡ Stopped h → ends host (kept host w) host [] q w ≡ approached host transfer next s q w
+  unfolding approached
+  at-stopped w h g = rw g
+
+  module _ (approach : Plan Nothing) (l : List ℕ) {p : Progress} {l′ : List ℕ} (e : Gave s Nothing tt approach (at (begun (host .line)) l) tt (at p l′)) where
+    through : approached host transfer next s (p .pace) (at p l′) ≡ served host approach transfer next s l
+    unfolding served
+    through = ap (λ (x : After Nothing). approached host transfer next s (x .state .progress .pace) (x .state)) (from-start e)
+
+    -- the approach went through
+    pub going-on : p .pace ≡ Going → transferred host transfer next s (at p l′) ≡ served host approach transfer next s l
+    going-on g = at-going (at p l′) g ∙ through
+
+    -- it did not
+    pub stopped-there : (h : Halt) → p .pace ≡ Stopped h
+        → ends host (kept host (at p l′)) host [] (p .pace) (at p l′) ≡ served host approach transfer next s l
+    stopped-there h g = at-stopped (at p l′) h g ∙ through

@@ -1,0 +1,28 @@
+use mathlib.Core.List.{[]}
+use mathlib.Core.Path.{ap, sym, _∙_}
+use Rattle.types.specs.declared.card.Card.{Card}
+use Rattle.tape.specs.Run.{After}
+use Rattle.host.specs.Calls.{Came, dropped, holding, ends, calledOf, initFrom}
+use Rattle.host.proofs.Ran.{begun, from-start, ends-list}
+use borrow.Author.Needs.{needs}
+use Rattle.host.proofs.host.Sdmmc.init_from.Statement.{statement}
+use Rattle.host.proofs.host.Sdmmc.init_from.Tie as tie
+
+same-length : tie.Need-same-length
+same-length c = search (needs, c .before .before .before .before .before .before .before .before .rows .given)
+
+returns : tie.Need-returns
+unfolding initFrom
+returns c =
+    let done = c .before .before .before .before .before .before .before .before .before in
+    let start = c .before .before .before .before .before .before .before .before .before .before .before .before .before .before .before .before .before in
+    let host = start .args .self in
+    let first = c .before .before .before .before .before .before .before .before .before .before .before .start .ensures ∙ ap begun (c .before .before .before .before .before .before .before .before .before .before .before .before .fresh-line .ensures) in
+    let ran = from-start (rw first at (done .initialise .ensures)) in
+    let end : After Card → Came = λ x. ends host (dropped host (x .state)) (holding host (x .state) (x .value)) [] (x .state .progress .pace) (x .state) in (
+      rw (c .before .before .with .ensures, c .before .before .before .no-card .ensures, c .before .with2 .ensures) at (c .ends .ensures [] (done .initialise .last .1 .1 .0)) ∙ ap (λ (x : After Card). calledOf (end x)) ran,
+      sym (ends-list host _ _ [] _ _) ∙ ap (λ (x : After Card). end x .list) ran,
+    )
+
+pub init-from-spec : {M : Type 1} → statement M
+init-from-spec = tie.close (tie.spec (λ c κs. search needs) (λ c κs. search needs) (λ c κs. search needs) (λ c κs. search needs) (λ c κs. search needs) (λ c κs. search needs) (λ c κs. search needs) same-length returns)

@@ -1,0 +1,35 @@
+use mathlib.Core.List.{List}
+use mathlib.Core.Path.{_≡_, refl, ap, sym, _∙_}
+use Prim.Native.Nat.{ℕ}
+use lib.ListN.{take, drop}
+use Rattle.types.specs.Words.{counted, sdStatusOf}
+use Rattle.init.specs.Lent.{sixteenOf}
+use Rattle.host.specs.Calls.{Came, calledOf, statusPlan, statusNext}
+use Rattle.host.proofs.Ran.{data-done, ends-list}
+use borrow.Author.Needs.{needs}
+use Rattle.host.proofs.host.Sdmmc.status_data.Statement.{statement}
+use Rattle.host.proofs.host.Sdmmc.status_data.Tie as tie
+
+same-length : tie.Need-same-length
+same-length c = search (needs, c .before .before .before .before .before .before .before .before .before .before .rows .given)
+
+-- the status of the first sixteen words is that of the words
+status-sixteen : (ws : List ℕ) → sdStatusOf (sixteenOf ws) ≡ sdStatusOf ws
+unfolding sdStatusOf sixteenOf counted
+status-sixteen ws = refl
+
+returns : tie.Need-returns
+returns c =
+    let read = c .before .before .before .before .before .before .before .before .before .before .before in
+    let start = c .before .before .before .before .before .before .before .before .before .before .before .before .before .before .before .before .before .before in
+    let host = start .args .self in
+    let l = read .blocking-data .last .1 .1 .0 in
+    let ws = take (read .blocking-data .result .count) (drop (read .blocking-data .result .place) (start .args .script .now)) in
+    let status = c .before .before .before .before .before .sd-status .ensures ∙ ap sdStatusOf (c .before .before .before .before .before .before .sixteen .ensures) ∙ status-sixteen ws in
+    let done = data-done host (statusPlan host) (statusNext host) _ (start .pre) (read .blocking-data .ensures) in (
+      rw (c .before .before .before .with .ensures, c .before .before .before .before .no-card .ensures, c .before .with2 .ensures, c .before .before .with-status .ensures, status) at (c .ends .ensures ws l) ∙ ap calledOf done,
+      sym (ends-list host _ _ ws _ _) ∙ ap (λ (x : Came). x .list) done,
+    )
+
+pub status-data-spec : {M : Type 1} → statement M
+status-data-spec = tie.close (tie.spec (λ c κs. search needs) (λ c κs. search needs) (λ c κs. search needs) (λ c κs. search needs) (λ c κs. search needs) (λ c κs. search needs) (λ c κs. search needs) (λ c κs. search needs) same-length returns)

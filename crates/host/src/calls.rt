@@ -1,0 +1,276 @@
+// The calls on a host: initialise, read, SD status.
+ghost use mathlib.Core.Path.{_≡_};
+ghost use mathlib.Core.List.{List, []};
+ghost use mathlib.Core.Bool.{cond};
+ghost use Prim.Native.Nat.{ℕ, _≤_};
+ghost use lib.Dec.{eqb};
+ghost use lib.ListN.{length};
+ghost use Rattle.types.specs.declared.card.AddressAnswer.the-variants as Address;
+ghost use Rattle.types.specs.declared.clock.ClockAnswer.the-variants as Clocked;
+ghost use Rattle.tape.specs.Run.{at};
+ghost use Rattle.host.specs.Calls.{calledOf, kept, ends, initFrom, initialised, readTransfer, readData, readFrom, readKnown, readCame, bufferOf, withStatus, statusData, statusFrom, statusCame};
+use crate::blocks;
+use crate::host;
+use crate::host::Called;
+use crate::host::Sdmmc;
+use bus::command;
+use bus::ready;
+use bus::transfer;
+use bus::transfer::Transfer;
+use init::card;
+use init::identify;
+use init::lent;
+use tape::progress::Pace;
+use tape::progress::Progress;
+use types::card::AddressAnswer;
+use types::card::Card;
+use types::card::block_address;
+use types::clock::Clock;
+use types::clock::ClockAnswer;
+use types::clock::Hertz;
+use types::clock::clock_setting;
+use types::error::Error;
+use types::words;
+
+// The record with another SD status.
+fn with_status(card: Card, status: [u32; 16]) -> Card
+    ensures { λ r. ⌜ r ≡ withStatus card status ⌝ }
+{
+    let card_type = card.card_type;
+    let cid = card.cid;
+    let csd = card.csd;
+    let scr = card.scr;
+    let block_count = card.block_count;
+    Card {
+        card_type: card_type,
+        ocr: card.ocr,
+        rca: card.rca,
+        cid: cid,
+        csd: csd,
+        scr: scr,
+        status: status,
+        block_count: block_count,
+    }
+}
+
+// CMD17 for one block, CMD18 for more.
+fn read_index(blocks: u16) -> u8
+    ensures { λ r. ⌜ r ≡ cond (eqb blocks 1) 17 18 ⌝ }
+{
+    if blocks == 1 { 17 } else { 18 }
+}
+
+// What a read of so many blocks asks for.
+fn read_transfer(address: u32, blocks: u16) -> Transfer
+    requires { ⌜ blocks ≤ 511 ⌝ }
+    ensures { λ r. ⌜ r ≡ readTransfer address blocks ⌝ }
+{
+    Transfer {
+        index: read_index(blocks),
+        argument: address,
+        block_size: 9,
+        words: 128 * blocks,
+    }
+}
+
+impl Sdmmc {
+    // An initialisation with this clock of identification.
+    fn init_from(self, script: &[u32], rows: &mut [u32], frequency: Hertz, initial: Clock) -> Called
+        ensures answered { λ r. ⌜ r ≡ calledOf (initFrom self (frequency .0) (Clocked.Set initial) (now (script .entry)) (now (rows .entry))) ⌝ }
+        ensures listed { λ r. ⌜ now (rows .exit) ≡ initFrom self (frequency .0) (Clocked.Set initial) (now (script .entry)) (now (rows .entry)) .list ⌝ }
+    {
+        let settings = self.settings;
+        let clock = initial.frequency;
+        let begun = host::start(host::fresh_line(clock));
+        let done = card::initialise(begun, script, rows, settings, initial, frequency);
+        let progress = done.progress;
+        let line = progress.line;
+        let found = done.card;
+        let refused = self.with(line, false, identify::no_card());
+        let accepted = self.with(line, true, found);
+        self.ends(progress, refused, accepted)
+    }
+
+    // Initialises the card: its record, and the clock and signalling for it.
+    pub fn blocking_init_card(self, script: &[u32], rows: &mut [u32], frequency: Hertz) -> Called
+        ensures answered { λ r. ⌜ r ≡ calledOf (initialised self (frequency .0) (now (script .entry)) (now (rows .entry))) ⌝ }
+        ensures listed { λ r. ⌜ now (rows .exit) ≡ initialised self (frequency .0) (now (script .entry)) (now (rows .entry)) .list ⌝ }
+    {
+        let asked = frequency.0;
+        let source = self.settings.source;
+        if asked == 0 {
+            return self.untouched(Error::BadClock);
+        }
+        if asked > Sdmmc::MOST {
+            return self.untouched(Error::BadClock);
+        }
+        let answer = clock_setting(source, Hertz(Sdmmc::IDENTIFICATION), false);
+        match answer {
+            ClockAnswer::Set(initial) => self.init_from(script, rows, frequency, initial),
+            ClockAnswer::Refused(error) => self.untouched(error),
+        }
+    }
+
+    // A call that stopped before its data phase: the record stays.
+    fn ends_before(self, p: Progress) -> Called
+        ensures { λ r. ⌜ ((l : List ℕ) → r ≡ calledOf (ends self (kept self (at p l)) self [] (p .pace) (at p l))) ⌝ }
+    {
+        let line = p.line;
+        let card = self.card;
+        let kept = self.with(line, self.known, card);
+        self.ends(p, kept, self)
+    }
+
+    // The data phase of a status call.
+    fn status_data(self, p: Progress, script: &[u32], rows: &mut [u32]) -> Called
+        requires { ⌜ p .pace ≡ Pace.Going ⌝ }
+        ensures answered { λ r. ⌜ r ≡ calledOf (statusData self (now (script .entry)) (at p (now (rows .entry)))) ⌝ }
+        ensures listed { λ r. ⌜ now (rows .exit) ≡ statusData self (now (script .entry)) (at p (now (rows .entry))) .list ⌝ }
+    {
+        let source = self.settings.source;
+        let config = self.settings.config;
+        let card = self.card;
+        let asked = Transfer {
+            index: 13,
+            argument: 0,
+            block_size: 6,
+            words: 16,
+        };
+        let read = transfer::blocking_data(p, script, rows, source, config, asked, card.rca);
+        let progress = read.progress;
+        let line = progress.line;
+        let status = words::sd_status(lent::sixteen(script, read.place, read.count));
+        let refused = self.with(line, false, identify::no_card());
+        let accepted = self.with(line, true, with_status(card, status));
+        self.ends(progress, refused, accepted)
+    }
+
+    // A status call on a host that has a card.
+    fn status_from(self, script: &[u32], rows: &mut [u32]) -> Called
+        ensures answered { λ r. ⌜ r ≡ calledOf (statusFrom self (now (script .entry)) (now (rows .entry))) ⌝ }
+        ensures listed { λ r. ⌜ now (rows .exit) ≡ statusFrom self (now (script .entry)) (now (rows .entry)) .list ⌝ }
+    {
+        let limit = self.settings.config.poll_limit;
+        let line = self.line;
+        let card = self.card;
+        let told = command::app_command(host::start(line), script, rows, limit, card.rca);
+        let pace = told.pace;
+        match pace {
+            Pace::Going => self.status_data(told, script, rows),
+            Pace::Stopped(_) => self.ends_before(told),
+        }
+    }
+
+    // Reads the card's SD status into its record.
+    pub fn blocking_read_sd_status(self, script: &[u32], rows: &mut [u32]) -> Called
+        ensures answered { λ r. ⌜ r ≡ calledOf (statusCame self (now (script .entry)) (now (rows .entry))) ⌝ }
+        ensures listed { λ r. ⌜ now (rows .exit) ≡ statusCame self (now (script .entry)) (now (rows .entry)) .list ⌝ }
+    {
+        if self.known {
+            self.status_from(script, rows)
+        } else {
+            self.untouched(Error::NoCard)
+        }
+    }
+
+    // The data phase of a read; the buffer is filled from the words that it took, and it takes none unless it is accepted.
+    fn read_data(
+        self,
+        p: Progress,
+        script: &[u32],
+        rows: &mut [u32],
+        buffer: &mut [u8],
+        address: u32,
+        blocks: u16,
+    ) -> Called
+        requires { ⌜ (p .pace ≡ Pace.Going) × (blocks ≤ 511) ⌝ }
+        ensures answered { λ r. ⌜ r ≡ calledOf (readData self address blocks (now (script .entry)) (at p (now (rows .entry)))) ⌝ }
+        ensures listed { λ r. ⌜ now (rows .exit) ≡ readData self address blocks (now (script .entry)) (at p (now (rows .entry))) .list ⌝ }
+        ensures filled { λ r. ⌜ now (buffer .exit) ≡ bufferOf (readData self address blocks (now (script .entry)) (at p (now (rows .entry)))) (now (buffer .entry)) ⌝ }
+    {
+        let source = self.settings.source;
+        let config = self.settings.config;
+        let card = self.card;
+        let asked = read_transfer(address, blocks);
+        let read = transfer::blocking_data(p, script, rows, source, config, asked, card.rca);
+        let progress = read.progress;
+        let line = progress.line;
+        let words = blocks::part(script, read.place, read.count);
+        blocks::fill_blocks(buffer, words);
+        let refused = self.with(line, false, identify::no_card());
+        let accepted = self.with(line, self.known, card);
+        self.ends(progress, refused, accepted)
+    }
+
+    // A read from an address that was judged, of so many blocks.
+    fn read_from(
+        self,
+        script: &[u32],
+        rows: &mut [u32],
+        buffer: &mut [u8],
+        address: u32,
+        blocks: u16,
+    ) -> Called
+        requires { ⌜ blocks ≤ 511 ⌝ }
+        ensures answered { λ r. ⌜ r ≡ calledOf (readFrom self blocks (Address.Address address) (now (script .entry)) (now (rows .entry))) ⌝ }
+        ensures listed { λ r. ⌜ now (rows .exit) ≡ readFrom self blocks (Address.Address address) (now (script .entry)) (now (rows .entry)) .list ⌝ }
+        ensures filled { λ r. ⌜ now (buffer .exit) ≡ bufferOf (readFrom self blocks (Address.Address address) (now (script .entry)) (now (rows .entry))) (now (buffer .entry)) ⌝ }
+    {
+        let source = self.settings.source;
+        let config = self.settings.config;
+        let line = self.line;
+        let card = self.card;
+        let ready = ready::wait_ready(host::start(line), script, rows, source, config, card.rca);
+        let pace = ready.pace;
+        match pace {
+            Pace::Going => self.read_data(ready, script, rows, buffer, address, blocks),
+            Pace::Stopped(_) => self.ends_before(ready),
+        }
+    }
+
+    // A read on a host that has a card.
+    fn read_known(self, script: &[u32], rows: &mut [u32], index: u32, buffer: &mut [u8]) -> Called
+        ensures answered { λ r. ⌜ r ≡ calledOf (readKnown self index (length (now (buffer .entry))) (now (script .entry)) (now (rows .entry))) ⌝ }
+        ensures listed { λ r. ⌜ now (rows .exit) ≡ readKnown self index (length (now (buffer .entry))) (now (script .entry)) (now (rows .entry)) .list ⌝ }
+        ensures filled { λ r. ⌜ now (buffer .exit) ≡ bufferOf (readKnown self index (length (now (buffer .entry))) (now (script .entry)) (now (rows .entry))) (now (buffer .entry)) ⌝ }
+    {
+        let bytes = buffer.len();
+        let card = self.card;
+        let class = card.card_type;
+        let count = card.block_count;
+        if bytes % 512 != 0 {
+            return self.untouched(Error::InvalidBufferLength);
+        }
+        let blocks = bytes / 512;
+        let answer = block_address(class, count, index, blocks);
+        match answer {
+            AddressAnswer::Address(address) => self.read_from(
+                script,
+                rows,
+                buffer,
+                address,
+                blocks as u16,
+            ),
+            AddressAnswer::Refused(error) => self.untouched(error),
+        }
+    }
+
+    // Reads blocks from an index on into the buffer, which has 512 bytes for each.
+    pub fn blocking_read_blocks(
+        self,
+        script: &[u32],
+        rows: &mut [u32],
+        index: u32,
+        buffer: &mut [u8],
+    ) -> Called
+        ensures answered { λ r. ⌜ r ≡ calledOf (readCame self index (length (now (buffer .entry))) (now (script .entry)) (now (rows .entry))) ⌝ }
+        ensures listed { λ r. ⌜ now (rows .exit) ≡ readCame self index (length (now (buffer .entry))) (now (script .entry)) (now (rows .entry)) .list ⌝ }
+        ensures filled { λ r. ⌜ now (buffer .exit) ≡ bufferOf (readCame self index (length (now (buffer .entry))) (now (script .entry)) (now (rows .entry))) (now (buffer .entry)) ⌝ }
+    {
+        if self.known {
+            self.read_known(script, rows, index, buffer)
+        } else {
+            self.untouched(Error::NoCard)
+        }
+    }
+}
