@@ -32,6 +32,7 @@ use Rattle.bus.specs.Transfer.{blockingData}
 use Rattle.init.specs.declared.settings.Settings.{Settings}
 use Rattle.init.specs.Initialise.{sourceOf, limitOf, noCard, initialise}
 use Rattle.host.specs.declared.host.Called.{Called}
+use Rattle.host.specs.declared.host.Held.{Held}
 use Rattle.host.specs.declared.host.Made.{Made}
 use Rattle.host.specs.declared.host.Sdmmc.{Sdmmc}
 
@@ -197,6 +198,13 @@ statusFrom host s l = served host (appCommand (limitOf (host .settings)) (host .
 
 unfoldable pub statusCame : Sdmmc → List ℕ → List ℕ → Came
 statusCame host s l = cond (host .known) (statusFrom host s l) (untouched host E.NoCard l)
+
+-- What a host holds of its card: 16 where it has none.
+
+abbrev pub heldOf : Sdmmc → Held
+heldOf host =
+    cond (host .known) (record { answer = Answered.Accepted; card = host .card })
+    (record { answer = Answered.Refused E.NoCard; card = noCard })
 
 -- Making. The answer, and the host: zeros where it is refused.
 

@@ -5,7 +5,7 @@ ghost use mathlib.Core.List.{List};
 ghost use Prim.Native.Nat.{ℕ};
 ghost use Rattle.types.specs.Leaf.{clockOf};
 ghost use Rattle.tape.specs.Run.{at};
-ghost use Rattle.host.specs.Calls.{freshLine, hostOf, noHost, clockedHost, made, ends, calledOf, untouched};
+ghost use Rattle.host.specs.Calls.{freshLine, hostOf, noHost, clockedHost, made, ends, calledOf, untouched, heldOf};
 use init::identify;
 use init::settings::Settings;
 use tape::progress::Halt;
@@ -33,6 +33,12 @@ pub struct Sdmmc {
 pub struct Made {
     pub answer: Answer,
     pub host: Sdmmc,
+}
+
+// The record that a host holds, zeros where it holds none.
+pub struct Held {
+    pub answer: Answer,
+    pub card: Card,
 }
 
 // What a call comes to: its answer, the words it used of its script, the rows it wrote, and the next host.
@@ -147,6 +153,39 @@ impl Sdmmc {
                 host: no_host(),
             },
         }
+    }
+
+    // The record of the card.
+    pub fn card(self) -> Held
+        ensures { λ r. ⌜ r ≡ heldOf self ⌝ }
+    {
+        let card = self.card;
+        if self.known {
+            Held {
+                answer: Answer::Accepted,
+                card: card,
+            }
+        } else {
+            Held {
+                answer: Answer::Refused(Error::NoCard),
+                card: identify::no_card(),
+            }
+        }
+    }
+
+    // The frequency of the card clock.
+    pub fn clock(self) -> Hertz
+        ensures { λ r. ⌜ r ≡ self .line .clock ⌝ }
+    {
+        let line = self.line;
+        line.clock
+    }
+
+    pub fn signalling(self) -> Signalling
+        ensures { λ r. ⌜ r ≡ self .line .signalling ⌝ }
+    {
+        let line = self.line;
+        line.signalling
     }
 
     // The host with this line and record.
