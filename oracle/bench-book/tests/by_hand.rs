@@ -1,0 +1,238 @@
+//! Books written by hand, with what they must print.
+
+use oracle_bench_book::{book, trace, MOST_ROOM};
+use oracle_driver::right::Host;
+
+/// A command that is idle and complete at once, with its echo and first word.
+fn short(index: u32, word: u32) -> Vec<u32> {
+    vec![0, 0x40, index, word, 0, 0, 0]
+}
+
+/// The same without an echo: R2 and R3.
+fn long(words: [u32; 4]) -> Vec<u32> {
+    [vec![0, 0x40], words.to_vec()].concat()
+}
+
+/// The idle wait of a data phase, its command and the poll that completes.
+fn data(index: u32, words: &[u32]) -> Vec<u32> {
+    [vec![0], short(index, 0), vec![0, 0, 0x100, 0, 0], words.to_vec()].concat()
+}
+
+/// A card of high capacity with 2,048 blocks, one line, version 0.
+fn good_card() -> Vec<u32> {
+    [
+        vec![0],
+        vec![0, 0x80],
+        short(8, 0x1aa),
+        short(55, 0x20),
+        long([0xc030_0000, 0, 0, 0]),
+        long([1, 2, 3, 4]),
+        short(3, 0x1234_0000),
+        long([0x4000_0032, 0x0009_0000, 0x0001_0000, 0]),
+        short(7, 0),
+        short(13, 0x900),
+        short(55, 0x20),
+        data(51, &[0x0000_0500, 0]),
+        short(13, 0x900),
+        short(55, 0x20),
+        short(6, 0),
+        vec![0],
+    ]
+    .concat()
+}
+
+/// Source 8 MHz, all limits 1, one line.
+fn print(calls: &[(u32, u32, u32, Vec<u32>)], room: usize) -> String {
+    let mut words = vec![8_000_000, 1, 1, 1, 1, 0, calls.len() as u32];
+    for (kind, a, b, script) in calls {
+        words.extend([*kind, *a, *b, script.len() as u32]);
+    }
+    words.extend(calls.iter().flat_map(|call| &call.3));
+    let mut text = Vec::new();
+    trace::<Host>(&book::bytes(&words), room, &mut text);
+    String::from_utf8(text).unwrap()
+}
+
+fn rows(rows: &[(u32, u32)]) -> String {
+    rows.iter()
+        .map(|(register, value)| format!("row {register} {value}\n"))
+        .collect()
+}
+
+const RCA: u32 = 0x1234_0000;
+const RESET: [(u32, u32); 10] = [
+    (9, 0),
+    (10, 0),
+    (7, 0),
+    (4, 0),
+    (1, 0),
+    (2, 0),
+    (3, 0),
+    (5, 0),
+    (6, 0),
+    (8, 0x00c0_07ff),
+];
+const STOP: [(u32, u32); 3] = [(9, 0), (7, 0), (8, 0x73a)];
+
+/// ICR, ARG and CMD; wait kind 1.
+fn command(index: u32, argument: u32) -> Vec<(u32, u32)> {
+    vec![(8, 0xc5), (3, argument), (4, index + 64 + 1024)]
+}
+
+fn waits_long(index: u32, argument: u32) -> Vec<(u32, u32)> {
+    vec![(8, 0xc5), (3, argument), (4, index + 192 + 1024)]
+}
+
+fn record(status: &str) -> String {
+    let cid = "00000001000000020000000300000004";
+    let csd = "40000032000900000001000000000000";
+    format!("SDHC,c0300000,1234,{cid},{csd},0005000000000000,{status},2048")
+}
+
+fn no_status() -> String {
+    vec!["00000000"; 16].join(":")
+}
+
+#[test]
+fn a_good_card_is_initialised() {
+    let text = print(&[(1, 25_000_000, 0, good_card())], MOST_ROOM);
+    let expected = [
+        RESET.to_vec(),
+        vec![(2, 18), (1, 3), (2, 18 + 256), (11, 20 * 80)],
+        vec![(8, 0xc5), (3, 0), (4, 1024)],
+        command(8, 0x1aa),
+        command(55, 0),
+        command(41, 0x4030_0000),
+        waits_long(2, 0),
+        command(3, 0),
+        waits_long(9, RCA),
+        command(7, RCA),
+        command(13, RCA),
+        command(55, RCA),
+        vec![(10, 0)],
+        STOP.to_vec(),
+        vec![(5, 1), (6, 8), (7, 9 + 2 + 16 * 3), (2, 18 + 256)],
+        command(51, 0),
+        STOP.to_vec(),
+        command(13, RCA),
+        command(55, RCA),
+        command(6, 0),
+        vec![(2, 0)],
+    ]
+    .concat();
+    let head = "host answer 0\nstate clock=400000 signalling=SDR12 gated=0 clkcr=0 record=none\n";
+    let line = format!("1 answer 0 words 100 rows {}\n", expected.len());
+    let state = format!(
+        "state clock=4000000 signalling=SDR12 gated=1 clkcr=0 record={}\n",
+        record(&no_status())
+    );
+    assert_eq!(text, format!("{head}{line}{}{state}", rows(&expected)));
+}
+
+/// What follows the first call's state line.
+fn second(call: (u32, u32, u32, Vec<u32>)) -> String {
+    let text = print(&[(1, 25_000_000, 0, good_card()), call], MOST_ROOM);
+    let at = text.find("\n2 answer").expect("a second call") + 1;
+    text[at..].to_owned()
+}
+
+fn gated(rows: Vec<(u32, u32)>) -> Vec<(u32, u32)> {
+    [vec![(2, 256)], rows, vec![(2, 0)]].concat()
+}
+
+#[test]
+fn a_block_is_read() {
+    let words: Vec<u32> = (0..128).map(|word| 0x0403_0201 + word).collect();
+    let script = [short(13, 0x900), data(17, &words), short(13, 0x900)].concat();
+    let expected = [
+        gated(command(13, RCA)),
+        vec![(10, 0)],
+        STOP.to_vec(),
+        vec![(5, 1), (6, 512), (7, 9 + 2 + 16 * 9), (2, 256)],
+        command(17, 5),
+        STOP.to_vec(),
+        vec![(2, 0)],
+        gated(command(13, RCA)),
+    ]
+    .concat();
+    let bytes: String = words
+        .iter()
+        .flat_map(|word| word.to_le_bytes())
+        .map(|byte| format!("{byte:02x}"))
+        .collect();
+    let line = format!("2 answer 0 words {} rows {}\n", script.len(), expected.len());
+    let state = format!(
+        "state clock=4000000 signalling=SDR12 gated=1 clkcr=0 record={}\n",
+        record(&no_status())
+    );
+    let text = format!("{line}{}{state}block {bytes}\n", rows(&expected));
+    assert_eq!(second((2, 5, 1, script)), text);
+}
+
+#[test]
+fn the_status_is_read_and_kept() {
+    let words: Vec<u32> = (1..=16).collect();
+    let script = [short(55, 0x20), data(13, &words), short(13, 0x900)].concat();
+    let text = second((3, 0, 0, script));
+    // Word 0 is the last one sent, its bytes turned round.
+    let status: Vec<String> = (1..=16u32)
+        .rev()
+        .map(|word| format!("{:08x}", word.swap_bytes()))
+        .collect();
+    let status = status.join(":");
+    assert!(text.starts_with("2 answer 0 words "));
+    assert!(text.contains(&format!("record={}\n", record(&status))));
+    assert!(text.ends_with(&format!("\nstatus {status}\n")));
+}
+
+#[test]
+fn a_locked_card_in_the_first_ready_wait_keeps_the_record() {
+    let text = second((2, 0, 1, short(13, 0x0200_0900)));
+    let expected = rows(&gated(command(13, RCA)));
+    let state = format!(
+        "state clock=4000000 signalling=SDR12 gated=1 clkcr=0 record={}\n",
+        record(&no_status())
+    );
+    assert_eq!(text, format!("2 answer 11 words 7 rows 5\n{expected}{state}"));
+}
+
+#[test]
+fn an_error_in_the_data_command_carries_its_word_and_drops_the_record() {
+    let script = [short(13, 0x900), vec![0], short(17, 0x8000_0900)].concat();
+    let text = second((2, 0, 1, script));
+    let end = format!(
+        "{}carried 80000900\nstate clock=4000000 signalling=SDR12 gated=1 clkcr=0 record=none\n",
+        rows(&RESET)
+    );
+    assert!(text.starts_with("2 answer 10 words 15 rows 26\n"));
+    assert!(text.ends_with(&end));
+}
+
+#[test]
+fn dcount_is_not_read_while_words_remain() {
+    let script = [short(13, 0x900), vec![0], short(17, 0), vec![0, 0, 0x100, 1, 0]].concat();
+    let text = second((2, 0, 1, script));
+    assert!(text.starts_with("2 answer 8 words 19 "), "{text}");
+}
+
+#[test]
+fn a_card_pulled_out_leaves_the_host_as_before() {
+    let text = second((2, 0, 1, vec![0, 0x40]));
+    let expected = rows(&[vec![(2, 256)], command(13, RCA)].concat());
+    let state = format!(
+        "state clock=4000000 signalling=SDR12 gated=1 clkcr=0 record={}\n",
+        record(&no_status())
+    );
+    assert_eq!(text, format!("2 answer 21 words 2 rows 4\n{expected}{state}"));
+}
+
+#[test]
+fn little_room_is_told_at_its_row() {
+    let text = print(&[(1, 25_000_000, 0, good_card())], 12);
+    let expected = rows(&[RESET.to_vec(), vec![(2, 18), (1, 3)]].concat());
+    let state = "state clock=400000 signalling=SDR12 gated=0 clkcr=0 record=none\n";
+    assert_eq!(
+        text,
+        format!("host answer 0\n{state}1 answer 22 words 1 rows 12\n{expected}{state}")
+    );
+}

@@ -1,0 +1,254 @@
+//! The coverage table.
+
+use std::collections::BTreeMap;
+use std::fmt::Debug;
+use std::io::{self, Write};
+
+use oracle_bench_book::Fault;
+use oracle_model::coverage::Coverage;
+use oracle_model::expected::{self, Site};
+use oracle_model::generate;
+use oracle_model::rng::Rng;
+use oracle_model::walk::Place;
+
+use crate::written;
+
+const KINDS: [&str; 3] = ["initialise", "read", "status"];
+
+pub fn coverage(seed: u64, count: u64) -> Result<(), String> {
+    let mut coverage = Coverage::default();
+    for k in 1..=count {
+        coverage.add(&generate::book(seed, k), &mut Rng::nth(!seed, k));
+    }
+    let mut table = Table {
+        text: String::new(),
+        cells: 0,
+        empty: Vec::new(),
+    };
+    table.all(&coverage);
+    written(io::stdout().lock().write_all(table.text.as_bytes()))?;
+    let unknown: Vec<_> = unexpected(&coverage).collect();
+    match unknown.is_empty() {
+        true => Ok(()),
+        false => Err(format!("oracle: arms that no list has: {unknown:?}")),
+    }
+}
+
+fn unexpected(coverage: &Coverage) -> impl Iterator<Item = (&'static str, &'static str)> + '_ {
+    let known = expected::arms();
+    coverage.arms.keys().copied().filter(move |arm| !known.contains(arm))
+}
+
+struct Table {
+    text: String,
+    /// Cells that can be reached, and those that were not.
+    cells: usize,
+    empty: Vec<String>,
+}
+
+impl Table {
+    fn line(&mut self, text: &str) {
+        self.text.push_str(text.trim_end());
+        self.text.push('\n');
+    }
+
+    /// Counts a cell that can be reached.
+    fn cell<K: Ord + Debug>(&mut self, counts: &BTreeMap<K, u64>, key: K) -> u64 {
+        self.cells += 1;
+        let count = counts.get(&key).copied().unwrap_or(0);
+        if count == 0 {
+            self.empty.push(format!("{key:?}"));
+        }
+        count
+    }
+
+    fn all(&mut self, coverage: &Coverage) {
+        let calls: u64 = coverage.calls.values().sum();
+        self.line(&format!(
+            "books {}, bytes {}, calls {calls}, books with an accepted initialisation {}",
+            coverage.books, coverage.bytes, coverage.far
+        ));
+        self.answers(coverage);
+        self.making(coverage);
+        self.accepted(coverage);
+        self.commands(coverage);
+        self.data_phases(coverage);
+        self.own_causes(coverage);
+        self.ends(coverage);
+        let reached = self.cells - self.empty.len();
+        self.line(&format!(
+            "\nreached {reached} of {} cells that can be reached",
+            self.cells
+        ));
+        for empty in std::mem::take(&mut self.empty) {
+            self.line(&format!("not reached: {empty}"));
+        }
+    }
+
+    fn answers(&mut self, coverage: &Coverage) {
+        self.line("\ncalls by kind and answer (18, 23 and 17 of a host stand below)");
+        self.line("answer  initialise        read      status");
+        for answer in 0..=21 {
+            let count = |kind| coverage.calls.get(&(kind, answer)).copied().unwrap_or(0);
+            let counts = KINDS.map(count);
+            if counts != [0; 3] {
+                self.line(&format!(
+                    "{answer:6} {:11} {:11} {:11}",
+                    counts[0], counts[1], counts[2]
+                ));
+            }
+        }
+    }
+
+    fn making(&mut self, coverage: &Coverage) {
+        self.line("\nbooks refused (23)");
+        let faults = [
+            Fault::NoWholeWords,
+            Fault::TooManyWords,
+            Fault::CutShort,
+            Fault::Flags,
+            Fault::Attempts,
+            Fault::NumberOfCalls,
+            Fault::Kind,
+            Fault::NotZero,
+            Fault::TooManyBlocks,
+            Fault::ScriptLengths,
+        ];
+        for fault in faults {
+            let count = self.cell(&coverage.bad_books, fault);
+            self.line(&format!("{count:8} {fault:?}"));
+        }
+        self.line("\nhosts refused");
+        let causes = [
+            "18 a setting is 0",
+            "18 a setting is 0, source refused too",
+            "17 source 0",
+            "17 source 1",
+            "17 source over 102,800,000",
+        ];
+        for cause in causes {
+            let count = self.cell(&coverage.hosts_refused, cause);
+            self.line(&format!("{count:8} {cause}"));
+        }
+    }
+
+    fn accepted(&mut self, coverage: &Coverage) {
+        self.line("\naccepted initialisations");
+        let columns = ["SDR12", "SDR25"]
+            .into_iter()
+            .flat_map(|speed| ["narrow", "wide"].map(|lines| (speed, lines)))
+            .flat_map(|(speed, lines)| ["divided", "bypass"].map(|clock| (speed, lines, clock)));
+        let columns: Vec<_> = columns.collect();
+        for part in [0, 1, 2] {
+            let names = columns.iter().map(|column| [column.0, column.1, column.2][part]);
+            let names: String = names.map(|name| format!("{name:>9}")).collect();
+            self.line(&format!("{:26}{names}", ""));
+        }
+        let classes = [
+            "SDSC version 1",
+            "SDSC version 2",
+            "SDHC",
+            "SDXC",
+            "high capacity, version 1",
+        ];
+        for class in classes {
+            let mut text = format!("{class:26}");
+            for &(speed, lines, clock) in &columns {
+                let count = self.cell(&coverage.accepted, (class, speed, lines, clock));
+                text.push_str(&format!("{count:9}"));
+            }
+            self.line(&text);
+        }
+        self.line("\naccepted reads");
+        for how_many in ["one block", "many blocks"] {
+            let count = self.cell(&coverage.reads, how_many);
+            self.line(&format!("{count:8} {how_many}"));
+        }
+    }
+
+    fn row(&mut self, coverage: &Coverage, site: &Site, causes: &[&'static str], can: impl Fn(&str) -> bool) {
+        let mut text = format!("{:20}", site.name);
+        for cause in causes {
+            let cell = match can(cause) {
+                true => self.cell(&coverage.arms, (site.name, *cause)).to_string(),
+                false => "-".to_owned(),
+            };
+            text.push_str(&format!("{cell:>9}"));
+        }
+        self.line(&text);
+    }
+
+    fn commands(&mut self, coverage: &Coverage) {
+        self.line("\nrefused in a command (idle: its idle wait spent; spent: never completed)");
+        let names: String = expected::COMMAND
+            .iter()
+            .map(|cause| format!("{:>9}", short(cause)))
+            .collect();
+        self.line(&format!("{:20}{names}", ""));
+        for site in expected::SITES.iter().filter(|site| !site.command.is_empty()) {
+            self.row(coverage, site, &expected::COMMAND, |cause| {
+                site.command.contains(&cause)
+            });
+        }
+    }
+
+    fn data_phases(&mut self, coverage: &Coverage) {
+        self.line("\nrefused in a data phase (1 and 2: first and second place of a poll)");
+        let phases: Vec<_> = expected::SITES.iter().filter(|site| site.data).collect();
+        let names: String = phases.iter().map(|site| format!("{:>12}", site.name)).collect();
+        self.line(&format!("{:14}{names}", ""));
+        for cause in expected::DATA {
+            let mut text = format!("{cause:14}");
+            for site in &phases {
+                let count = self.cell(&coverage.arms, (site.name, cause));
+                text.push_str(&format!("{count:12}"));
+            }
+            self.line(&text);
+        }
+    }
+
+    fn own_causes(&mut self, coverage: &Coverage) {
+        self.line("\nrefused for a cause of its own");
+        for site in expected::SITES {
+            for cause in site.own {
+                let count = self.cell(&coverage.arms, (site.name, *cause));
+                self.line(&format!("{count:8} {}: {cause}", site.name));
+            }
+        }
+    }
+
+    fn ends(&mut self, coverage: &Coverage) {
+        self.line("\nscript ended (21), by the reading that found no word");
+        self.line(&format!("{:14}{:>11}{:>11}{:>11}", "", KINDS[0], KINDS[1], KINDS[2]));
+        let places = [
+            Place::Idle,
+            Place::Sent,
+            Place::Echo,
+            Place::Words,
+            Place::FirstStatus,
+            Place::FirstDma,
+            Place::SecondStatus,
+            Place::SecondDma,
+            Place::Dcount,
+            Place::Data,
+        ];
+        for place in places {
+            let counts = KINDS.map(|kind| self.cell(&coverage.ended, (kind, place)));
+            let name = format!("{place:?}");
+            self.line(&format!("{name:14}{:11}{:11}{:11}", counts[0], counts[1], counts[2]));
+        }
+        self.line("\ntrace full (22) with less room than a call needs, by the register without room");
+        self.line(&format!("{:14}{:>11}{:>11}{:>11}", "", KINDS[0], KINDS[1], KINDS[2]));
+        for register in 1..=11 {
+            let counts = KINDS.map(|kind| self.cell(&coverage.full, (kind, register)));
+            self.line(&format!(
+                "{register:<14}{:11}{:11}{:11}",
+                counts[0], counts[1], counts[2]
+            ));
+        }
+    }
+}
+
+fn short(cause: &str) -> &str {
+    cause.strip_suffix(" bits").unwrap_or(cause)
+}

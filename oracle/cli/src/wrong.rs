@@ -1,0 +1,87 @@
+//! Shows that the generated books and leaf inputs catch the wrong hosts.
+
+use std::panic::{catch_unwind, set_hook, take_hook};
+
+use oracle_bench_book::{trace, MOST_ROOM};
+use oracle_driver::{right, switchable, wrong, Host};
+use oracle_model::leaves::{each, Leaf};
+use oracle_model::{generate, rng::Rng};
+
+pub const SEED: u64 = 1;
+pub const COUNT: u64 = 4_000;
+
+/// Random leaf inputs of each kind.
+const LEAVES: u64 = 2_000;
+
+struct Case {
+    book: Vec<u8>,
+    /// Rows of room in the second run, so that 22 is met as well.
+    room: usize,
+    /// What the right host prints in both runs.
+    right: Vec<u8>,
+}
+
+fn both<H: Host>(book: &[u8], room: usize) -> Vec<u8> {
+    let mut text = Vec::new();
+    trace::<H>(book, MOST_ROOM, &mut text);
+    trace::<H>(book, room, &mut text);
+    text
+}
+
+fn case(seed: u64, k: u64) -> Case {
+    let book = generate::book(seed, k);
+    let room = Rng::nth(seed ^ 0x5eed, k).below(120) as usize;
+    let right = both::<right::Host>(&book, room);
+    Case { book, room, right }
+}
+
+/// Where a switched host first differs from the right one.
+fn caught(which: u16, cases: &[Case], leaves: &[(Leaf, u64)]) -> Option<String> {
+    let differs = |case: &Case| {
+        let run = || wrong::with(which, || both::<switchable::Host>(&case.book, case.room));
+        // A host that panics has been found out as well.
+        catch_unwind(run).map_or(true, |text| text != case.right)
+    };
+    if let Some(at) = cases.iter().position(differs) {
+        return Some(format!("book {}", at + 1));
+    }
+    let leaf = leaves.iter().find(|(leaf, right)| {
+        let run = || wrong::with(which, || leaf.answer::<switchable::Leaves>());
+        catch_unwind(run).map_or(true, |answer| answer != *right)
+    });
+    leaf.map(|(leaf, _)| format!("leaf {leaf:?}"))
+}
+
+pub fn wrong(seed: u64, count: u64) -> Result<(), String> {
+    let cases: Vec<Case> = (1..=count).map(|k| case(seed, k)).collect();
+    let mut leaves = Vec::new();
+    each(seed, LEAVES, |leaf| leaves.push((leaf, leaf.answer::<right::Leaves>())));
+    if let Some(place) = caught(0, &cases, &leaves) {
+        return Err(format!(
+            "oracle: the switchable host differs with no switch on: {place}"
+        ));
+    }
+    println!(
+        "with no switch on: equal on {count} books and {} leaf inputs",
+        leaves.len()
+    );
+
+    let hook = take_hook();
+    set_hook(Box::new(|_| {}));
+    let found: Vec<_> = wrong::ALL
+        .iter()
+        .map(|(which, ..)| caught(*which, &cases, &leaves))
+        .collect();
+    set_hook(hook);
+
+    for ((_, name, what), place) in wrong::ALL.iter().zip(&found) {
+        let place = place.as_deref().unwrap_or("NOT CAUGHT");
+        println!("{name}: {what}: {place}");
+    }
+    let missed = found.iter().filter(|place| place.is_none()).count();
+    println!("{} of {} wrong hosts caught", found.len() - missed, found.len());
+    match missed {
+        0 => Ok(()),
+        _ => Err(format!("oracle: {missed} wrong hosts not caught")),
+    }
+}

@@ -1,0 +1,106 @@
+//! A DMA channel answered from the script.
+//!
+//! One word serves both the error and the running bit (bit 31, bit 30); its low
+//! 16 bits are the remaining count. `has_error`, which the driver always asks
+//! first, takes the word; the other two look at the word last taken.
+
+use core::marker::PhantomData;
+
+use embassy_hal_internal::{Peri, PeripheralType};
+
+use crate::bench::{self, Reading};
+use crate::wrong;
+
+pub type Request = ();
+
+#[allow(dead_code)]
+pub enum Priority {
+    VeryHigh,
+}
+
+#[allow(dead_code)]
+pub struct TransferOptions {
+    pub priority: Priority,
+    pub circular: bool,
+    pub half_transfer_ir: bool,
+    pub complete_transfer_ir: bool,
+    pub peripheral_increment: bool,
+    pub memory_to_memory: bool,
+}
+
+pub trait Channel: PeripheralType + 'static {}
+
+#[derive(Clone, Copy)]
+pub struct AnyChannel;
+
+impl PeripheralType for AnyChannel {}
+impl Channel for AnyChannel {}
+
+pub struct Transfer<'a> {
+    word: u32,
+    /// What a read fills; a write has none.
+    buffer: Option<&'a mut [u32]>,
+    held: PhantomData<&'a ()>,
+}
+
+impl<'a> Transfer<'a> {
+    /// # Safety
+    /// None is needed here; upstream asks for it.
+    pub unsafe fn new_read_checked<C: Channel>(
+        _channel: Peri<'a, C>,
+        _request: Request,
+        _from: *mut u32,
+        buffer: &'a mut [u32],
+        _options: TransferOptions,
+    ) -> Self {
+        Self {
+            word: 0,
+            buffer: Some(buffer),
+            held: PhantomData,
+        }
+    }
+
+    /// # Safety
+    /// None is needed here; upstream asks for it.
+    pub unsafe fn new_write_checked<C: Channel>(
+        _channel: Peri<'a, C>,
+        _request: Request,
+        _buffer: &'a [u32],
+        _to: *mut u32,
+        _options: TransferOptions,
+    ) -> Self {
+        Self {
+            word: 0,
+            buffer: None,
+            held: PhantomData,
+        }
+    }
+
+    pub fn has_error(&mut self) -> bool {
+        self.word = bench::read(Reading::Dma);
+        self.word >> 31 != 0
+    }
+
+    pub fn is_running(&mut self) -> bool {
+        self.word >> 30 & 1 != 0
+    }
+
+    pub fn get_remaining_transfers(&self) -> u16 {
+        if wrong::is(wrong::REMAINING_IN_EIGHT_BITS) {
+            return self.word as u8 as u16;
+        }
+        self.word as u16
+    }
+
+    /// The data words arrive, straight after the poll that completes.
+    pub fn land(&mut self) {
+        for (place, slot) in self.buffer.iter_mut().flat_map(|words| words.iter_mut()).enumerate() {
+            let word = bench::read(Reading::Data(place as u16));
+            *slot = if wrong::is(wrong::DATA_BIG_ENDIAN) {
+                word.swap_bytes()
+            } else {
+                word
+            };
+        }
+    }
+}

@@ -1,0 +1,91 @@
+//! What a caller of the oracle sees: settings, calls, outcomes and the state of
+//! a host, in document 01's words.
+
+use crate::bench::{Event, Feed};
+
+#[derive(Clone, Copy, Debug, Eq, PartialEq)]
+pub struct Settings {
+    pub source: u32,
+    pub poll_limit: u32,
+    pub ready_attempts: u16,
+    pub data_timeout: u32,
+    pub software_timeout: u32,
+    pub bypass: bool,
+    pub wide: bool,
+}
+
+#[derive(Clone, Copy, Debug, Eq, Hash, PartialEq)]
+pub enum Call {
+    Initialise { frequency: u32 },
+    Read { index: u32, blocks: usize },
+    Status,
+}
+
+/// The numbers of answers that lie outside the driver.
+pub const SCRIPT_ENDED: u8 = 21;
+pub const TRACE_FULL: u8 = 22;
+pub const BAD_BOOK: u8 = 23;
+
+#[derive(Clone, Debug, Eq, PartialEq)]
+pub struct Outcome {
+    /// 0 accepted, else the number of the refusal.
+    pub answer: u8,
+    /// The card status word of answer 10, else 0.
+    pub carried: u32,
+    pub words_used: usize,
+    pub rows: Vec<(u32, u32)>,
+    /// Of an accepted status call.
+    pub status: Option<[u32; 16]>,
+    /// The bytes of an accepted read, else none.
+    pub blocks: Vec<u8>,
+    /// The script, or what a live card gave.
+    pub script: Vec<u32>,
+    /// Only of a watched call.
+    pub events: Vec<Event>,
+}
+
+#[derive(Clone, Copy, Debug, Eq, PartialEq)]
+pub struct Record {
+    pub high_capacity: bool,
+    pub ocr: u32,
+    pub rca: u16,
+    pub cid: u128,
+    pub csd: u128,
+    pub scr: u64,
+    pub status: [u32; 16],
+    pub blocks: u64,
+}
+
+#[derive(Clone, Copy, Debug, Eq, PartialEq)]
+pub struct State {
+    pub clock: u32,
+    pub sdr25: bool,
+    pub gated: bool,
+    pub clkcr: u32,
+    pub record: Option<Record>,
+}
+
+/// A host: the right one, or one with a wrong switch on.
+pub trait Host: Sized {
+    type Snapshot: Clone;
+
+    /// The host, or the number with which it is refused.
+    fn make(settings: &Settings) -> Result<Self, u8>;
+    fn call(&mut self, call: Call, feed: Feed<'_>, room: usize, watched: bool) -> Outcome;
+    fn state(&self) -> State;
+    fn snapshot(&self) -> Self::Snapshot;
+    fn restore(&mut self, before: &Self::Snapshot);
+}
+
+/// The plain functions of the types, as number of the answer times 2^56 plus
+/// the value (0 where refused).
+pub trait Leaves {
+    /// Value: bypass times 2^40, divisor field times 2^32, frequency.
+    fn clock(source: u32, requested: u32, bypass: bool) -> u64;
+    fn count(high: u64, low: u64) -> u64;
+    fn rate(byte: u8) -> u64;
+    fn address(high_capacity: bool, blocks: u64, index: u32, count: usize) -> u64;
+    /// The number alone.
+    fn data_error(status: u32) -> u8;
+    fn size(blocks: u64) -> u64;
+}

@@ -1,0 +1,256 @@
+//! Compiled as a child of the driver's module (of each of its two copies), so
+//! that it sees the fields and functions that the driver keeps to itself. The
+//! driver's own text stays as it is for that.
+
+use std::panic::{catch_unwind, resume_unwind, AssertUnwindSafe};
+
+use sdio_host::{CardCapacity, SDStatus, CID, CSD, OCR, SCR};
+
+use super::{types, Card, Config, DataBlock, Error, Sdmmc, Signalling};
+use crate::bench::{self, Feed, Registers, Stop};
+use crate::dma::AnyChannel;
+use crate::gpio::AnyPin;
+use crate::host::{self, Call, Outcome, Record, Settings, State};
+use crate::interrupt::Nobody;
+use crate::time::Hertz;
+use crate::{peripherals, wrong, Peri};
+
+type Driver = Sdmmc<'static, peripherals::SDIO, AnyChannel>;
+
+pub struct Host {
+    driver: Driver,
+    source: u32,
+    registers: Registers,
+}
+
+/// All that a host holds between calls. Registers count as part of it.
+#[derive(Clone)]
+pub struct Snapshot {
+    clock: Hertz,
+    signalling: Signalling,
+    card: Option<Card>,
+    gated: bool,
+    registers: Registers,
+}
+
+impl host::Host for Host {
+    type Snapshot = Snapshot;
+
+    fn make(settings: &Settings) -> Result<Self, u8> {
+        bench::set_source(settings.source);
+        let config = Config {
+            data_transfer_timeout: settings.data_timeout,
+            software_timeout_ms: settings.software_timeout,
+            poll_limit: settings.poll_limit,
+            card_ready_attempts: settings.ready_attempts,
+            allow_clock_bypass: settings.bypass,
+        };
+        let driver = drive(config, settings.wide).map_err(|error| number(error).0)?;
+        // The driver makes a host at 1 Hz, whose clock is 0 Hz; its first delay
+        // divides by that. Document 01 refuses it here.
+        if settings.source == 1 {
+            return Err(number(Error::BadClock).0);
+        }
+        Ok(Self {
+            driver,
+            source: settings.source,
+            registers: Registers::default(),
+        })
+    }
+
+    fn call(&mut self, call: Call, feed: Feed<'_>, room: usize, watched: bool) -> Outcome {
+        let before = self.snapshot();
+        bench::begin(self.source, self.registers, feed, room, watched);
+        let ended = catch_unwind(AssertUnwindSafe(|| self.run(call)));
+        let kept = bench::finish();
+        self.registers = kept.registers;
+        let mut outcome = Outcome {
+            answer: 0,
+            carried: 0,
+            words_used: kept.used,
+            rows: kept.rows,
+            status: None,
+            blocks: Vec::new(),
+            script: kept.words,
+            events: kept.events,
+        };
+        match ended {
+            Ok(Ok((status, blocks))) => {
+                outcome.status = status;
+                outcome.blocks = blocks;
+            }
+            Ok(Err(error)) => (outcome.answer, outcome.carried) = number(error),
+            Err(payload) => {
+                outcome.answer = match payload.downcast_ref() {
+                    Some(Stop::ScriptEnded) => host::SCRIPT_ENDED,
+                    Some(Stop::TraceFull) => host::TRACE_FULL,
+                    None => resume_unwind(payload),
+                };
+                if wrong::is(wrong::STOPPED_HOST_NOT_RESTORED) {
+                    return outcome;
+                }
+                let registers = self.registers;
+                self.restore(&before);
+                if wrong::is(wrong::STOPPED_CLKCR_NOT_RESTORED) {
+                    self.registers = registers;
+                }
+            }
+        }
+        outcome
+    }
+
+    fn state(&self) -> State {
+        let record = self.driver.card().ok().map(|card| Record {
+            high_capacity: card.card_type == CardCapacity::SDHC,
+            ocr: card.ocr.0,
+            rca: card.rca,
+            cid: card.cid.0,
+            csd: card.csd.0,
+            scr: card.scr.0,
+            status: card.status.inner,
+            blocks: card.block_count,
+        });
+        State {
+            clock: self.driver.clock().0,
+            sdr25: self.driver.signalling() == Signalling::SDR25,
+            gated: self.driver.gated,
+            clkcr: self.registers[bench::CLKCR],
+            record,
+        }
+    }
+
+    fn snapshot(&self) -> Snapshot {
+        Snapshot {
+            clock: self.driver.clock,
+            signalling: self.driver.signalling,
+            card: self.driver.card,
+            gated: self.driver.gated,
+            registers: self.registers,
+        }
+    }
+
+    fn restore(&mut self, before: &Snapshot) {
+        self.driver.clock = before.clock;
+        self.driver.signalling = before.signalling;
+        self.driver.card = before.card;
+        self.driver.gated = before.gated;
+        self.registers = before.registers;
+    }
+}
+
+type Given = (Option<[u32; 16]>, Vec<u8>);
+
+impl Host {
+    fn run(&mut self, call: Call) -> Result<Given, Error> {
+        match call {
+            Call::Initialise { frequency } => {
+                self.driver.blocking_init_card(Hertz(frequency))?;
+                Ok((None, Vec::new()))
+            }
+            Call::Read { index, blocks } => {
+                // A pattern that no script is likely to hold, so that a byte
+                // left unwritten would show.
+                let mut buffer = vec![DataBlock([0xa5; 512]); blocks];
+                self.driver.blocking_read_blocks(index, &mut buffer)?;
+                Ok((None, buffer.iter().flat_map(|block| block.0).collect()))
+            }
+            Call::Status => {
+                let status = self.driver.blocking_read_sd_status()?;
+                Ok((Some(status.inner), Vec::new()))
+            }
+        }
+    }
+}
+
+fn drive(config: Config, wide: bool) -> Result<Driver, Error> {
+    let pin = || Peri::make(AnyPin);
+    let peri = Peri::make(peripherals::SDIO);
+    let dma = Peri::make(AnyChannel);
+    if wide {
+        Driver::new_4bit::<0>(peri, Nobody, dma, pin(), pin(), pin(), pin(), pin(), pin(), config)
+    } else {
+        Driver::new_1bit::<0>(peri, Nobody, dma, pin(), pin(), pin(), config)
+    }
+}
+
+/// Document 01's number of an answer, and the word that number 10 carries.
+fn number(error: Error) -> (u8, u32) {
+    let number = match error {
+        Error::Timeout => 1,
+        Error::SoftwareTimeout => 2,
+        Error::Crc => 3,
+        Error::StBitErr => 4,
+        Error::Overrun => 5,
+        Error::Underrun => 6,
+        Error::Dma => 7,
+        Error::IncompleteTransfer => 8,
+        Error::ResponseMismatch => 9,
+        Error::CardStatus(word) => return (10, word),
+        Error::CardLocked => 11,
+        Error::UnsupportedCardVersion => 12,
+        Error::UnsupportedCardType => 13,
+        Error::UnsupportedBusWidth => 14,
+        Error::SignalingSwitchFailed => 15,
+        Error::NoCard => 16,
+        Error::BadClock => 17,
+        Error::InvalidConfig => 18,
+        Error::InvalidBufferLength => 19,
+        Error::AddressOutOfRange => 20,
+    };
+    (number, 0)
+}
+
+/// The plain functions of the types.
+pub struct Leaves;
+
+fn packed<T: Into<u64>>(result: Result<T, Error>) -> u64 {
+    match result {
+        Ok(value) => value.into(),
+        Err(error) => u64::from(number(error).0) << 56,
+    }
+}
+
+fn card(high_capacity: bool, block_count: u64) -> Card {
+    Card {
+        card_type: if high_capacity {
+            CardCapacity::SDHC
+        } else {
+            CardCapacity::SDSC
+        },
+        ocr: OCR(0),
+        rca: 0,
+        cid: CID(0),
+        csd: CSD(0),
+        scr: SCR(0),
+        status: SDStatus::default(),
+        block_count,
+    }
+}
+
+impl host::Leaves for Leaves {
+    fn clock(source: u32, requested: u32, bypass: bool) -> u64 {
+        packed(types::clock_setting(Hertz(source), requested, bypass).map(|clock| {
+            u64::from(clock.bypass) << 40 | u64::from(clock.divisor) << 32 | u64::from(clock.frequency.0)
+        }))
+    }
+
+    fn count(high: u64, low: u64) -> u64 {
+        packed(types::block_count(u128::from(high) << 64 | u128::from(low)))
+    }
+
+    fn rate(byte: u8) -> u64 {
+        packed(types::transfer_rate(byte))
+    }
+
+    fn address(high_capacity: bool, blocks: u64, index: u32, count: usize) -> u64 {
+        packed(types::block_address(&card(high_capacity, blocks), index, count))
+    }
+
+    fn data_error(status: u32) -> u8 {
+        types::data_error(status).map_or_else(|error| number(error).0, |()| 0)
+    }
+
+    fn size(blocks: u64) -> u64 {
+        card(false, blocks).size()
+    }
+}

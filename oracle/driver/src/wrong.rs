@@ -1,0 +1,30 @@
+//! The switch of the wrong hosts. At most one is on, and none while the right
+//! host runs.
+
+use std::cell::Cell;
+
+// One constant for each wrong host, and ALL: number, name, what is wrong.
+include!(concat!(env!("OUT_DIR"), "/wrongs.rs"));
+
+thread_local! {
+    static ON: Cell<u16> = const { Cell::new(0) };
+}
+
+#[inline]
+pub fn is(which: u16) -> bool {
+    ON.get() == which
+}
+
+/// Runs with one wrong host switched on (0: none), and off again whatever
+/// happens.
+pub fn with<R>(which: u16, act: impl FnOnce() -> R) -> R {
+    struct Off;
+    impl Drop for Off {
+        fn drop(&mut self) {
+            ON.set(0);
+        }
+    }
+    let _off = Off;
+    ON.set(which);
+    act()
+}

@@ -1,0 +1,157 @@
+//! Names the arm that refused a call: the step and the cause.
+
+use oracle_driver::bench::{Event, Reading};
+use oracle_driver::{Call, Outcome};
+
+use crate::walk::{Place, Walk};
+
+/// Step and cause, as the coverage table has them.
+pub type Arm = (&'static str, &'static str);
+
+/// The arm of a call that a reading or a setting refused (1 to 20). `again`
+/// runs the same call from the same host on another script.
+pub fn refused(call: Call, outcome: &Outcome, again: impl Fn(&[u32]) -> Vec<Event>) -> Arm {
+    match (outcome.answer, call) {
+        (16, Call::Read { .. }) => return ("read", "no card"),
+        (16, _) => return ("status", "no card"),
+        (19, _) => return ("read", "no blocks"),
+        (20, _) => return ("read", "past the card"),
+        (17, Call::Initialise { frequency: 0 }) => return ("initialise", "asked for 0 Hz"),
+        (17, _) if outcome.rows.is_empty() => return ("initialise", "asked for over 50 MHz"),
+        _ => {}
+    }
+    let mut walk = Walk::new(call);
+    let Some((place, site)) = walk.through(&outcome.events) else {
+        return ("a step", "unknown");
+    };
+    match (place, outcome.answer) {
+        (Place::Idle, 2) => idle(call, outcome, again),
+        (Place::Sent, 1) => (site, "timeout"),
+        (Place::Sent, 2) => (site, "spent"),
+        (Place::Sent, 3) => (site, "CRC"),
+        (Place::Echo, 9) => (site, "echo"),
+        (Place::Words, answer) => words(site, answer, outcome),
+        (Place::FirstStatus, answer) => (site, in_data(answer, true)),
+        (Place::SecondStatus, answer) => (site, in_data(answer, false)),
+        (Place::FirstDma, 7) => (site, "1: DMA"),
+        (Place::SecondDma, 7) => (site, "2: DMA"),
+        (Place::FirstDma, 2) => (site, "running"),
+        (Place::SecondDma, 2) => (site, "not ended"),
+        (Place::SecondDma, 8) => (site, "remaining"),
+        (Place::Dcount, 8) => (site, "DCOUNT"),
+        _ => (site, "unknown"),
+    }
+}
+
+/// An idle wait does not say what it waits for: the same call is run with the
+/// last status idle, and the row that then comes tells.
+fn idle(call: Call, outcome: &Outcome, again: impl Fn(&[u32]) -> Vec<Event>) -> Arm {
+    let used = outcome.words_used;
+    let mut script = outcome.script[..used].to_vec();
+    script[used - 1] = 0;
+    // Enough for the idle wait of a data phase's own command.
+    script.push(0);
+    let mut walk = Walk::new(call);
+    let mut words = 0;
+    let mut next = None;
+    for event in again(&script) {
+        match event {
+            Event::Word(reading, word) => {
+                walk.word(reading, word);
+                words += 1;
+            }
+            Event::Row(register, value) if words >= used => {
+                next = next.or(Some((register, walk.site)));
+                walk.row(register, value);
+                if register == 4 {
+                    break;
+                }
+            }
+            Event::Row(register, value) => walk.row(register, value),
+            _ => {}
+        }
+    }
+    match next {
+        Some((8, _)) => (walk.site, "idle"),
+        Some((10, _)) => (walk.site, "data idle"),
+        Some((2, "nothing")) => ("first clock", "idle"),
+        Some((2, "ACMD6")) => ("second clock", "idle"),
+        Some((2, "CMD13 after switch")) => ("third clock", "idle"),
+        _ => (walk.site, "unknown"),
+    }
+}
+
+/// Refused once all words of an answer were read.
+fn words(site: &'static str, answer: u8, outcome: &Outcome) -> Arm {
+    match (site, answer) {
+        ("CMD8", 12) => (site, "version"),
+        ("ACMD41", 13) => (site, "voltage"),
+        ("ACMD41", 2) => (site, "attempts"),
+        ("CMD3", 9) => (site, "RCA 0"),
+        ("CMD9", 13) => (site, csd(outcome)),
+        ("CMD13 after ACMD51", 14) => ("SCR", width(outcome)),
+        ("ACMD6", 13) => ("CSD", "rate"),
+        ("ACMD6", 17) => ("second clock", "too slow"),
+        ("CMD13 after switch", 15) => ("CMD6 switch", "not switched"),
+        (_, 13) => (site, "not taken"),
+        (_, 10) => (site, "error bits"),
+        (_, 11) => (site, "locked"),
+        (_, 2) => (site, "attempts"),
+        _ => (site, "unknown"),
+    }
+}
+
+/// OCR and CSD disagree, or the CSD itself is refused.
+fn csd(outcome: &Outcome) -> &'static str {
+    let high = first_word_of(outcome, 41) >> 30 & 1 == 1;
+    match (high, first_word_of(outcome, 9) >> 30) {
+        (true, 0) => "OCR high, CSD 0",
+        (true, 2 | 3) => "OCR high, CSD over 1",
+        (false, 1) => "OCR standard, CSD 1",
+        (false, 0) => "block length",
+        (false, _) => "CSD version",
+        (true, _) => "unknown",
+    }
+}
+
+/// The first word of the last answer to a command.
+pub fn first_word_of(outcome: &Outcome, index: u32) -> u32 {
+    let mut command = 0;
+    let mut answer = 0;
+    for event in &outcome.events {
+        match event {
+            Event::Row(4, value) => command = value & 0x3f,
+            Event::Word(Reading::Response(0), word) if command == index => answer = *word,
+            _ => {}
+        }
+    }
+    answer
+}
+
+fn width(outcome: &Outcome) -> &'static str {
+    let data = outcome.events.iter().find_map(|event| match event {
+        Event::Word(Reading::Data(0), word) => Some(*word),
+        _ => None,
+    });
+    // The bytes are sent top first: byte 1 holds bits 55 to 48.
+    match data.map(|word| word >> 8 & 1) {
+        Some(0) => "no one-bit bus",
+        _ => "no four-bit bus",
+    }
+}
+
+fn in_data(answer: u8, first: bool) -> &'static str {
+    match (answer, first) {
+        (1, true) => "1: timeout",
+        (3, true) => "1: CRC",
+        (5, true) => "1: overrun",
+        (6, true) => "1: underrun",
+        (4, true) => "1: start bit",
+        (1, false) => "2: timeout",
+        (3, false) => "2: CRC",
+        (5, false) => "2: overrun",
+        (6, false) => "2: underrun",
+        (4, false) => "2: start bit",
+        _ => "unknown",
+    }
+}

@@ -1,0 +1,167 @@
+//! Counts what a pile of books reaches.
+
+use std::collections::BTreeMap;
+
+use oracle_bench_book::{Book, Fault, MOST_ROOM};
+use oracle_driver::bench::{Event, Feed};
+use oracle_driver::host::{SCRIPT_ENDED, TRACE_FULL};
+use oracle_driver::right::Host;
+use oracle_driver::{Call, Host as _, Outcome, State};
+
+use crate::arms::{self, Arm};
+use crate::rng::Rng;
+use crate::walk::{Place, Walk};
+
+/// Above 32 GiB a card of high capacity is called SDXC.
+const MOST_SDHC: u64 = 67_108_864;
+
+/// Class, signalling, lines, bypass.
+pub type Accepted = (&'static str, &'static str, &'static str, &'static str);
+
+#[derive(Default)]
+pub struct Coverage {
+    pub books: u64,
+    pub bytes: u64,
+    /// Books with an accepted initialisation.
+    pub far: u64,
+    /// Calls by kind and answer.
+    pub calls: BTreeMap<(&'static str, u8), u64>,
+    pub bad_books: BTreeMap<Fault, u64>,
+    pub hosts_refused: BTreeMap<&'static str, u64>,
+    pub accepted: BTreeMap<Accepted, u64>,
+    pub reads: BTreeMap<&'static str, u64>,
+    pub arms: BTreeMap<Arm, u64>,
+    /// Where scripts ended: kind of call and of reading.
+    pub ended: BTreeMap<(&'static str, Place), u64>,
+    /// Which row found no room, in runs with little room.
+    pub full: BTreeMap<(&'static str, u32), u64>,
+}
+
+pub fn kind(call: Call) -> &'static str {
+    match call {
+        Call::Initialise { .. } => "initialise",
+        Call::Read { .. } => "read",
+        Call::Status => "status",
+    }
+}
+
+fn count<K: Ord>(table: &mut BTreeMap<K, u64>, key: K) {
+    *table.entry(key).or_default() += 1;
+}
+
+impl Coverage {
+    pub fn add(&mut self, bytes: &[u8], rng: &mut Rng) {
+        self.books += 1;
+        self.bytes += bytes.len() as u64;
+        let book = match Book::read(bytes) {
+            Ok(book) => book,
+            Err(fault) => return count(&mut self.bad_books, fault),
+        };
+        let settings = book.settings;
+        let Ok(mut host) = Host::make(&settings) else {
+            let zero = settings.poll_limit == 0
+                || settings.ready_attempts == 0
+                || settings.data_timeout == 0
+                || settings.software_timeout == 0;
+            let why = match (zero, settings.source) {
+                (true, 2..=102_800_000) => "18 a setting is 0",
+                (true, _) => "18 a setting is 0, source refused too",
+                (_, 0) => "17 source 0",
+                (_, 1) => "17 source 1",
+                _ => "17 source over 102,800,000",
+            };
+            return count(&mut self.hosts_refused, why);
+        };
+        let mut far = false;
+        for entry in &book.entries {
+            let before = host.snapshot();
+            let outcome = host.call(entry.call, Feed::Script(&entry.script), MOST_ROOM, true);
+            let state = host.state();
+            let initialised = outcome.answer == 0 && matches!(entry.call, Call::Initialise { .. });
+            far |= initialised;
+            if initialised {
+                count(&mut self.accepted, accepted(&outcome, &state));
+            }
+            let mut again = |script: &[u32], room: usize| {
+                let after = host.snapshot();
+                host.restore(&before);
+                let outcome = host.call(entry.call, Feed::Script(script), room, true);
+                host.restore(&after);
+                outcome
+            };
+            self.little_room(entry.call, &outcome, &mut again, rng);
+            let again = std::cell::RefCell::new(again);
+            self.call(entry.call, &outcome, |script| {
+                (again.borrow_mut())(script, MOST_ROOM).events
+            });
+        }
+        self.far += u64::from(far);
+    }
+
+    fn call(&mut self, call: Call, outcome: &Outcome, again: impl Fn(&[u32]) -> Vec<Event>) {
+        count(&mut self.calls, (kind(call), outcome.answer));
+        match (outcome.answer, call) {
+            (0, Call::Read { blocks, .. }) => {
+                let how_many = if blocks == 1 { "one block" } else { "many blocks" };
+                count(&mut self.reads, how_many);
+            }
+            (0, _) => {}
+            (SCRIPT_ENDED, _) => {
+                let mut walk = Walk::new(call);
+                walk.through(&outcome.events);
+                if let Some(Event::Ended(reading)) = outcome.events.last() {
+                    count(&mut self.ended, (kind(call), walk.place(*reading)));
+                }
+            }
+            _ => count(&mut self.arms, arms::refused(call, outcome, again)),
+        }
+    }
+
+    /// The same call with less room than it needs.
+    fn little_room(
+        &mut self,
+        call: Call,
+        outcome: &Outcome,
+        again: &mut impl FnMut(&[u32], usize) -> Outcome,
+        rng: &mut Rng,
+    ) {
+        if outcome.rows.is_empty() {
+            return;
+        }
+        let room = rng.index(outcome.rows.len());
+        let less = again(&outcome.script, room);
+        assert!(less.answer == TRACE_FULL, "a room that is too small gives 22");
+        assert!(less.rows[..] == outcome.rows[..room], "rows so far stay");
+        if let Some(Event::Full(register)) = less.events.last() {
+            count(&mut self.full, (kind(call), *register));
+        }
+    }
+}
+
+/// What kind of card was taken, and how it is driven.
+fn accepted(outcome: &Outcome, state: &State) -> Accepted {
+    let record = state.record.expect("an accepted initialisation leaves a record");
+    // ACMD41 asks for high capacity only of a version 2 card.
+    let mut argument = 0;
+    let mut version2 = false;
+    for (register, value) in &outcome.rows {
+        match register {
+            3 => argument = *value,
+            4 if value & 0x3f == 41 => version2 = argument >> 30 & 1 == 1,
+            _ => {}
+        }
+    }
+    let class = match (record.high_capacity, version2) {
+        (false, false) => "SDSC version 1",
+        (false, true) => "SDSC version 2",
+        (true, false) => "high capacity, version 1",
+        (true, true) if record.blocks <= MOST_SDHC => "SDHC",
+        (true, true) => "SDXC",
+    };
+    (
+        class,
+        if state.sdr25 { "SDR25" } else { "SDR12" },
+        if state.clkcr & 0x800 != 0 { "wide" } else { "narrow" },
+        if state.clkcr & 0x400 != 0 { "bypass" } else { "divided" },
+    )
+}

@@ -1,0 +1,273 @@
+//! The calls, and what a host holds.
+
+use oracle_driver::bench::Feed;
+use oracle_driver::host::{self, Call, Outcome, Record, Settings, State};
+
+use crate::leaf::{address, bits, capacity, clock, rate};
+use crate::steps::{Bench, Kind};
+use crate::tape::{refuse, Step, Stop, Tape, DELAY, POWER};
+
+pub struct Host {
+    settings: Settings,
+    state: State,
+}
+
+/// What an accepted call gives.
+#[derive(Default)]
+struct Given {
+    status: Option<[u32; 16]>,
+    blocks: Vec<u8>,
+}
+
+impl host::Host for Host {
+    type Snapshot = State;
+
+    fn make(settings: &Settings) -> Result<Self, u8> {
+        let limits = [
+            settings.poll_limit,
+            settings.ready_attempts.into(),
+            settings.data_timeout,
+            settings.software_timeout,
+        ];
+        if limits.contains(&0) {
+            return Err(18);
+        }
+        if settings.source < 2 || settings.source > 102_800_000 {
+            return Err(17);
+        }
+        let Ok(first) = clock(settings.source, 400_000, false) else {
+            return Err(17);
+        };
+        Ok(Self {
+            settings: *settings,
+            state: State {
+                clock: first.frequency,
+                sdr25: false,
+                gated: false,
+                clkcr: 0,
+                record: None,
+            },
+        })
+    }
+
+    fn call(&mut self, call: Call, feed: Feed<'_>, room: usize, _watched: bool) -> Outcome {
+        let Feed::Script(script) = feed else {
+            unimplemented!("this host only follows scripts");
+        };
+        let before = self.state;
+        let mut tape = Tape::new(script, room, self.state.clkcr);
+        let ended = match call {
+            Call::Initialise { frequency } => self.initialise(&mut tape, frequency),
+            Call::Read { index, blocks } => self.read(&mut tape, index, blocks),
+            Call::Status => self.status(&mut tape),
+        };
+        self.state.clkcr = tape.clkcr;
+        let (answer, carried) = match ended {
+            Ok(_) => (0, 0),
+            Err(Stop::Refused(number, word)) => (number, word),
+            Err(Stop::ScriptEnded) => (host::SCRIPT_ENDED, 0),
+            Err(Stop::TraceFull) => (host::TRACE_FULL, 0),
+        };
+        if answer >= host::SCRIPT_ENDED {
+            self.state = before;
+        }
+        let given = ended.unwrap_or_default();
+        Outcome {
+            answer,
+            carried,
+            words_used: tape.used,
+            rows: tape.rows,
+            status: given.status,
+            blocks: given.blocks,
+            script: script.to_vec(),
+            events: Vec::new(),
+        }
+    }
+
+    fn state(&self) -> State {
+        self.state
+    }
+
+    fn snapshot(&self) -> State {
+        self.state
+    }
+
+    fn restore(&mut self, before: &State) {
+        self.state = *before;
+    }
+}
+
+impl Host {
+    fn bench<'t, 'a>(&self, tape: &'t mut Tape<'a>) -> Bench<'t, 'a> {
+        Bench {
+            tape,
+            set: self.settings,
+            gated: self.state.gated,
+        }
+    }
+
+    fn initialise(&mut self, tape: &mut Tape<'_>, frequency: u32) -> Step<Given> {
+        if frequency == 0 || frequency > 50_000_000 {
+            return refuse(17);
+        }
+        let within = self.initialise_within(tape, frequency);
+        tape.guarded(within)?;
+        Ok(Given::default())
+    }
+
+    fn initialise_within(&mut self, tape: &mut Tape<'_>, frequency: u32) -> Step<()> {
+        let source = self.settings.source;
+        self.state.record = None;
+        self.state.gated = false;
+        self.state.sdr25 = false;
+        self.state.clock = clock(source, 400_000, false)?.frequency;
+        tape.reset()?;
+        let mut bench = self.bench(tape);
+        bench.change_clock(400_000, false, false)?;
+        bench.tape.row(POWER, 3)?;
+        bench.tape.open_clock(true)?;
+        bench.tape.row(DELAY, source.div_ceil(self.state.clock) * 80)?;
+        bench.command(0, 0, Kind::None)?;
+        let version2 = card_version(&mut bench)?;
+        let ocr = power_up(&mut bench, version2)?;
+        let mut record = identify(&mut bench, ocr)?;
+        bench.ready(record.rca)?;
+        if !record.high_capacity {
+            bench.command(16, 512, Kind::R1)?;
+        }
+        bench.announce(record.rca)?;
+        let scr = bench.data(51, 0, 2, 3, record.rca)?;
+        record.scr = u64::from(scr[0].swap_bytes()) << 32 | u64::from(scr[1].swap_bytes());
+        let wide = self.settings.wide;
+        if record.scr >> 48 & 1 == 0 || wide && record.scr >> 50 & 1 == 0 {
+            return refuse(14);
+        }
+        bench.announce(record.rca)?;
+        bench.command(6, if wide { 2 } else { 0 }, Kind::R1)?;
+        let most = frequency.min(25_000_000).min(rate(bits(record.csd, 103, 96) as u8)?);
+        self.state.clock = bench.change_clock(most, self.settings.bypass, wide)?;
+        self.state.gated = true;
+        if frequency > 25_000_000 && record.scr >> 56 & 15 != 0 {
+            self.high_speed(tape, frequency, record.rca)?;
+        }
+        self.state.record = Some(record);
+        Ok(())
+    }
+
+    /// The switch to 50 MHz signalling, if the card has it to give.
+    fn high_speed(&mut self, tape: &mut Tape<'_>, frequency: u32, rca: u16) -> Step<()> {
+        let mut bench = self.bench(tape);
+        let byte = |words: &[u32], place: usize| words[place / 4] >> (8 * (place % 4)) & 255;
+        let check = bench.data(6, 0x00ff_fff1, 16, 6, rca)?;
+        if byte(&check, 13) & 2 == 0 || byte(&check, 29) & 2 != 0 {
+            return Ok(());
+        }
+        let switch = bench.data(6, 0x80ff_fff1, 16, 6, rca)?;
+        if byte(&switch, 16) % 16 != 1 {
+            return refuse(15);
+        }
+        let delay = self.settings.source.div_ceil(self.state.clock) * 8;
+        bench.tape.row(DELAY, delay)?;
+        self.state.clock = bench.change_clock(frequency, self.settings.bypass, self.settings.wide)?;
+        self.state.sdr25 = true;
+        Ok(())
+    }
+
+    fn record(&self) -> Step<Record> {
+        self.state.record.map_or(refuse(16), Ok)
+    }
+
+    /// A data phase that is refused takes the record with it; at 21 and 22 the
+    /// caller puts the host back.
+    fn data(&mut self, tape: &mut Tape<'_>, index: u32, argument: u32, words: usize, size: u32) -> Step<Vec<u32>> {
+        let rca = self.record()?.rca;
+        let result = self.bench(tape).data(index, argument, words, size, rca);
+        if result.is_err() {
+            self.state.record = None;
+        }
+        result
+    }
+
+    fn read(&mut self, tape: &mut Tape<'_>, index: u32, blocks: usize) -> Step<Given> {
+        let record = self.record()?;
+        let address = address(record.high_capacity, record.blocks, index, blocks)?;
+        self.bench(tape).ready(record.rca)?;
+        let command = if blocks == 1 { 17 } else { 18 };
+        let words = self.data(tape, command, address, 128 * blocks, 9)?;
+        Ok(Given {
+            status: None,
+            blocks: words.iter().flat_map(|word| word.to_le_bytes()).collect(),
+        })
+    }
+
+    fn status(&mut self, tape: &mut Tape<'_>) -> Step<Given> {
+        let rca = self.record()?.rca;
+        self.bench(tape).announce(rca)?;
+        let words = self.data(tape, 13, 0, 16, 6)?;
+        let status = std::array::from_fn(|place| words[15 - place].swap_bytes());
+        if let Some(record) = &mut self.state.record {
+            record.status = status;
+        }
+        Ok(Given {
+            status: Some(status),
+            blocks: Vec::new(),
+        })
+    }
+}
+
+/// "Only Timeout, or an answer whose 0xfdffe008 bits equal 0x00400000, means a
+/// version 1 card at CMD8."
+fn card_version(bench: &mut Bench<'_, '_>) -> Step<bool> {
+    match bench.command(8, 0x1aa, Kind::R7) {
+        Ok([0x1aa, ..]) => Ok(true),
+        Ok([word, ..]) if word & 0xfdff_e008 == 0x0040_0000 => Ok(false),
+        Ok(_) => refuse(12),
+        Err(Stop::Refused(1, _)) => Ok(false),
+        Err(other) => Err(other),
+    }
+}
+
+fn power_up(bench: &mut Bench<'_, '_>, version2: bool) -> Step<u32> {
+    for _ in 0..bench.set.ready_attempts {
+        bench.announce(0)?;
+        let ocr = bench.command(41, if version2 { 0x4030_0000 } else { 0x0030_0000 }, Kind::R3)?[0];
+        if ocr & 0x0030_0000 == 0 {
+            return refuse(13);
+        }
+        if ocr >> 31 == 1 {
+            return Ok(ocr);
+        }
+        bench.retry_delay()?;
+    }
+    refuse(2)
+}
+
+fn identify(bench: &mut Bench<'_, '_>, ocr: u32) -> Step<Record> {
+    let long = |words: [u32; 4]| {
+        words
+            .iter()
+            .fold(0, |number: u128, word| number << 32 | u128::from(*word))
+    };
+    let cid = long(bench.command(2, 0, Kind::R2)?);
+    let rca = (bench.command(3, 0, Kind::R6)?[0] >> 16) as u16;
+    if rca == 0 {
+        return refuse(9);
+    }
+    let csd = long(bench.command(9, u32::from(rca) << 16, Kind::R2)?);
+    let high_capacity = ocr >> 30 & 1 == 1;
+    if high_capacity != (bits(csd, 127, 126) == 1) {
+        return refuse(13);
+    }
+    let blocks = capacity(csd)?;
+    bench.command(7, u32::from(rca) << 16, Kind::R1)?;
+    Ok(Record {
+        high_capacity,
+        ocr,
+        rca,
+        cid,
+        csd,
+        scr: 0,
+        status: [0; 16],
+        blocks,
+    })
+}

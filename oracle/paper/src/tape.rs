@@ -1,0 +1,94 @@
+//! The script and the row list ("Script and rows").
+
+/// Why a call stops.
+#[derive(Clone, Copy, Debug, Eq, PartialEq)]
+pub enum Stop {
+    /// Number 1 to 20, and the word that number 10 carries.
+    Refused(u8, u32),
+    ScriptEnded,
+    TraceFull,
+}
+
+pub type Step<T> = Result<T, Stop>;
+
+pub fn refuse<T>(number: u8) -> Step<T> {
+    Err(Stop::Refused(number, 0))
+}
+
+pub const POWER: u32 = 1;
+pub const CLKCR: u32 = 2;
+pub const ARG: u32 = 3;
+pub const CMD: u32 = 4;
+pub const DTIMER: u32 = 5;
+pub const DLEN: u32 = 6;
+pub const DCTRL: u32 = 7;
+pub const ICR: u32 = 8;
+pub const MASK: u32 = 9;
+pub const DCTRL2: u32 = 10;
+pub const DELAY: u32 = 11;
+
+pub struct Tape<'a> {
+    script: &'a [u32],
+    pub used: usize,
+    pub rows: Vec<(u32, u32)>,
+    room: usize,
+    /// CLKCR reads back what was last written.
+    pub clkcr: u32,
+}
+
+impl<'a> Tape<'a> {
+    pub fn new(script: &'a [u32], room: usize, clkcr: u32) -> Self {
+        Self {
+            script,
+            used: 0,
+            rows: Vec::new(),
+            room,
+            clkcr,
+        }
+    }
+
+    pub fn take(&mut self) -> Step<u32> {
+        let word = self.script.get(self.used).ok_or(Stop::ScriptEnded)?;
+        self.used += 1;
+        Ok(*word)
+    }
+
+    pub fn row(&mut self, register: u32, value: u32) -> Step<()> {
+        if self.rows.len() == self.room {
+            return Err(Stop::TraceFull);
+        }
+        self.rows.push((register, value));
+        if register == CLKCR {
+            self.clkcr = value;
+        }
+        Ok(())
+    }
+
+    /// "CLKCR on and off change bit 256 of the last value alone."
+    pub fn open_clock(&mut self, on: bool) -> Step<()> {
+        let rest = self.clkcr - self.clkcr / 256 % 2 * 256;
+        self.row(CLKCR, rest + 256 * u32::from(on))
+    }
+
+    pub fn reset(&mut self) -> Step<()> {
+        for register in [MASK, DCTRL2, DCTRL, CMD, POWER, CLKCR, ARG, DTIMER, DLEN] {
+            self.row(register, 0)?;
+        }
+        self.row(ICR, 0x00c0_07ff)
+    }
+
+    pub fn stop_rows(&mut self) -> Step<()> {
+        self.row(MASK, 0)?;
+        self.row(DCTRL, 0)?;
+        self.row(ICR, 0x73a)
+    }
+
+    /// An `OnDrop` guard: what is refused within gets the reset rows; a script
+    /// that ended and a full trace do not.
+    pub fn guarded<T>(&mut self, within: Step<T>) -> Step<T> {
+        if let Err(Stop::Refused(..)) = within {
+            self.reset()?;
+        }
+        within
+    }
+}
