@@ -1,2 +1,4 @@
+pub mod Guards
 pub mod Laying
 pub mod Ran
+pub mod Refusals

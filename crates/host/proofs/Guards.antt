@@ -1,0 +1,228 @@
+-- What a guard leaves: a plan under it that is refused has written the ten reset rows last, with no word used for them.
+use Prim.Native.Nat.{ℕ, _+_, _≤_}
+use mathlib.Core.Bool.{Bool, true, false, cond}
+use mathlib.Core.List.{List, [], _∷_, _++_}
+use mathlib.Core.Path.{_≡_, refl, ap, sym, _∙_}
+use native.Mathlib.Omega.{arith}
+use native.Mathlib.Decide.{decLe}
+use lib.Dec.{ltb}
+use lib.ListN.{length, getD, take, drop}
+use borrow.Author.Tests.{le-ltb, lt-ltb}
+use Rattle.types.specs.declared.error.Error.{Error}
+use Rattle.tape.specs.declared.progress.Halt.the-variants.{Refused, ScriptEnded, TraceFull}
+use Rattle.tape.specs.declared.progress.Line.{Line}
+use Rattle.tape.specs.declared.progress.Pace.{Pace}
+use Rattle.tape.specs.declared.progress.Pace.the-variants.{Going, Stopped}
+use Rattle.tape.specs.declared.rows.Row.{Row}
+use Rattle.tape.specs.Laws.{run-handle}
+use Rattle.tape.specs.Plan.{Nothing, Cause, failed, Plan, give, refuse, read, write, look, hold, handle, _then_, refusing, guard}
+use Rattle.tape.specs.Room.{isFull, free, full-exactly, laid-between, run-fits}
+use Rattle.tape.specs.Rows.{ARG, CLKCR, CMD, DCTRL, DCTRL2, DLEN, DTIMER, ICR, MASK, POWER, placeOf, rowAt, roomOf, wordsOf}
+use Rattle.tape.specs.Run.{State, at, After, after, noted, run, runFrom, nextAt}
+use Rattle.tape.specs.Steps.{row, resetController}
+
+abbrev rowOf : ℕ → ℕ → Row
+rowOf register value = record { register = register; value = value }
+
+-- 'Reset rows, in order: MASK, DCTRL2, DCTRL, CMD, POWER, CLKCR, ARG, DTIMER, DLEN, all 0, then ICR 0x00c007ff'
+abbrev pub resetRows : List Row
+resetRows =
+    rowOf MASK 0 ∷ rowOf DCTRL2 0 ∷ rowOf DCTRL 0 ∷ rowOf CMD 0 ∷ rowOf POWER 0 ∷ rowOf CLKCR 0 ∷ rowOf ARG 0 ∷ rowOf DTIMER 0
+    ∷ rowOf DLEN 0 ∷ rowOf ICR 0x00c0_07ff ∷ []
+
+-- CLKCR reads 0 after them; clock, signalling and gate stand
+abbrev pub clkcrCleared : Line → Line
+clkcrCleared h = record { clkcr = 0; gated = h .gated; clock = h .clock; signalling = h .signalling }
+
+-- the reset rows in a list of which n rows are written
+abbrev pub resetLaid : List ℕ → ℕ → List ℕ
+resetLaid l n = take (placeOf n) l ++ wordsOf resetRows ++ drop (placeOf (n + 10)) l
+
+-- w′ is w and then the ten reset rows, all of them; no word is used, and it goes or has stopped as before
+pub record ThenReset (w w′ : State) : Type 0 where
+  pub room : w .progress .rows + 10 ≤ roomOf (w .list)
+  pub pace : w′ .progress .pace ≡ w .progress .pace
+  pub used : w′ .progress .used ≡ w .progress .used
+  pub rows : w′ .progress .rows ≡ w .progress .rows + 10
+  pub line : w′ .progress .line ≡ clkcrCleared (w .progress .line)
+  pub list : w′ .list ≡ resetLaid (w .list) (w .progress .rows)
+
+-- what the reset rows come to: all ten, or no room for them
+data Reset (s : List ℕ) (u n : ℕ) (h : Line) (l : List ℕ) : Type 0 where
+  whole : n + 10 ≤ roomOf l → run s (tt {0}) resetController u n h l ≡ after tt Going u (n + 10) (clkcrCleared h) (resetLaid l n) → Reset s u n h l
+  full : run s (tt {0}) resetController u n h l .state .progress .pace ≡ Stopped TraceFull → Reset s u n h l
+
+is-full : (q : Pace) → isFull q ≡ true → q ≡ Stopped TraceFull
+is-full Going e = let z : _≡_ {A = ℕ} 0 1 = cc in absurd (omega arith)
+is-full (Stopped (Refused x)) e = let z : _≡_ {A = ℕ} 0 1 = cc in absurd (omega arith)
+is-full (Stopped ScriptEnded) e = let z : _≡_ {A = ℕ} 0 1 = cc in absurd (omega arith)
+is-full (Stopped TraceFull) e = refl
+
+reset : (s : List ℕ) (u n : ℕ) (h : Line) (l : List ℕ) → Reset s u n h l
+unfolding resetController row handle run free noted
+reset s u n h l = by (decLe (n + 10) (roomOf l)) (decLe n (roomOf l))
+  where
+    by : Dec (n + 10 ≤ roomOf l) → Dec (n ≤ roomOf l) → Reset s u n h l
+    by (yes fits) before =
+        let x = free s (tt {0}) resetController u h in
+        whole fits
+        (run-fits s (tt {0}) resetController u n h l fits
+        ∙ ap (λ (k : List ℕ). after (tt {0}) Going u (n + 10) (clkcrCleared h) k) (laid-between l n (x .rows) fits))
+    by (no over) (yes before) =
+        full (is-full _ (full-exactly s (tt {0}) resetController u n h l before ∙ lt-ltb (roomOf l) (n + 10) (omega arith)))
+    by (no over) (no before) = full (rw (le-ltb n (roomOf l) (omega arith)))
+
+-- a plan was refused with e at w, and at w′ the reset rows have followed
+pub record Guarded (e : Error) (w w′ : State) : Type 0 where
+  pub refused : w .progress .pace ≡ Stopped (Refused e)
+  pub reset : ThenReset w w′
+
+module _ (s : List ℕ) {A : Type 0} (d : A) where
+  refusing-reset : (x e : Error) (w : State) → w .progress .pace ≡ Stopped (Refused x)
+      → runFrom s d (refusing resetController (failed x)) w .state .progress .pace ≡ Stopped (Refused e)
+      → Guarded e w (runFrom s d (refusing resetController (failed x)) w .state)
+  unfolding run nextAt
+  refusing-reset x e w g r = rw law (by (reset s u n (w .progress .line) (w .list)) (rw law at r))
+    where
+      u : ℕ
+      u = w .progress .used
+
+      n : ℕ
+      n = w .progress .rows
+
+      on : After Nothing → After A
+      on y = nextAt s d (λ (_ : Nothing). refuse (failed x)) refuse tt (y .state .progress .pace) (y .state)
+
+      law : runFrom s d (refusing resetController (failed x)) w ≡ on (runFrom s (tt {0}) resetController w)
+      law = run-handle s (tt {0}) d (λ _. refuse (failed x)) refuse resetController u n (w .progress .line) (w .list)
+
+      all : (y : After Nothing) → n + 10 ≤ roomOf (w .list) → y ≡ after tt Going u (n + 10) (clkcrCleared (w .progress .line)) (resetLaid (w .list) n)
+          → on y .state .progress .pace ≡ Stopped (Refused e) → Guarded e w (on y .state)
+      all y fits same r =
+          let r′ = rw same at r in
+          rw same
+          (record {
+            refused = g ∙ r′;
+            reset = record { room = fits; pace = sym g; used = refl; rows = refl; line = refl; list = refl };
+          })
+
+      short : (y : After Nothing) → y .state .progress .pace ≡ Stopped TraceFull
+          → on y .state .progress .pace ≡ Stopped (Refused e) → Guarded e w (on y .state)
+      short y f r = let r′ = rw f at r in let z : _≡_ {A = ℕ} 0 1 = cc in absurd (omega arith)
+
+      by : Reset s u n (w .progress .line) (w .list) → on (runFrom s (tt {0}) resetController w) .state .progress .pace ≡ Stopped (Refused e)
+          → Guarded e w (on (runFrom s (tt {0}) resetController w) .state)
+      by (whole fits same) r = all (runFrom s (tt {0}) resetController w) fits same r
+      by (full f) r = short (runFrom s (tt {0}) resetController w) f r
+
+  -- THE LAW of the guard: where a guarded plan is refused, the plan was, with the same error, and the reset rows followed
+  pub guard-refused : (p : Plan A) (u n : ℕ) (h : Line) (l : List ℕ) (e : Error)
+      → run s d (guard resetController p) u n h l .state .progress .pace ≡ Stopped (Refused e)
+      → Guarded e (run s d p u n h l .state) (run s d (guard resetController p) u n h l .state)
+  unfolding run nextAt
+  guard-refused p u n h l e r = rw law (by (y .state .progress .pace) refl (rw law at r))
+    where
+      y : After A
+      y = run s d p u n h l
+
+      law : run s d (guard resetController p) u n h l ≡ nextAt s d give (refusing resetController) (y .value) (y .state .progress .pace) (y .state)
+      law = run-handle s d d give (refusing resetController) p u n h l
+
+      by : (q : Pace) → y .state .progress .pace ≡ q
+          → nextAt s d give (refusing resetController) (y .value) q (y .state) .state .progress .pace ≡ Stopped (Refused e)
+          → Guarded e (y .state) (nextAt s d give (refusing resetController) (y .value) q (y .state) .state)
+      by Going g r = let z : _≡_ {A = ℕ} 0 1 = cc in absurd (omega arith)
+      by (Stopped (Refused x)) g r = refusing-reset x e (y .state) g r
+      by (Stopped ScriptEnded) g r = let z : _≡_ {A = ℕ} 0 1 = cc in absurd (omega arith)
+      by (Stopped TraceFull) g r = let z : _≡_ {A = ℕ} 0 1 = cc in absurd (omega arith)
+
+-- A plan inside another, reached by joins alone: q is begun at w′ on the way of p from w, and a refusal of q is one of p.
+pub data Inside (s : List ℕ) {B : Type 0} (d′ : B) (q : Plan B) (w′ : State) : (A : Type 0) → Plan A → State → Type 1 where
+  here : Inside s d′ q w′ B q w′
+  first : {A C : Type 0} (d : A) (p : Plan A) (f : A → Plan C) (w : State) → Inside s d′ q w′ A p w → Inside s d′ q w′ C (p then f) w
+  later : {A C : Type 0} (d : A) (p : Plan A) (f : A → Plan C) (w : State) → runFrom s d p w .state .progress .pace ≡ Going
+      → Inside s d′ q w′ C (f (runFrom s d p w .value)) (runFrom s d p w .state) → Inside s d′ q w′ C (p then f) w
+
+same-by : {X Y Z : Type 0} (f : X → Z) (g : Y → Z) (b : Bool) (x x′ : X) (y y′ : Y) → f x ≡ g y → f x′ ≡ g y′ → f (cond b x x′) ≡ g (cond b y y′)
+same-by f g true x x′ y y′ e e′ = e
+same-by f g false x x′ y y′ e e′ = e′
+
+-- what a plan gives where it stops is no part of where it stops
+same-state : (s : List ℕ) {A : Type 0} (d d′ : A) (p : Plan A) (u n : ℕ) (h : Line) (l : List ℕ) → run s d p u n h l .state ≡ run s d′ p u n h l .state
+unfolding run
+same-state s d d′ (give a) u n h l = refl
+same-state s d d′ (refuse c) u n h l = refl
+same-state s {A} d d′ (read r k z) u n h l =
+    same-by {X = After A} {Y = After A} (λ x. x .state) (λ x. x .state) (ltb u (length s)) _ _ _ _ (same-state s d d′ (k (getD s u 0)) (u + 1) n h l) refl
+same-state s {A} d d′ (write r p) u n h l =
+    same-by {X = After A} {Y = After A} (λ x. x .state) (λ x. x .state) (ltb n (roomOf l)) _ _ _ _ (same-state s d d′ p u (n + 1) (noted r h) (rowAt l n r)) refl
+same-state s d d′ (look k) u n h l = same-state s d d′ (k h) u n h l
+same-state s d d′ (hold h′ p) u n h l = same-state s d d′ p u n h′ l
+
+module _ (s : List ℕ) {B : Type 0} (d′ : B) (q : Plan B) (w′ : State) (x : Error) (r : runFrom s d′ q w′ .state .progress .pace ≡ Stopped (Refused x)) where
+  passed : {A C : Type 0} (d : C) (f : A → Plan C) (v : A) (w : State) → w .progress .pace ≡ Stopped (Refused x)
+      → nextAt s d f refuse v (w .progress .pace) w .state ≡ w
+  unfolding nextAt run
+  passed d f v w g = rw g (rw (← g))
+
+  went : {A C : Type 0} (d : C) (f : A → Plan C) (v : A) (w : State) → w .progress .pace ≡ Going
+      → nextAt s d f refuse v (w .progress .pace) w .state ≡ runFrom s d (f v) w .state
+  unfolding nextAt
+  went d f v w g = rw g
+
+  -- a refusal passes every join by
+  pub inside-refused : (A : Type 0) (p : Plan A) (w : State) (d : A) → Inside s d′ q w′ A p w → runFrom s d p w .state ≡ runFrom s d′ q w′ .state
+  unfolding nextAt
+  inside-refused A p w d here = same-state s d d′ q (w′ .progress .used) (w′ .progress .rows) (w′ .progress .line) (w′ .list)
+  inside-refused A p w d (first d₁ p₁ f w₁ i) =
+      let y = runFrom s d₁ p₁ w₁ in
+      let e = inside-refused _ p₁ w₁ d₁ i in
+      ap (λ (z : After A). z .state) (run-handle s d₁ d f refuse p₁ (w₁ .progress .used) (w₁ .progress .rows) (w₁ .progress .line) (w₁ .list))
+      ∙ passed d f (y .value) (y .state) (ap (λ (z : State). z .progress .pace) e ∙ r)
+      ∙ e
+  inside-refused A p w d (later d₁ p₁ f w₁ g i) =
+      let y = runFrom s d₁ p₁ w₁ in
+      ap (λ (z : After A). z .state) (run-handle s d₁ d f refuse p₁ (w₁ .progress .used) (w₁ .progress .rows) (w₁ .progress .line) (w₁ .list))
+      ∙ went d f (y .value) (y .state) g
+      ∙ inside-refused _ (f (y .value)) (y .state) d i
+
+-- What a plan gives, where it comes to its end.
+abbrev pub Yields : List ℕ → {A : Type 0} → (A → Type 0) → Plan A → Type 0
+Yields s {A} P p = (d : A) (u n : ℕ) (h : Line) (l : List ℕ) → run s d p u n h l .state .progress .pace ≡ Going → P (run s d p u n h l .value)
+
+module _ (s : List ℕ) {A : Type 0} (P : A → Type 0) where
+  pub yields-give : (a : A) → P a → Yields s P (give a)
+  unfolding run
+  yields-give a e d u n h l g = e
+
+  pub yields-refuse : (c : Cause) → Yields s P (refuse c)
+  unfolding run
+  yields-refuse c d u n h l g = let z : _≡_ {A = ℕ} 0 1 = cc in absurd (omega arith)
+
+  pub yields-handle : {B : Type 0} (d′ : B) (Q : B → Type 0) (f : B → Plan A) (g : Cause → Plan A) (p : Plan B)
+      → Yields s Q p → ((v : B) → Q v → Yields s P (f v)) → ((e : Error) → Yields s P (g (failed e))) → Yields s P (handle f g p)
+  unfolding nextAt
+  yields-handle {B} d′ Q f g p given next other d u n h l going = rw law (by (y .state .progress .pace) refl (rw law at going))
+    where
+      y : After B
+      y = run s d′ p u n h l
+
+      law : run s d (handle f g p) u n h l ≡ nextAt s d f g (y .value) (y .state .progress .pace) (y .state)
+      law = run-handle s d′ d f g p u n h l
+
+      by : (q : Pace) → y .state .progress .pace ≡ q
+          → nextAt s d f g (y .value) q (y .state) .state .progress .pace ≡ Going → P (nextAt s d f g (y .value) q (y .state) .value)
+      by Going e r =
+          next (y .value) (given d′ u n h l e) d (y .state .progress .used) (y .state .progress .rows) (y .state .progress .line) (y .state .list) r
+      by (Stopped (Refused x)) e r = other x d (y .state .progress .used) (y .state .progress .rows) (y .state .progress .line) (y .state .list) r
+      by (Stopped ScriptEnded) e r = let z : _≡_ {A = ℕ} 0 1 = cc in absurd (omega arith)
+      by (Stopped TraceFull) e r = let z : _≡_ {A = ℕ} 0 1 = cc in absurd (omega arith)
+
+  pub yields-then : {B : Type 0} (d′ : B) (p : Plan B) (f : B → Plan A) → ((v : B) → Yields s P (f v)) → Yields s P (p then f)
+  yields-then {B} d′ p f next =
+      yields-handle d′ (λ (_ : B). Unit {0}) f refuse p (λ d u n h l g. tt) (λ v _. next v) (λ e. yields-refuse (failed e))
+
+  pub yields-guard : A → (q : Plan Nothing) (p : Plan A) → Yields s P p → Yields s P (guard q p)
+  yields-guard d q p given =
+      yields-handle d P give (refusing q) p given (λ v e. yields-give v e)
+      (λ e. yields-then (tt {0}) q (λ _. refuse (failed e)) (λ _. yields-refuse (failed e)))
