@@ -1,0 +1,194 @@
+-- Document 01's table of refusals, lines 4 and 5: a read or a status call refused before its data phase, or in it.
+use Prim.Native.Nat.{ℕ, _*_, _-_, _/_, _%_}
+use mathlib.Core.Bool.{true}
+use mathlib.Core.List.{List, []}
+use mathlib.Core.Path.{_≡_, refl, _∙_}
+use native.Mathlib.Omega.{arith}
+use borrow.Author.Tests.{eq-eqb}
+use Rattle.types.specs.declared.card.AddressAnswer.the-variants as Address
+use Rattle.types.specs.declared.config.Config.{Config}
+use Rattle.types.specs.declared.error.Answer.the-variants as Answered
+use Rattle.types.specs.declared.error.Error.{Error}
+use Rattle.types.specs.Leaf.{addressOf}
+use Rattle.types.specs.Words.{sdStatusOf}
+use Rattle.tape.specs.declared.progress.Halt.the-variants.{Refused, ScriptEnded, TraceFull}
+use Rattle.tape.specs.declared.progress.Pace.{Pace}
+use Rattle.tape.specs.declared.progress.Pace.the-variants.{Going, Stopped}
+use Rattle.tape.specs.Plan.{Nothing, Plan}
+use Rattle.tape.specs.Run.{State, at, run, runFrom}
+use Rattle.tape.specs.declared.progress.Line.{Line}
+use Rattle.host.proofs.Guards.{guard-refused}
+use Rattle.host.proofs.Reset.{ends-refused, ends-accepted, ResetAfter, reset-after}
+use Rattle.bus.specs.declared.transfer.Transfer.{Transfer}
+use Rattle.bus.specs.Command.{appCommand}
+use Rattle.bus.specs.Ready.{waitReady}
+use Rattle.bus.specs.Transfer.{blockingData, transferData}
+use Rattle.init.specs.Initialise.{sourceOf, limitOf}
+use Rattle.host.specs.Calls.{came, holding, dropped, kept, ends}
+use Rattle.host.specs.Calls.{transferred, approached, served, readNext, readPlan, readTransfer, readFrom, readKnown, readCame}
+use Rattle.host.specs.Calls.{statusNext, statusPlan, statusTransfer, statusCame, withStatus}
+use Rattle.host.specs.declared.host.Sdmmc.{Sdmmc}
+
+-- Lines 4 and 5: a read and a status call have an approach (ready wait, CMD55) and a data phase.
+
+module _ (host : Sdmmc) (source : ℕ) (config : Config) (transfer : Transfer) (rca : ℕ) (next : State → List ℕ → Sdmmc) (s : List ℕ) where
+  data-refused : (w : State) (e : Error) → transferred host (blockingData source config transfer rca) next s w .answer ≡ Answered.Refused e
+      → ResetAfter e host (runFrom s [] (transferData source config transfer rca) w .state) (transferred host (blockingData source config transfer rca) next s w)
+  unfolding transferred blockingData
+  data-refused w e r =
+      let x = runFrom s [] (blockingData source config transfer rca) w in
+      let how = ends-refused host (dropped host (x .state)) (next (x .state) (x .value)) (x .value) (x .state) (x .state .progress .pace) e r in
+      reset-after
+      (guard-refused s [] (transferData source config transfer rca) (w .progress .used) (w .progress .rows) (w .progress .line) (w .list) e (how .0))
+      (how .1)
+
+-- a call with these two parts is refused in one of them: w is where its approach has come
+pub data RefusedIn (e : Error) (w : State) : Type 0 where
+  approach : w .progress .pace ≡ Stopped (Refused e) → RefusedIn e w
+  dataPhase : w .progress .pace ≡ Going → RefusedIn e w
+
+module _ (host : Sdmmc) (transfer : Plan (List ℕ)) (next : State → List ℕ → Sdmmc) (s : List ℕ) where
+  data-accepted : (w : State) → transferred host transfer next s w .answer ≡ Answered.Accepted
+      → transferred host transfer next s w
+      ≡ came Answered.Accepted (runFrom s [] transfer w .state) (runFrom s [] transfer w .value)
+      (next (runFrom s [] transfer w .state) (runFrom s [] transfer w .value))
+  unfolding transferred
+  data-accepted w r =
+      let x = runFrom s [] transfer w in
+      ends-accepted host (dropped host (x .state)) (next (x .state) (x .value)) (x .value) (x .state) (x .state .progress .pace) r .1
+
+  module _ (plan : Plan Nothing) (l : List ℕ) where
+    -- only a call whose approach went through is accepted
+    served-accepted : served host plan transfer next s l .answer ≡ Answered.Accepted → run s (tt {0}) plan 0 0 (host .line) l .state .progress .pace ≡ Going
+    unfolding served approached ends
+    served-accepted r = by (run s (tt {0}) plan 0 0 (host .line) l .state) (run s (tt {0}) plan 0 0 (host .line) l .state .progress .pace) r
+      where
+        by : (w : State) (q : Pace) → approached host transfer next s q w .answer ≡ Answered.Accepted → q ≡ Going
+        by w Going r = refl
+        by w (Stopped (Refused x)) r = let z : _≡_ {A = ℕ} 0 1 = cc in absurd (omega arith)
+        by w (Stopped ScriptEnded) r = let z : _≡_ {A = ℕ} 0 1 = cc in absurd (omega arith)
+        by w (Stopped TraceFull) r = let z : _≡_ {A = ℕ} 0 1 = cc in absurd (omega arith)
+
+    refused-in : (e : Error) → served host plan transfer next s l .answer ≡ Answered.Refused e → RefusedIn e (run s (tt {0}) plan 0 0 (host .line) l .state)
+    unfolding served approached ends
+    refused-in e r = by (run s (tt {0}) plan 0 0 (host .line) l .state .progress .pace) refl r
+      where
+        w : State
+        w = run s (tt {0}) plan 0 0 (host .line) l .state
+
+        by : (q : Pace) → w .progress .pace ≡ q → approached host transfer next s q w .answer ≡ Answered.Refused e → RefusedIn e w
+        by Going g r = dataPhase g
+        by (Stopped (Refused x)) g r = let same : x ≡ e = cc in approach (rw same at g)
+        by (Stopped ScriptEnded) g r = let z : _≡_ {A = ℕ} 0 1 = cc in absurd (omega arith)
+        by (Stopped TraceFull) g r = let z : _≡_ {A = ℕ} 0 1 = cc in absurd (omega arith)
+
+    early : (e : Error) → run s (tt {0}) plan 0 0 (host .line) l .state .progress .pace ≡ Stopped (Refused e)
+        → served host plan transfer next s l
+        ≡ came (Answered.Refused e) (run s (tt {0}) plan 0 0 (host .line) l .state) [] (kept host (run s (tt {0}) plan 0 0 (host .line) l .state))
+    unfolding served approached ends
+    early e g = rw g
+
+    goes-on : run s (tt {0}) plan 0 0 (host .line) l .state .progress .pace ≡ Going
+        → served host plan transfer next s l ≡ transferred host transfer next s (run s (tt {0}) plan 0 0 (host .line) l .state)
+    unfolding served approached
+    goes-on g = rw g
+
+module _ (host : Sdmmc) (index blocks address : ℕ) (s l : List ℕ) (known : host .known ≡ true) (place : addressOf (host .card .«card_type») (host .card .«block_count» .0) index blocks ≡ Address.Address address) where
+  -- where the ready wait of a read has come
+  abbrev pub readWait : State
+  readWait = run s (tt {0}) (waitReady (sourceOf (host .settings)) (host .settings .config) (host .card .rca)) 0 0 (host .line) l .state
+
+  -- where its data phase has come, before a refusal's reset rows
+  abbrev pub readSteps : State
+  readSteps = runFrom s [] (transferData (sourceOf (host .settings)) (host .settings .config) (readTransfer address blocks) (host .card .rca)) readWait .state
+
+  read-served : readCame host index (512 * blocks) s l
+      ≡ served host (waitReady (sourceOf (host .settings)) (host .settings .config) (host .card .rca)) (readPlan host address blocks) (readNext host) s l
+  unfolding readCame readKnown readFrom
+  read-served =
+      let whole : 512 * blocks % 512 ≡ 0 = omega arith in
+      let count : 512 * blocks / 512 ≡ blocks = omega arith in
+      rw (known, eq-eqb (512 * blocks % 512) 0 whole, count, place)
+
+  read-data : readWait .progress .pace ≡ Going
+      → readCame host index (512 * blocks) s l ≡ transferred host (readPlan host address blocks) (readNext host) s readWait
+  read-data g =
+      read-served
+      ∙ goes-on host (readPlan host address blocks) (readNext host) s
+      (waitReady (sourceOf (host .settings)) (host .settings .config) (host .card .rca)) l g
+
+  -- an accepted read: its data words, and the record as before
+  pub read-accepted : readCame host index (512 * blocks) s l .answer ≡ Answered.Accepted
+      → readCame host index (512 * blocks) s l
+      ≡ came Answered.Accepted (runFrom s [] (readPlan host address blocks) readWait .state) (runFrom s [] (readPlan host address blocks) readWait .value)
+      (kept host (runFrom s [] (readPlan host address blocks) readWait .state))
+  read-accepted r =
+      let g = served-accepted host (readPlan host address blocks) (readNext host) s
+      (waitReady (sourceOf (host .settings)) (host .settings .config) (host .card .rca)) l (rw read-served at r) in
+      read-data g ∙ data-accepted host (readPlan host address blocks) (readNext host) s readWait (rw (read-data g) at r)
+
+  -- a refused one: refused in its ready wait (line 4), or in its data phase (line 5)
+  pub read-refused-in : (e : Error) → readCame host index (512 * blocks) s l .answer ≡ Answered.Refused e → RefusedIn e readWait
+  read-refused-in e r =
+      refused-in host (readPlan host address blocks) (readNext host) s
+      (waitReady (sourceOf (host .settings)) (host .settings .config) (host .card .rca)) l e (rw read-served at r)
+
+  -- Line 4. 'Before the data phase of a read (ready wait): rows so far, record kept, no reset.'
+  pub read-early : (e : Error) → readWait .progress .pace ≡ Stopped (Refused e)
+      → readCame host index (512 * blocks) s l ≡ came (Answered.Refused e) readWait [] (kept host readWait)
+  read-early e g =
+      read-served
+      ∙ early host (readPlan host address blocks) (readNext host) s
+      (waitReady (sourceOf (host .settings)) (host .settings .config) (host .card .rca)) l e g
+
+  -- Line 5. 'In a data phase: reset rows, no record.'
+  pub read-refused-in-data : (e : Error) → readWait .progress .pace ≡ Going → readCame host index (512 * blocks) s l .answer ≡ Answered.Refused e
+      → ResetAfter e host readSteps (readCame host index (512 * blocks) s l)
+  read-refused-in-data e g r =
+      rw (read-data g)
+      (data-refused host (sourceOf (host .settings)) (host .settings .config) (readTransfer address blocks) (host .card .rca) (readNext host) s readWait e
+      (rw (read-data g) at r))
+
+module _ (host : Sdmmc) (s l : List ℕ) (known : host .known ≡ true) where
+  -- where CMD55 of a status call has come
+  abbrev pub status55 : State
+  status55 = run s (tt {0}) (appCommand (limitOf (host .settings)) (host .card .rca)) 0 0 (host .line) l .state
+
+  -- where its data phase has come, before a refusal's reset rows
+  abbrev pub statusSteps : State
+  statusSteps = runFrom s [] (transferData (sourceOf (host .settings)) (host .settings .config) statusTransfer (host .card .rca)) status55 .state
+
+  status-served : statusCame host s l ≡ served host (appCommand (limitOf (host .settings)) (host .card .rca)) (statusPlan host) (statusNext host) s l
+  unfolding statusCame
+  status-served = rw known
+
+  status-data : status55 .progress .pace ≡ Going → statusCame host s l ≡ transferred host (statusPlan host) (statusNext host) s status55
+  status-data g = status-served ∙ goes-on host (statusPlan host) (statusNext host) s (appCommand (limitOf (host .settings)) (host .card .rca)) l g
+
+  -- an accepted status call: no more than the record's status is changed, to the words that were read
+  pub status-accepted : statusCame host s l .answer ≡ Answered.Accepted
+      → statusCame host s l
+      ≡ came Answered.Accepted (runFrom s [] (statusPlan host) status55 .state) (runFrom s [] (statusPlan host) status55 .value)
+      (holding host (runFrom s [] (statusPlan host) status55 .state)
+      (withStatus (host .card) (sdStatusOf (runFrom s [] (statusPlan host) status55 .value))))
+  status-accepted r =
+      let g = served-accepted host (statusPlan host) (statusNext host) s (appCommand (limitOf (host .settings)) (host .card .rca)) l (rw status-served at r) in
+      status-data g ∙ data-accepted host (statusPlan host) (statusNext host) s status55 (rw (status-data g) at r)
+
+  -- a refused one: refused in its CMD55 (line 4), or in its data phase (line 5)
+  pub status-refused-in : (e : Error) → statusCame host s l .answer ≡ Answered.Refused e → RefusedIn e status55
+  status-refused-in e r =
+      refused-in host (statusPlan host) (statusNext host) s (appCommand (limitOf (host .settings)) (host .card .rca)) l e (rw status-served at r)
+
+  -- Line 4. 'Before the data phase of a status (CMD55): rows so far, record kept, no reset.'
+  pub status-early : (e : Error) → status55 .progress .pace ≡ Stopped (Refused e)
+      → statusCame host s l ≡ came (Answered.Refused e) status55 [] (kept host status55)
+  status-early e g = status-served ∙ early host (statusPlan host) (statusNext host) s (appCommand (limitOf (host .settings)) (host .card .rca)) l e g
+
+  -- Line 5. 'In a data phase: reset rows, no record.'
+  pub status-refused-in-data : (e : Error) → status55 .progress .pace ≡ Going → statusCame host s l .answer ≡ Answered.Refused e
+      → ResetAfter e host statusSteps (statusCame host s l)
+  status-refused-in-data e g r =
+      rw (status-data g)
+      (data-refused host (sourceOf (host .settings)) (host .settings .config) statusTransfer (host .card .rca) (statusNext host) s status55 e
+      (rw (status-data g) at r))

@@ -1,0 +1,156 @@
+-- Document 01's table of refusals, line 6, and what every call leaves as it was.
+use Prim.Native.Nat.{ℕ, _+_, _*_, _-_, _/_, _%_, min}
+use mathlib.Core.Bool.{false, _||_}
+use mathlib.Core.List.{List, []}
+use mathlib.Core.Path.{_≡_, refl, ap, sym, _∙_}
+use native.Mathlib.Omega.{arith}
+use lib.Dec.{eqb, ltb}
+use lib.ListN.{length, drop}
+use lib.Seq.{drop-drop}
+use Rattle.types.specs.declared.card.AddressAnswer.{AddressAnswer}
+use Rattle.types.specs.declared.card.AddressAnswer.the-variants as Address
+use Rattle.types.specs.declared.clock.ClockAnswer.{ClockAnswer}
+use Rattle.types.specs.declared.clock.ClockAnswer.the-variants as Clocked
+use Rattle.types.specs.declared.error.Answer.the-variants as Answered
+use Rattle.types.specs.declared.error.Error.{Error}
+use Rattle.types.specs.declared.error.Error.the-variants as E
+use Rattle.types.specs.Leaf.{addressOf, clockOf}
+use Rattle.types.specs.Words.{bytesOf}
+use Rattle.tape.specs.declared.progress.Halt.the-variants.{Refused, ScriptEnded, TraceFull}
+use Rattle.tape.specs.declared.progress.Pace.{Pace}
+use Rattle.tape.specs.declared.progress.Pace.the-variants.{Going, Stopped}
+use Rattle.tape.specs.Plan.{Nothing, Plan}
+use Rattle.tape.specs.Run.{State, at, run, runFrom}
+use Rattle.tape.specs.declared.progress.Line.{Line}
+use Rattle.tape.specs.Laws.{by-cases, from-going}
+use Rattle.tape.specs.Room.{Kept, keeps}
+use Rattle.host.proofs.Ran.{begun}
+use Rattle.bus.specs.Command.{appCommand}
+use Rattle.bus.specs.Ready.{waitReady}
+use Rattle.init.specs.Initialise.{sourceOf, limitOf, noCard}
+use Rattle.init.specs.Initialise.{initialise}
+use Rattle.host.specs.Calls.{Came, untouched, holding, dropped, kept, ends, freshLine, initFrom, initialised}
+use Rattle.host.specs.Calls.{transferred, approached, served, readNext, readPlan, readFrom, readKnown, readCame}
+use Rattle.host.specs.Calls.{statusNext, statusPlan, statusCame, bufferOf, blocksFilled, made}
+use Rattle.host.specs.declared.host.Sdmmc.{Sdmmc}
+
+-- Line 6. '21, 22: rows so far, host as before', and what follows the table: 'The block buffer is written only when the whole
+-- call is accepted. ... List words past those rows keep their contents.' Of every call, whatever its argument. (`Kept`, of
+-- the tape: the list is as long as it was, the rows are no more than there is room for, and the words past them stand.) The
+-- settings are those that the host was made with, so that its clock of identification is set (`identification-clock`).
+pub record Leaves (host : Sdmmc) (l : List ℕ) (x : Came) : Type 0 where
+  pub ended : x .answer ≡ Answered.ScriptEnded → x .host ≡ host
+  pub full : x .answer ≡ Answered.TraceFull → x .host ≡ host
+  pub taken : (x .answer ≡ Answered.Accepted → ⊥) → x .taken ≡ []
+  pub rows : Kept 0 l (x .rows) (x .list)
+  pub settings : x .host .settings ≡ host .settings
+
+untouched-leaves : (host : Sdmmc) (e : Error) (l : List ℕ) → Leaves host l (untouched host e l)
+untouched-leaves host e l =
+    record {
+      ended = λ r. refl;
+      full = λ r. refl;
+      taken = λ n. refl;
+      rows = record { more = omega arith; within = λ h. h; long = refl; before = refl; past = refl };
+      settings = refl;
+    }
+
+ends-leaves : (host refused accepted : Sdmmc) (words l : List ℕ) (q : Pace) (w : State) → refused .settings ≡ host .settings → accepted .settings ≡ host .settings
+    → Kept 0 l (w .progress .rows) (w .list) → Leaves host l (ends host refused accepted words q w)
+unfolding ends
+ends-leaves host refused accepted words l Going w sr sa k =
+    record {
+      ended = λ r. let z : _≡_ {A = ℕ} 0 1 = cc in absurd (omega arith);
+      full = λ r. let z : _≡_ {A = ℕ} 0 1 = cc in absurd (omega arith);
+      taken = λ n. absurd (n refl);
+      rows = k;
+      settings = sa;
+    }
+ends-leaves host refused accepted words l (Stopped (Refused x)) w sr sa k =
+    record {
+      ended = λ r. let z : _≡_ {A = ℕ} 0 1 = cc in absurd (omega arith);
+      full = λ r. let z : _≡_ {A = ℕ} 0 1 = cc in absurd (omega arith);
+      taken = λ n. refl;
+      rows = k;
+      settings = sr;
+    }
+ends-leaves host refused accepted words l (Stopped ScriptEnded) w sr sa k =
+    record { ended = λ r. refl; full = λ r. refl; taken = λ n. refl; rows = k; settings = refl }
+ends-leaves host refused accepted words l (Stopped TraceFull) w sr sa k =
+    record { ended = λ r. refl; full = λ r. refl; taken = λ n. refl; rows = k; settings = refl }
+
+-- a plan of a call that is going
+going-kept : (s : List ℕ) {A : Type 0} (d : A) (p : Plan A) (w : State) → w .progress .pace ≡ Going
+    → Kept (w .progress .rows) (w .list) (runFrom s d p w .state .progress .rows) (runFrom s d p w .state .list)
+going-kept s d p w g = keeps (from-going {s = s} {d = d} {p = p} {w = w} {v = runFrom s d p w .value} {w′ = runFrom s d p w .state} g refl)
+
+-- and then another
+kept-on : {l : List ℕ} {n : ℕ} {l₁ : List ℕ} {n₂ : ℕ} {l₂ : List ℕ} → Kept 0 l n l₁ → Kept n l₁ n₂ l₂ → Kept 0 l n₂ l₂
+kept-on {l} {n} {l₁} {n₂} {l₂} a b =
+    let more : 2 * n + (2 * n₂ - 2 * n) ≡ 2 * n₂ = omega (arith, b .more) in
+    record {
+      more = omega arith;
+      within = λ h. rw (a .long) at (b .within (rw (a .long) (a .within h)));
+      long = b .long ∙ a .long;
+      before = refl;
+      past =
+          b .past
+          ∙ rw more at (sym (drop-drop (2 * n₂ - 2 * n) (2 * n) l₁) ∙ ap (drop (2 * n₂ - 2 * n)) (a .past) ∙ drop-drop (2 * n₂ - 2 * n) (2 * n) l);
+    }
+
+served-leaves : (host : Sdmmc) (plan : Plan Nothing) (transfer : Plan (List ℕ)) (next : State → List ℕ → Sdmmc) (s l : List ℕ)
+    → ((w : State) (ws : List ℕ) → next w ws .settings ≡ host .settings) → Leaves host l (served host plan transfer next s l)
+unfolding served approached transferred
+served-leaves host plan transfer next s l same = by (w .progress .pace) refl
+  where
+    w : State
+    w = run s (tt {0}) plan 0 0 (host .line) l .state
+
+    start : Kept 0 l (w .progress .rows) (w .list)
+    start = going-kept s (tt {0}) plan (at (begun (host .line)) l) refl
+
+    by : (q : Pace) → w .progress .pace ≡ q → Leaves host l (approached host transfer next s q w)
+    by Going g =
+        let x = runFrom s [] transfer w in
+        ends-leaves host (dropped host (x .state)) (next (x .state) (x .value)) (x .value) l (x .state .progress .pace) (x .state) refl (same (x .state) (x .value))
+        (kept-on start (going-kept s [] transfer w g))
+    by (Stopped h) g = ends-leaves host (kept host w) host [] l (Stopped h) w refl refl start
+
+pub initialise-leaves : (host : Sdmmc) (frequency : ℕ) (s l : List ℕ) → Leaves host l (initialised host frequency s l)
+unfolding initialised initFrom
+initialise-leaves host frequency s l =
+    by-cases (Leaves host l) (eqb frequency 0 || ltb 50_000_000 frequency) _ _ (untouched-leaves host E.BadClock l)
+    (by (clockOf (sourceOf (host .settings)) 400_000 false))
+  where
+    by : (a : ClockAnswer) → Leaves host l (initFrom host frequency a s l)
+    by (Clocked.Refused e) = untouched-leaves host e l
+    by (Clocked.Set c) =
+        let x = run s noCard (initialise (host .settings) c frequency) 0 0 (freshLine (c .frequency)) l in
+        ends-leaves host (dropped host (x .state)) (holding host (x .state) (x .value)) [] l (x .state .progress .pace) (x .state) refl refl
+        (going-kept s noCard (initialise (host .settings) c frequency) (at (begun (freshLine (c .frequency))) l) refl)
+
+pub read-leaves : (host : Sdmmc) (index bytes : ℕ) (s l : List ℕ) → Leaves host l (readCame host index bytes s l)
+unfolding readCame readKnown readFrom
+read-leaves host index bytes s l =
+    by-cases (Leaves host l) (host .known) _ _
+    (by-cases (Leaves host l) (eqb (bytes % 512) 0) _ _
+    (by (addressOf (host .card .«card_type») (host .card .«block_count» .0) index (bytes / 512)))
+    (untouched-leaves host E.InvalidBufferLength l))
+    (untouched-leaves host E.NoCard l)
+  where
+    by : (a : AddressAnswer) → Leaves host l (readFrom host (bytes / 512) a s l)
+    by (Address.Refused e) = untouched-leaves host e l
+    by (Address.Address a) =
+        served-leaves host (waitReady (sourceOf (host .settings)) (host .settings .config) (host .card .rca)) (readPlan host a (bytes / 512)) (readNext host) s l (λ w ws. refl)
+
+pub status-leaves : (host : Sdmmc) (s l : List ℕ) → Leaves host l (statusCame host s l)
+unfolding statusCame
+status-leaves host s l =
+    by-cases (Leaves host l) (host .known) _ _
+    (served-leaves host (appCommand (limitOf (host .settings)) (host .card .rca)) (statusPlan host) (statusNext host) s l (λ w ws. refl))
+    (untouched-leaves host E.NoCard l)
+
+-- a call with no data words leaves the buffer as it was
+pub buffer-stays : (x : Came) (buffer : List ℕ) → x .taken ≡ [] → bufferOf x buffer ≡ buffer
+unfolding blocksFilled bytesOf
+buffer-stays x buffer e = let none : min 0 (length buffer / 512) ≡ 0 = omega arith in rw (e, none)

@@ -1,0 +1,165 @@
+-- Document 01's table of refusals, lines 1 and 2: refused at making, or before the first row.
+use Prim.Native.Nat.{ℕ, _+_, _*_, _-_, _/_, _%_, _≤_, _<_}
+use mathlib.Core.Bool.{Bool, true, false, cond, not, _||_}
+use mathlib.Core.List.{List}
+use mathlib.Core.Path.{_≡_, refl}
+use native.Mathlib.Omega.{arith}
+use lib.Dec.{ltb}
+use lib.ListN.{length}
+use borrow.Author.Tests.{eq-eqb, ne-eqb, le-ltb, lt-ltb}
+use Rattle.types.proofs.Least.{refused-none}
+use Rattle.types.specs.declared.card.AddressAnswer.the-variants as Address
+use Rattle.types.specs.declared.clock.ClockAnswer.{ClockAnswer}
+use Rattle.types.specs.declared.clock.ClockAnswer.the-variants as Clocked
+use Rattle.types.specs.declared.config.Config.{Config}
+use Rattle.types.specs.declared.error.Answer.{Answer}
+use Rattle.types.specs.declared.error.Answer.the-variants as Answered
+use Rattle.types.specs.declared.error.Error.{Error}
+use Rattle.types.specs.declared.error.Error.the-variants as E
+use Rattle.types.specs.Leaf.{addressOf, clockOf}
+use Rattle.types.specs.Settings.{madeOf}
+use Rattle.tape.specs.declared.progress.Halt.the-variants.{Refused, ScriptEnded, TraceFull}
+use Rattle.tape.specs.Run.{at}
+use Rattle.tape.specs.declared.progress.Line.{Line}
+use Rattle.host.proofs.Guards.{first}
+use Rattle.init.specs.declared.settings.Settings.{Settings}
+use Rattle.init.specs.Initialise.{sourceOf, noCard}
+use Rattle.host.specs.Calls.{untouched, initialised}
+use Rattle.host.specs.Calls.{readFrom, readKnown, readCame}
+use Rattle.host.specs.Calls.{statusCame, noHost, clockedHost, judgedHost, made}
+use Rattle.host.specs.declared.host.Sdmmc.{Sdmmc}
+
+-- Line 1. '18, 17 at making: no host.'
+
+clocked-no-host : (set : Settings) (e : Error) (a : ClockAnswer) → clockedHost set a .answer ≡ Answered.Refused e → clockedHost set a .host ≡ noHost
+unfolding clockedHost
+clocked-no-host set e (Clocked.Set c) r = let z : _≡_ {A = ℕ} 0 1 = cc in absurd (omega arith)
+clocked-no-host set e (Clocked.Refused x) r = refl
+
+judged-no-host : (set : Settings) (e : Error) (a : Answer) → judgedHost set a .answer ≡ Answered.Refused e → judgedHost set a .host ≡ noHost
+unfolding judgedHost
+judged-no-host set e Answered.Accepted r = clocked-no-host set e (clockOf (sourceOf set) 400_000 false) r
+judged-no-host set e (Answered.Refused x) r = refl
+judged-no-host set e Answered.ScriptEnded r = refl
+judged-no-host set e Answered.TraceFull r = refl
+judged-no-host set e Answered.BadBook r = refl
+
+-- whatever it is refused with, there is no host
+pub making-refused : (set : Settings) (e : Error) → made set .answer ≡ Answered.Refused e → made set .host ≡ noHost
+unfolding made
+making-refused set e r = judged-no-host set e (madeOf (sourceOf set) (set .config)) r
+
+-- 'Order at making: any of the four numeric settings 0 gives 18; source 0, source 1 or source over 102,800,000 gives 17.'
+pub data SomeZero (config : Config) : Type 0 where
+  polls : config .«poll_limit» ≡ 0 → SomeZero config
+  attempts : config .«card_ready_attempts» ≡ 0 → SomeZero config
+  dataTimeout : config .«data_transfer_timeout» ≡ 0 → SomeZero config
+  softwareTimeout : config .«software_timeout_ms» ≡ 0 → SomeZero config
+
+pub record NoneZero (config : Config) : Type 0 where
+  pub polls : 1 ≤ config .«poll_limit»
+  pub attempts : 1 ≤ config .«card_ready_attempts»
+  pub dataTimeout : 1 ≤ config .«data_transfer_timeout»
+  pub softwareTimeout : 1 ≤ config .«software_timeout_ms»
+
+pub data BadSource (source : ℕ) : Type 0 where
+  low : source ≤ 1 → BadSource source
+  high : 102_800_000 < source → BadSource source
+
+or-true : (b : Bool) → (b || true) ≡ true
+or-true true = refl
+or-true false = refl
+
+pub making-18 : (set : Settings) → SomeZero (set .config) → made set ≡ record { answer = Answered.Refused E.InvalidConfig; host = noHost }
+unfolding made judgedHost madeOf
+making-18 set (polls e) = rw (eq-eqb _ _ e)
+making-18 set (attempts e) = rw (eq-eqb _ _ e, or-true)
+making-18 set (dataTimeout e) = rw (eq-eqb _ _ e) (simp or-true)
+making-18 set (softwareTimeout e) = rw (eq-eqb _ _ e) (simp or-true)
+
+none-zero : (source : ℕ) (config : Config) → NoneZero config
+    → madeOf source config ≡ cond (ltb source 2 || ltb 102_800_000 source) (Answered.Refused E.BadClock) Answered.Accepted
+unfolding madeOf
+none-zero source config z =
+    rw (
+      ne-eqb (config .«poll_limit») 0 (λ e. omega (arith, z .polls)),
+      ne-eqb (config .«card_ready_attempts») 0 (λ e. omega (arith, z .attempts)),
+      ne-eqb (config .«data_transfer_timeout») 0 (λ e. omega (arith, z .dataTimeout)),
+      ne-eqb (config .«software_timeout_ms») 0 (λ e. omega (arith, z .softwareTimeout)),
+    )
+
+pub making-17 : (set : Settings) → NoneZero (set .config) → BadSource (sourceOf set)
+    → made set ≡ record { answer = Answered.Refused E.BadClock; host = noHost }
+unfolding made judgedHost
+making-17 set z (low b) = rw (none-zero (sourceOf set) (set .config) z, lt-ltb (sourceOf set) 2 (omega arith))
+making-17 set z (high b) = rw (none-zero (sourceOf set) (set .config) z, lt-ltb 102_800_000 (sourceOf set) b, or-true)
+
+-- else there is a host: of these settings, with no record
+pub making-accepted : (set : Settings) → NoneZero (set .config) → 2 ≤ sourceOf set → sourceOf set ≤ 102_800_000
+    → (made set .answer ≡ Answered.Accepted) × (made set .host .settings ≡ set) × (made set .host .known ≡ false) × (made set .host .card ≡ noCard)
+unfolding made judgedHost clockedHost
+making-accepted set z from2 upTo =
+    rw (none-zero (sourceOf set) (set .config) z, le-ltb (sourceOf set) 2 from2, le-ltb 102_800_000 (sourceOf set) upTo)
+    (by (clockOf (sourceOf set) 400_000 false) refl)
+  where
+    by : (a : ClockAnswer) → clockOf (sourceOf set) 400_000 false ≡ a
+        → (clockedHost set a .answer ≡ Answered.Accepted) × (clockedHost set a .host .settings ≡ set)
+        × (clockedHost set a .host .known ≡ false) × (clockedHost set a .host .card ≡ noCard)
+    by (Clocked.Set c) e = (refl, refl, refl, refl)
+    by (Clocked.Refused x) e =
+        absurd (refused-none (sourceOf set) 400_000 (omega arith) (omega arith) (omega arith) x e 257
+        (record { from2 = omega arith; to257 = omega arith; slow = omega arith }))
+
+-- Line 2. '16 at a read or status; 19, 20 at a read; 17 for an asked frequency of 0 or over 50,000,000: host as before, no
+-- row, no word used.' That is `untouched`: no word, no row, the list, no data words, the host.
+
+module _ (host : Sdmmc) (s l : List ℕ) where
+  -- 16
+  pub read-16 : (index bytes : ℕ) → host .known ≡ false → readCame host index bytes s l ≡ untouched host E.NoCard l
+  unfolding readCame
+  read-16 index bytes k = rw k
+
+  pub status-16 : host .known ≡ false → statusCame host s l ≡ untouched host E.NoCard l
+  unfolding statusCame
+  status-16 k = rw k
+
+  -- 19 for a byte length not a multiple of 512
+  pub read-19-length : (index bytes : ℕ) → host .known ≡ true → (bytes % 512 ≡ 0 → ⊥) → readCame host index bytes s l ≡ untouched host E.InvalidBufferLength l
+  unfolding readCame readKnown
+  read-19-length index bytes k n = rw (k, ne-eqb (bytes % 512) 0 n)
+
+  -- any refusal of the leaf rule for the address (19, 20)
+  pub read-refused : (index blocks : ℕ) (e : Error) → host .known ≡ true
+      → addressOf (host .card .«card_type») (host .card .«block_count» .0) index blocks ≡ Address.Refused e
+      → readCame host index (512 * blocks) s l ≡ untouched host e l
+  unfolding readCame readKnown readFrom
+  read-refused index blocks e k a =
+      let whole : 512 * blocks % 512 ≡ 0 = omega arith in
+      let count : 512 * blocks / 512 ≡ blocks = omega arith in
+      rw (k, eq-eqb (512 * blocks % 512) 0 whole, count, a)
+
+  -- 19 for 0 blocks or over 511
+  pub read-19-none : (index : ℕ) → host .known ≡ true → readCame host index 0 s l ≡ untouched host E.InvalidBufferLength l
+  unfolding addressOf
+  read-19-none index k = read-refused index 0 E.InvalidBufferLength k refl
+
+  pub read-19-many : (index blocks : ℕ) → host .known ≡ true → 511 < blocks → readCame host index (512 * blocks) s l ≡ untouched host E.InvalidBufferLength l
+  unfolding addressOf
+  read-19-many index blocks k many = read-refused index blocks E.InvalidBufferLength k (rw (lt-ltb 511 blocks many, or-true))
+
+  -- 20 when index plus count exceeds the block count
+  pub read-20 : (index blocks : ℕ) → host .known ≡ true → 1 ≤ blocks → blocks ≤ 511 → host .card .«block_count» .0 < index + blocks
+      → readCame host index (512 * blocks) s l ≡ untouched host E.AddressOutOfRange l
+  unfolding addressOf
+  read-20 index blocks k some most past =
+      read-refused index blocks E.AddressOutOfRange k
+      (rw (ne-eqb blocks 0 (λ e. omega arith), le-ltb 511 blocks most, lt-ltb (host .card .«block_count» .0) (index + blocks) past))
+
+  -- 17 for an asked frequency of 0 or over 50,000,000
+  pub initialise-17-zero : initialised host 0 s l ≡ untouched host E.BadClock l
+  unfolding initialised
+  initialise-17-zero = refl
+
+  pub initialise-17-over : (frequency : ℕ) → 50_000_000 < frequency → initialised host frequency s l ≡ untouched host E.BadClock l
+  unfolding initialised
+  initialise-17-over frequency over = rw (lt-ltb 50_000_000 frequency over, or-true)
