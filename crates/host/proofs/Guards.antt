@@ -14,9 +14,9 @@ use Rattle.tape.specs.declared.progress.Line.{Line}
 use Rattle.tape.specs.declared.progress.Pace.{Pace}
 use Rattle.tape.specs.declared.progress.Pace.the-variants.{Going, Stopped}
 use Rattle.tape.specs.declared.rows.Row.{Row}
-use Rattle.tape.specs.Laws.{run-handle}
+use Rattle.tape.proofs.Laws.{run-handle}
 use Rattle.tape.specs.Plan.{Nothing, Cause, failed, Plan, give, refuse, read, write, look, hold, handle, _then_, refusing, guard}
-use Rattle.tape.specs.Room.{isFull, free, full-exactly, laid-between, run-fits}
+use Rattle.tape.proofs.Room.{isFull, free, full-exactly, laid-between, run-fits}
 use Rattle.tape.specs.Rows.{ARG, CLKCR, CMD, DCTRL, DCTRL2, DLEN, DTIMER, ICR, MASK, POWER, placeOf, rowAt, roomOf, wordsOf}
 use Rattle.tape.specs.Run.{State, at, After, after, noted, run, runFrom, nextAt}
 use Rattle.tape.specs.Steps.{row, resetController}

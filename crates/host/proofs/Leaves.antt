@@ -22,8 +22,8 @@ use Rattle.tape.specs.declared.progress.Pace.the-variants.{Going, Stopped}
 use Rattle.tape.specs.Plan.{Nothing, Plan}
 use Rattle.tape.specs.Run.{State, at, run, runFrom}
 use Rattle.tape.specs.declared.progress.Line.{Line}
-use Rattle.tape.specs.Laws.{by-cases, from-going}
-use Rattle.tape.specs.Room.{Kept, keeps}
+use Rattle.tape.proofs.Laws.{by-cases, from-going}
+use Rattle.tape.proofs.Room.{Kept, keeps}
 use Rattle.host.proofs.Ran.{begun}
 use Rattle.bus.specs.Command.{appCommand}
 use Rattle.bus.specs.Ready.{waitReady}

@@ -2,8 +2,3 @@ pub mod Plan
 pub mod Rows
 pub mod Run
 pub mod Steps
-pub mod Laws
-pub mod Loops
-pub mod Room
-pub mod Words
-pub mod Values

@@ -1,6 +1,6 @@
 use borrow.Author.Tests.{eq-eqb, ne-eqb, lt-ltb, le-ltb}
 use Rattle.bus.specs.Clock.{clockDelay}
-use Rattle.tape.specs.Laws.{on-true, on-false}
+use Rattle.tape.proofs.Laws.{on-true, on-false}
 use borrow.Author.Needs.{needs}
 use Rattle.bus.proofs.clock.clock_delay.Statement.{statement}
 use Rattle.bus.proofs.clock.clock_delay.Tie as tie

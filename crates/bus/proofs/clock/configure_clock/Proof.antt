@@ -1,6 +1,6 @@
 use denote.Ref.{now}
 use Rattle.bus.specs.Clock.{configureClock}
-use Rattle.tape.specs.Laws.{seq}
+use Rattle.tape.proofs.Laws.{seq}
 use borrow.Author.Needs.{needs}
 use Rattle.bus.proofs.clock.configure_clock.Statement.{statement}
 use Rattle.bus.proofs.clock.configure_clock.Tie as tie

@@ -1,5 +1,5 @@
 use Rattle.bus.specs.Command.{appCommand}
-use Rattle.tape.specs.Laws.{bind}
+use Rattle.tape.proofs.Laws.{bind}
 use borrow.Author.Needs.{needs}
 use Rattle.bus.proofs.command.app_command.Statement.{statement}
 use Rattle.bus.proofs.command.app_command.Tie as tie

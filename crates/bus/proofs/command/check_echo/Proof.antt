@@ -1,6 +1,6 @@
 use Rattle.tape.specs.declared.script.Reading.the-variants as Reading
 use Rattle.bus.specs.Command.{echo}
-use Rattle.tape.specs.Laws.{bind, stay, on-true, on-false}
+use Rattle.tape.proofs.Laws.{bind, stay, on-true, on-false}
 use borrow.Author.Needs.{needs}
 use Rattle.bus.proofs.command.check_echo.Statement.{statement}
 use Rattle.bus.proofs.command.check_echo.Tie as tie

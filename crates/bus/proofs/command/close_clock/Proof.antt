@@ -1,6 +1,6 @@
 use mathlib.Core.Path.{ap, _∙_}
 use Rattle.tape.specs.declared.progress.Pace.the-variants.{Stopped}
-use Rattle.tape.specs.Laws.{seq, refusal, settled-value, settled-refusal, settled-ended, settled-full}
+use Rattle.tape.proofs.Laws.{seq, refusal, settled-value, settled-refusal, settled-ended, settled-full}
 use borrow.Author.Needs.{needs}
 use Rattle.bus.proofs.command.close_clock.Statement.{statement}
 use Rattle.bus.proofs.command.close_clock.Tie as tie

@@ -1,7 +1,7 @@
 use mathlib.Core.List.{[]}
 use native.Mathlib.Omega.{arith}
 use Rattle.bus.specs.Command.{command}
-use Rattle.tape.specs.Laws.{seq, dry, looking, on-true, on-false}
+use Rattle.tape.proofs.Laws.{seq, dry, looking, on-true, on-false}
 use borrow.Author.Needs.{needs}
 use Rattle.bus.proofs.command.command.Statement.{statement}
 use Rattle.bus.proofs.command.command.Tie as tie

@@ -1,5 +1,5 @@
 use Rattle.bus.specs.Command.{commandInner}
-use Rattle.tape.specs.Laws.{handled, from-stopped}
+use Rattle.tape.proofs.Laws.{handled, from-stopped}
 use borrow.Author.Needs.{needs}
 use Rattle.bus.proofs.command.command_closing.Statement.{statement}
 use Rattle.bus.proofs.command.command_closing.Tie as tie

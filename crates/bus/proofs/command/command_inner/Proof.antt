@@ -1,7 +1,7 @@
 use mathlib.Core.List.{[]}
 use native.Mathlib.Omega.{arith}
 use Rattle.bus.specs.Command.{commandInner}
-use Rattle.tape.specs.Laws.{seq, dry, read-on}
+use Rattle.tape.proofs.Laws.{seq, dry, read-on}
 use borrow.Author.Needs.{needs}
 use Rattle.bus.proofs.command.command_inner.Statement.{statement}
 use Rattle.bus.proofs.command.command_inner.Tie as tie

@@ -1,6 +1,6 @@
 use native.Mathlib.Omega.{arith}
 use Rattle.bus.specs.Command.{complete}
-use Rattle.tape.specs.Laws.{bind, read-on}
+use Rattle.tape.proofs.Laws.{bind, read-on}
 use borrow.Author.Needs.{needs}
 use Rattle.bus.proofs.command.complete.Statement.{statement}
 use Rattle.bus.proofs.command.complete.Tie as tie

@@ -1,5 +1,5 @@
 use Rattle.bus.specs.Command.{issue}
-use Rattle.tape.specs.Laws.{seq}
+use Rattle.tape.proofs.Laws.{seq}
 use borrow.Author.Needs.{needs}
 use Rattle.bus.proofs.command.issue.Statement.{statement}
 use Rattle.bus.proofs.command.issue.Tie as tie

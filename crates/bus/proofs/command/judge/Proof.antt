@@ -1,5 +1,5 @@
 use Rattle.bus.specs.Command.{judge}
-use Rattle.tape.specs.Laws.{seq}
+use Rattle.tape.proofs.Laws.{seq}
 use borrow.Author.Needs.{needs}
 use Rattle.bus.proofs.command.judge.Statement.{statement}
 use Rattle.bus.proofs.command.judge.Tie as tie

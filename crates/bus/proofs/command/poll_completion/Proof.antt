@@ -1,6 +1,6 @@
 use Rattle.tape.specs.declared.script.Reading.the-variants as Reading
 use Rattle.bus.specs.Command.{pollCompletion}
-use Rattle.tape.specs.Laws.{bind, seq}
+use Rattle.tape.proofs.Laws.{bind, seq}
 use borrow.Author.Needs.{needs}
 use Rattle.bus.proofs.command.poll_completion.Statement.{statement}
 use Rattle.bus.proofs.command.poll_completion.Tie as tie

@@ -1,7 +1,7 @@
 use mathlib.Core.List.{[]}
 use native.Mathlib.Omega.{arith}
 use Rattle.bus.specs.Command.{answer}
-use Rattle.tape.specs.Laws.{bind, seq, dry, read-on, on-true, on-false}
+use Rattle.tape.proofs.Laws.{bind, seq, dry, read-on, on-true, on-false}
 use borrow.Author.Needs.{needs}
 use Rattle.bus.proofs.command.take_answer.Statement.{statement}
 use Rattle.bus.proofs.command.take_answer.Tie as tie

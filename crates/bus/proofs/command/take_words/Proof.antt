@@ -1,7 +1,7 @@
 use native.Mathlib.Omega.{arith}
 use Rattle.tape.specs.declared.script.Reading.the-variants as Reading
 use Rattle.bus.specs.Command.{responseWords}
-use Rattle.tape.specs.Laws.{bind, read-on}
+use Rattle.tape.proofs.Laws.{bind, read-on}
 use borrow.Author.Needs.{needs}
 use Rattle.bus.proofs.command.take_words.Statement.{statement}
 use Rattle.bus.proofs.command.take_words.Tie as tie

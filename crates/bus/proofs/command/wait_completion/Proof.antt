@@ -6,8 +6,8 @@ use native.Mathlib.Omega.{arith}
 use Rattle.types.specs.Bits.{clear}
 use Rattle.bus.specs.Command.{pollCompletion, waitCompletion}
 use Rattle.tape.specs.Run.{at, Behind}
-use Rattle.tape.specs.Laws.{refusal}
-use Rattle.tape.specs.Loops.{Turned, no-turn, next-turn, last-turn, out-of-turns, turned-on}
+use Rattle.tape.proofs.Laws.{refusal}
+use Rattle.tape.proofs.Loops.{Turned, no-turn, next-turn, last-turn, out-of-turns, turned-on}
 use borrow.Author.Needs.{needs}
 use Rattle.bus.proofs.command.wait_completion.Statement.{statement}
 use Rattle.bus.proofs.command.wait_completion.Tie as tie

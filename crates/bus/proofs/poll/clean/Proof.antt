@@ -1,6 +1,6 @@
 use mathlib.Core.Path.{sym, _∙_}
 use Rattle.bus.specs.Transfer.{clean}
-use Rattle.tape.specs.Laws.{stay}
+use Rattle.tape.proofs.Laws.{stay}
 use borrow.Author.Needs.{needs}
 use Rattle.bus.proofs.poll.clean.Statement.{statement}
 use Rattle.bus.proofs.poll.clean.Tie as tie

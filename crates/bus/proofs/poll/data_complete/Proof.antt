@@ -1,7 +1,7 @@
 use native.Mathlib.Omega.{arith}
 use borrow.Author.Tests.{eq-eqb, ne-eqb}
 use Rattle.bus.specs.Transfer.{dataComplete}
-use Rattle.tape.specs.Laws.{bind, read-on, on-true, on-false}
+use Rattle.tape.proofs.Laws.{bind, read-on, on-true, on-false}
 use borrow.Author.Needs.{needs}
 use Rattle.bus.proofs.poll.data_complete.Statement.{statement}
 use Rattle.bus.proofs.poll.data_complete.Tie as tie

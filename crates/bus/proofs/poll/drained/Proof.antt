@@ -2,7 +2,7 @@ use mathlib.Core.List.{[]}
 use native.Mathlib.Omega.{arith}
 use Rattle.tape.specs.declared.script.Reading.the-variants as Reading
 use Rattle.bus.specs.Transfer.{drained}
-use Rattle.tape.specs.Laws.{bind, seq, dry}
+use Rattle.tape.proofs.Laws.{bind, seq, dry}
 use borrow.Author.Needs.{needs}
 use Rattle.bus.proofs.poll.drained.Statement.{statement}
 use Rattle.bus.proofs.poll.drained.Tie as tie

@@ -1,7 +1,7 @@
 use mathlib.Core.Path.{sym, _∙_}
 use native.Mathlib.Omega.{arith}
 use Rattle.bus.specs.Transfer.{settle}
-use Rattle.tape.specs.Laws.{bind, seq, read-on, on-true, on-false}
+use Rattle.tape.proofs.Laws.{bind, seq, read-on, on-true, on-false}
 use borrow.Author.Needs.{needs}
 use Rattle.bus.proofs.poll.settle.Statement.{statement}
 use Rattle.bus.proofs.poll.settle.Tie as tie

@@ -5,8 +5,8 @@ use Prim.Native.Nat.{ℕ, _-_}
 use native.Mathlib.Omega.{arith}
 use Rattle.bus.specs.Transfer.{dataComplete, waitData}
 use Rattle.tape.specs.Run.{at, Behind}
-use Rattle.tape.specs.Laws.{refusal, forget}
-use Rattle.tape.specs.Loops.{Turned, no-turn, next-turn, last-turn, out-of-turns, turned-on}
+use Rattle.tape.proofs.Laws.{refusal, forget}
+use Rattle.tape.proofs.Loops.{Turned, no-turn, next-turn, last-turn, out-of-turns, turned-on}
 use borrow.Author.Needs.{needs}
 use Rattle.bus.proofs.poll.wait_data.Statement.{statement}
 use Rattle.bus.proofs.poll.wait_data.Tie as tie

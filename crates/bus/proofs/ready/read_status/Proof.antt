@@ -1,6 +1,6 @@
 use Rattle.bus.specs.Command.{firstOf}
 use Rattle.bus.specs.Ready.{readStatus}
-use Rattle.tape.specs.Laws.{mapped}
+use Rattle.tape.proofs.Laws.{mapped}
 use borrow.Author.Needs.{needs}
 use Rattle.bus.proofs.ready.read_status.Statement.{statement}
 use Rattle.bus.proofs.ready.read_status.Tie as tie

@@ -1,6 +1,6 @@
 use mathlib.Core.Path.{sym, _∙_}
 use Rattle.bus.specs.Ready.{tryReady}
-use Rattle.tape.specs.Laws.{bind, seq, stay, on-true, on-false}
+use Rattle.tape.proofs.Laws.{bind, seq, stay, on-true, on-false}
 use borrow.Author.Needs.{needs}
 use Rattle.bus.proofs.ready.try_ready.Statement.{statement}
 use Rattle.bus.proofs.ready.try_ready.Tie as tie

@@ -7,8 +7,8 @@ use native.Mathlib.Omega.{arith}
 use Rattle.tape.specs.declared.progress.Progress.{Progress}
 use Rattle.bus.specs.Ready.{tryReady, waitReady}
 use Rattle.tape.specs.Run.{at}
-use Rattle.tape.specs.Laws.{refusal, forget}
-use Rattle.tape.specs.Loops.{Turned, no-turn, next-turn, last-turn, out-of-turns}
+use Rattle.tape.proofs.Laws.{refusal, forget}
+use Rattle.tape.proofs.Loops.{Turned, no-turn, next-turn, last-turn, out-of-turns}
 use borrow.Author.Needs.{needs}
 use Rattle.bus.proofs.ready.wait_ready.Statement.{statement}
 use Rattle.bus.proofs.ready.wait_ready.Tie as tie

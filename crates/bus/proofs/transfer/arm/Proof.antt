@@ -1,7 +1,7 @@
 use mathlib.Core.List.{[]}
 use Rattle.bus.specs.Transfer.{arm}
-use Rattle.tape.specs.Laws.{seq}
-use Rattle.tape.specs.Room.{keeps}
+use Rattle.tape.proofs.Laws.{seq}
+use Rattle.tape.proofs.Room.{keeps}
 use borrow.Author.Needs.{needs}
 use Rattle.bus.proofs.transfer.arm.Statement.{statement}
 use Rattle.bus.proofs.transfer.arm.Tie as tie

@@ -1,6 +1,6 @@
 use Rattle.tape.specs.Steps.{resetController}
 use Rattle.bus.specs.Transfer.{transferData, blockingData}
-use Rattle.tape.specs.Laws.{guarded, from-stopped}
+use Rattle.tape.proofs.Laws.{guarded, from-stopped}
 use borrow.Author.Needs.{needs}
 use Rattle.bus.proofs.transfer.blocking_data.Statement.{statement}
 use Rattle.bus.proofs.transfer.blocking_data.Tie as tie

@@ -1,5 +1,5 @@
 use Rattle.bus.specs.Transfer.{closeGate}
-use Rattle.tape.specs.Laws.{looking, stay, on-true, on-false}
+use Rattle.tape.proofs.Laws.{looking, stay, on-true, on-false}
 use borrow.Author.Needs.{needs}
 use Rattle.bus.proofs.transfer.close_gate.Statement.{statement}
 use Rattle.bus.proofs.transfer.close_gate.Tie as tie

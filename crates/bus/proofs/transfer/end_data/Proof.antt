@@ -1,5 +1,5 @@
 use Rattle.bus.specs.Transfer.{endData}
-use Rattle.tape.specs.Laws.{seq}
+use Rattle.tape.proofs.Laws.{seq}
 use borrow.Author.Needs.{needs}
 use Rattle.bus.proofs.transfer.end_data.Statement.{statement}
 use Rattle.bus.proofs.transfer.end_data.Tie as tie

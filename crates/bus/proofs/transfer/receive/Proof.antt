@@ -1,6 +1,6 @@
 use native.Mathlib.Omega.{arith}
 use Rattle.bus.specs.Transfer.{receive}
-use Rattle.tape.specs.Laws.{seq, read-on}
+use Rattle.tape.proofs.Laws.{seq, read-on}
 use borrow.Author.Needs.{needs}
 use Rattle.bus.proofs.transfer.receive.Statement.{statement}
 use Rattle.bus.proofs.transfer.receive.Tie as tie

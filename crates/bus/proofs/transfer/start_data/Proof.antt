@@ -1,5 +1,5 @@
 use Rattle.bus.specs.Transfer.{startData}
-use Rattle.tape.specs.Laws.{seq, forget}
+use Rattle.tape.proofs.Laws.{seq, forget}
 use borrow.Author.Needs.{needs}
 use Rattle.bus.proofs.transfer.start_data.Statement.{statement}
 use Rattle.bus.proofs.transfer.start_data.Tie as tie

@@ -1,6 +1,6 @@
 use borrow.Author.Tests.{eq-eqb, ne-eqb}
 use Rattle.bus.specs.Transfer.{stopTransmission}
-use Rattle.tape.specs.Laws.{forget, stay, on-true, on-false}
+use Rattle.tape.proofs.Laws.{forget, stay, on-true, on-false}
 use borrow.Author.Needs.{needs}
 use Rattle.bus.proofs.transfer.stop_transmission.Statement.{statement}
 use Rattle.bus.proofs.transfer.stop_transmission.Tie as tie

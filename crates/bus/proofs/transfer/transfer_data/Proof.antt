@@ -1,5 +1,5 @@
 use Rattle.bus.specs.Transfer.{endData, transferData}
-use Rattle.tape.specs.Laws.{bind, seq}
+use Rattle.tape.proofs.Laws.{bind, seq}
 use borrow.Author.Needs.{needs}
 use Rattle.bus.proofs.transfer.transfer_data.Statement.{statement}
 use Rattle.bus.proofs.transfer.transfer_data.Tie as tie

@@ -1,5 +1,5 @@
 use Rattle.init.specs.Initialise.{cardVersion}
-use Rattle.tape.specs.Laws.{handled, from-stopped}
+use Rattle.tape.proofs.Laws.{handled, from-stopped}
 use borrow.Author.Needs.{needs}
 use Rattle.init.proofs.begin.card_version.Statement.{statement}
 use Rattle.init.proofs.begin.card_version.Tie as tie

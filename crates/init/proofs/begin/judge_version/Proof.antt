@@ -2,7 +2,7 @@ use mathlib.Core.Path.{ap, sym, refl, _∙_}
 use borrow.Author.Tests.{eq-eqb, ne-eqb}
 use Rattle.tape.specs.declared.progress.Pace.the-variants.{Stopped}
 use Rattle.init.specs.Initialise.{late}
-use Rattle.tape.specs.Laws.{stay, from-going, on-true, on-false, settled-value, settled-refusal, settled-ended, settled-full}
+use Rattle.tape.proofs.Laws.{stay, from-going, on-true, on-false, settled-value, settled-refusal, settled-ended, settled-full}
 use Rattle.tape.specs.Run.{run}
 use borrow.Author.Needs.{needs}
 use Rattle.init.proofs.begin.judge_version.Statement.{statement}

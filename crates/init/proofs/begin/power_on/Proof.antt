@@ -1,5 +1,5 @@
 use Rattle.init.specs.Initialise.{powerOn}
-use Rattle.tape.specs.Laws.{seq}
+use Rattle.tape.proofs.Laws.{seq}
 use borrow.Author.Needs.{needs}
 use Rattle.init.proofs.begin.power_on.Statement.{statement}
 use Rattle.init.proofs.begin.power_on.Tie as tie

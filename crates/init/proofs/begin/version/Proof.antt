@@ -1,6 +1,6 @@
 use borrow.Author.Tests.{eq-eqb, ne-eqb}
 use Rattle.init.specs.Initialise.{version}
-use Rattle.tape.specs.Laws.{seq, stay, on-true, on-false}
+use Rattle.tape.proofs.Laws.{seq, stay, on-true, on-false}
 use borrow.Author.Needs.{needs}
 use Rattle.init.proofs.begin.version.Statement.{statement}
 use Rattle.init.proofs.begin.version.Tie as tie

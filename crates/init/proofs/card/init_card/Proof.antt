@@ -1,5 +1,5 @@
 use Rattle.init.specs.Initialise.{initCard}
-use Rattle.tape.specs.Laws.{bind}
+use Rattle.tape.proofs.Laws.{bind}
 use borrow.Author.Needs.{needs}
 use Rattle.init.proofs.card.init_card.Statement.{statement}
 use Rattle.init.proofs.card.init_card.Tie as tie

@@ -1,6 +1,6 @@
 use Rattle.tape.specs.Steps.{resetController}
 use Rattle.init.specs.Initialise.{initialise}
-use Rattle.tape.specs.Laws.{guarded, from-stopped}
+use Rattle.tape.proofs.Laws.{guarded, from-stopped}
 use borrow.Author.Needs.{needs}
 use Rattle.init.proofs.card.initialise.Statement.{statement}
 use Rattle.init.proofs.card.initialise.Tie as tie

@@ -1,7 +1,7 @@
 use Rattle.init.specs.Initialise.{readScr}
 use lib.ListN.{getD}
 use Rattle.types.specs.Words.{scrOf}
-use Rattle.tape.specs.Laws.{seq, mapped}
+use Rattle.tape.proofs.Laws.{seq, mapped}
 use borrow.Author.Needs.{needs}
 use Rattle.init.proofs.card.read_scr.Statement.{statement}
 use Rattle.init.proofs.card.read_scr.Tie as tie

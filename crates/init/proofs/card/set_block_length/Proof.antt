@@ -1,5 +1,5 @@
 use Rattle.init.specs.Initialise.{blockLength}
-use Rattle.tape.specs.Laws.{forget, stay}
+use Rattle.tape.proofs.Laws.{forget, stay}
 use borrow.Author.Needs.{needs}
 use Rattle.init.proofs.card.set_block_length.Statement.{statement}
 use Rattle.init.proofs.card.set_block_length.Tie as tie

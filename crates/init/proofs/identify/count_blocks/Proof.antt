@@ -1,5 +1,5 @@
 use mathlib.Core.Path.{sym, _∙_}
-use Rattle.tape.specs.Laws.{refusal}
+use Rattle.tape.proofs.Laws.{refusal}
 use borrow.Author.Needs.{needs}
 use Rattle.init.proofs.identify.count_blocks.Statement.{statement}
 use Rattle.init.proofs.identify.count_blocks.Tie as tie

@@ -1,5 +1,5 @@
 use Rattle.init.specs.Initialise.{powerUp}
-use Rattle.tape.specs.Laws.{seq, bind}
+use Rattle.tape.proofs.Laws.{seq, bind}
 use borrow.Author.Needs.{needs}
 use Rattle.init.proofs.identify.power_up.Statement.{statement}
 use Rattle.init.proofs.identify.power_up.Tie as tie

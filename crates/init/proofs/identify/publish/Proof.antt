@@ -1,7 +1,7 @@
 use Prim.Native.Nat.{_/_, _^_}
 use Rattle.bus.specs.Command.{firstOf}
 use Rattle.init.specs.Initialise.{publish}
-use Rattle.tape.specs.Laws.{mapped}
+use Rattle.tape.proofs.Laws.{mapped}
 use borrow.Author.Needs.{needs}
 use Rattle.init.proofs.identify.publish.Statement.{statement}
 use Rattle.init.proofs.identify.publish.Tie as tie

@@ -2,7 +2,7 @@ use mathlib.Core.Bool.{not}
 use mathlib.Core.Path.{ap}
 use borrow.Author.Tests.{eq-eqb, ne-eqb}
 use Rattle.init.specs.Initialise.{tryPowerUp}
-use Rattle.tape.specs.Laws.{seq, bind, on-true, on-false}
+use Rattle.tape.proofs.Laws.{seq, bind, on-true, on-false}
 use borrow.Author.Needs.{needs}
 use Rattle.init.proofs.identify.try_power_up.Statement.{statement}
 use Rattle.init.proofs.identify.try_power_up.Tie as tie

@@ -8,8 +8,8 @@ use Rattle.tape.specs.declared.progress.Progress.{Progress}
 use Rattle.init.specs.declared.settings.Settings.{Settings}
 use Rattle.tape.specs.Run.{at}
 use Rattle.init.specs.Initialise.{poweredUp, tryPowerUp, waitPowerUp}
-use Rattle.tape.specs.Laws.{refusal}
-use Rattle.tape.specs.Loops.{Turned, no-turn, next-turn, last-turn, out-of-turns}
+use Rattle.tape.proofs.Laws.{refusal}
+use Rattle.tape.proofs.Loops.{Turned, no-turn, next-turn, last-turn, out-of-turns}
 use borrow.Author.Needs.{needs}
 use Rattle.init.proofs.identify.wait_power_up.Statement.{statement}
 use Rattle.init.proofs.identify.wait_power_up.Tie as tie

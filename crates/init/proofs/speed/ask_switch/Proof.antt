@@ -1,7 +1,7 @@
 use mathlib.Core.Path.{ap, sym, _∙_}
 use Rattle.init.proofs.Sixteen.{offered-sixteen}
 use Rattle.init.specs.Initialise.{offered, askSwitch}
-use Rattle.tape.specs.Laws.{bind, stay, on-true, on-false}
+use Rattle.tape.proofs.Laws.{bind, stay, on-true, on-false}
 use borrow.Author.Needs.{needs}
 use Rattle.init.proofs.speed.ask_switch.Statement.{statement}
 use Rattle.init.proofs.speed.ask_switch.Tie as tie

@@ -1,4 +1,4 @@
-use Rattle.tape.specs.Laws.{from-going, from-stopped}
+use Rattle.tape.proofs.Laws.{from-going, from-stopped}
 use Rattle.tape.specs.Run.{run}
 use borrow.Author.Needs.{needs}
 use Rattle.init.proofs.speed.give_clock.Statement.{statement}

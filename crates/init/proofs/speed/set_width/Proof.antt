@@ -1,5 +1,5 @@
 use Rattle.init.specs.Initialise.{setWidth}
-use Rattle.tape.specs.Laws.{seq, forget}
+use Rattle.tape.proofs.Laws.{seq, forget}
 use borrow.Author.Needs.{needs}
 use Rattle.init.proofs.speed.set_width.Statement.{statement}
 use Rattle.init.proofs.speed.set_width.Tie as tie

@@ -1,6 +1,6 @@
 use mathlib.Core.Path.{sym, _∙_}
 use Rattle.init.specs.Initialise.{switchSpeed}
-use Rattle.tape.specs.Laws.{stay, on-true, on-false}
+use Rattle.tape.proofs.Laws.{stay, on-true, on-false}
 use borrow.Author.Needs.{needs}
 use Rattle.init.proofs.speed.switch_speed.Statement.{statement}
 use Rattle.init.proofs.speed.switch_speed.Tie as tie

@@ -1,7 +1,7 @@
 use mathlib.Core.Path.{ap, _∙_}
 use Rattle.init.proofs.Sixteen.{switched-sixteen}
 use Rattle.init.specs.Initialise.{switched, takeSwitch}
-use Rattle.tape.specs.Laws.{seq, bind, looking}
+use Rattle.tape.proofs.Laws.{seq, bind, looking}
 use borrow.Author.Needs.{needs}
 use Rattle.init.proofs.speed.take_switch.Statement.{statement}
 use Rattle.init.proofs.speed.take_switch.Tie as tie

@@ -1,5 +1,5 @@
 use Rattle.init.specs.Initialise.{transferClock}
-use Rattle.tape.specs.Laws.{bind}
+use Rattle.tape.proofs.Laws.{bind}
 use borrow.Author.Needs.{needs}
 use Rattle.init.proofs.speed.transfer_clock.Statement.{statement}
 use Rattle.init.proofs.speed.transfer_clock.Tie as tie

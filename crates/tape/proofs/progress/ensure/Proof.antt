@@ -1,5 +1,5 @@
 use Rattle.tape.specs.Plan.{ensure}
-use Rattle.tape.specs.Laws.{stay}
+use Rattle.tape.proofs.Laws.{stay}
 use borrow.Author.Needs.{needs}
 use Rattle.tape.proofs.progress.ensure.Statement.{statement}
 use Rattle.tape.proofs.progress.ensure.Tie as tie

@@ -3,7 +3,7 @@ use borrow.Author.Tests.{le-ltb, lt-ltb}
 use native.Mathlib.Omega.{arith}
 use Rattle.tape.specs.Run.{run}
 use Rattle.tape.specs.Steps.{row}
-use Rattle.tape.specs.Laws.{from-going, from-stopped}
+use Rattle.tape.proofs.Laws.{from-going, from-stopped}
 use borrow.Author.Needs.{needs}
 use Rattle.tape.proofs.rows.write_row.Statement.{statement}
 use Rattle.tape.proofs.rows.write_row.Tie as tie

@@ -7,7 +7,7 @@ use Prim.Native.Nat.{ℕ, _≤_, _<_, _-_, _+_}
 use native.Mathlib.Omega.{arith}
 use Rattle.tape.specs.Run.{Behind, run}
 use Rattle.tape.specs.Steps.{word}
-use Rattle.tape.specs.Laws.{from-going, from-stopped}
+use Rattle.tape.proofs.Laws.{from-going, from-stopped}
 use borrow.Author.Needs.{needs}
 use Rattle.tape.proofs.script.read_word.Statement.{statement}
 use Rattle.tape.proofs.script.read_word.Tie as tie

@@ -14,7 +14,7 @@ use Rattle.tape.specs.declared.progress.Pace.the-variants.{Going, Stoppe
 use Rattle.tape.specs.Plan.{give, refuse, handle}
 use Rattle.tape.specs.Run.{After, after, next, nextAt, Behind, run}
 use Rattle.tape.specs.Steps.{word, dataFrom}
-use Rattle.tape.specs.Laws.{run-handle, from-going, from-stopped}
+use Rattle.tape.proofs.Laws.{run-handle, from-going, from-stopped}
 use borrow.Author.Needs.{needs}
 use Rattle.tape.proofs.script.take_data.Statement.{statement}
 use Rattle.tape.proofs.script.take_data.Tie as tie

@@ -1,6 +1,6 @@
 use mathlib.Core.Path.{ap, _∙_}
 use Rattle.tape.specs.declared.progress.Pace.the-variants.{Stopped}
-use Rattle.tape.specs.Laws.{seq, stay, settled-value, settled-refusal, settled-ended, settled-full}
+use Rattle.tape.proofs.Laws.{seq, stay, settled-value, settled-refusal, settled-ended, settled-full}
 use borrow.Author.Needs.{needs}
 use Rattle.tape.proofs.steps.close.Statement.{statement}
 use Rattle.tape.proofs.steps.close.Tie as tie

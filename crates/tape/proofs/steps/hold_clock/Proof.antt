@@ -1,5 +1,5 @@
 use Rattle.tape.specs.Steps.{holdClock}
-use Rattle.tape.specs.Laws.{looking}
+use Rattle.tape.proofs.Laws.{looking}
 use borrow.Author.Needs.{needs}
 use Rattle.tape.proofs.steps.hold_clock.Statement.{statement}
 use Rattle.tape.proofs.steps.hold_clock.Tie as tie

@@ -1,5 +1,5 @@
 use Rattle.tape.specs.Steps.{holdGated}
-use Rattle.tape.specs.Laws.{looking}
+use Rattle.tape.proofs.Laws.{looking}
 use borrow.Author.Needs.{needs}
 use Rattle.tape.proofs.steps.hold_gated.Statement.{statement}
 use Rattle.tape.proofs.steps.hold_gated.Tie as tie

@@ -1,5 +1,5 @@
 use Rattle.tape.specs.Steps.{holdSignalling}
-use Rattle.tape.specs.Laws.{looking}
+use Rattle.tape.proofs.Laws.{looking}
 use borrow.Author.Needs.{needs}
 use Rattle.tape.proofs.steps.hold_signalling.Statement.{statement}
 use Rattle.tape.proofs.steps.hold_signalling.Tie as tie

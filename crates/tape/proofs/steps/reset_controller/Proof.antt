@@ -1,6 +1,6 @@
 use Rattle.tape.specs.Steps.{resetController}
-use Rattle.tape.specs.Laws.{seq}
-use Rattle.tape.specs.Room.{keeps}
+use Rattle.tape.proofs.Laws.{seq}
+use Rattle.tape.proofs.Room.{keeps}
 use mathlib.Core.List.{[]}
 use borrow.Author.Needs.{needs}
 use Rattle.tape.proofs.steps.reset_controller.Statement.{statement}

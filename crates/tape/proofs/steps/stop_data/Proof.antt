@@ -1,5 +1,5 @@
 use Rattle.tape.specs.Steps.{stopData}
-use Rattle.tape.specs.Laws.{seq}
+use Rattle.tape.proofs.Laws.{seq}
 use borrow.Author.Needs.{needs}
 use Rattle.tape.proofs.steps.stop_data.Statement.{statement}
 use Rattle.tape.proofs.steps.stop_data.Tie as tie

@@ -6,8 +6,8 @@ use Rattle.types.specs.Bits.{clear}
 use Rattle.tape.specs.declared.script.Reading.the-variants.{Status}
 use Rattle.tape.specs.Run.{at, Behind}
 use Rattle.tape.specs.Steps.{word, waitIdle}
-use Rattle.tape.specs.Laws.{refusal, forget}
-use Rattle.tape.specs.Loops.{Turned, no-turn, next-turn, last-turn, out-of-turns, turned-on}
+use Rattle.tape.proofs.Laws.{refusal, forget}
+use Rattle.tape.proofs.Loops.{Turned, no-turn, next-turn, last-turn, out-of-turns, turned-on}
 use borrow.Author.Needs.{needs}
 use Rattle.tape.proofs.steps.wait_idle.Statement.{statement}
 use Rattle.tape.proofs.steps.wait_idle.Tie as tie

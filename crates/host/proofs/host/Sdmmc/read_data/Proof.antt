@@ -2,7 +2,7 @@ use mathlib.Core.List.{List}
 use mathlib.Core.Path.{ap, sym, _∙_}
 use Prim.Native.Nat.{ℕ}
 use lib.ListN.{take, drop}
-use Rattle.tape.specs.Laws.{kept}
+use Rattle.tape.proofs.Laws.{kept}
 use Rattle.host.specs.Calls.{Came, calledOf, readPlan, readNext, blocksFilled}
 use Rattle.host.proofs.Ran.{data-done, ends-list, ends-taken}
 use borrow.Author.Needs.{needs}

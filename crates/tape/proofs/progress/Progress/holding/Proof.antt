@@ -1,6 +1,6 @@
 use mathlib.Core.Path.{refl}
 use Rattle.tape.specs.Run.{run}
-use Rattle.tape.specs.Laws.{from-going, from-stopped}
+use Rattle.tape.proofs.Laws.{from-going, from-stopped}
 use borrow.Author.Needs.{needs}
 use Rattle.tape.proofs.progress.Progress.holding.Statement.{statement}
 use Rattle.tape.proofs.progress.Progress.holding.Tie as tie

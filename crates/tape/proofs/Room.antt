@@ -19,7 +19,7 @@ use Rattle.tape.specs.declared.rows.Row.{Row}
 use Rattle.tape.specs.Plan.{failed, ended, Plan, give, refuse, read, write, look, hold}
 use Rattle.tape.specs.Rows.{placeOf, rowAt, roomOf, wordsOf}
 use Rattle.tape.specs.Run.{State, After, after, noted, haltOf, run, doesAt, Gave}
-use Rattle.tape.specs.Laws.{by-cases}
+use Rattle.tape.proofs.Laws.{by-cases}
 
 -- What every run leaves of a list with n rows written: as many words, those of the first n rows, and those past the rows
 -- that it writes, which are no more than there is room for.

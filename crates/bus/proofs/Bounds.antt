@@ -16,9 +16,9 @@ use Rattle.tape.specs.declared.progress.Pace.the-variants.{Going}
 use Rattle.tape.specs.Plan.{refusing}
 use Rattle.tape.specs.Run.{State, Gave}
 use Rattle.tape.specs.Steps.{waitIdle, resetController, stopData, setClken}
-use Rattle.tape.specs.Words.{AtMost, at-most-handle, at-most-give, at-most-fail, at-most-word, at-most-row, at-most-look}
-use Rattle.tape.specs.Words.{at-most-test, at-most-ensure, at-most-then, at-most-after, at-most-until, at-most-data, taken}
-use Rattle.tape.specs.Values.{Gives, gives-handle, gives-give, gives-then, gives-last, gives-refuse, gives-data, given}
+use Rattle.tape.proofs.Words.{AtMost, at-most-handle, at-most-give, at-most-fail, at-most-word, at-most-row, at-most-look}
+use Rattle.tape.proofs.Words.{at-most-test, at-most-ensure, at-most-then, at-most-after, at-most-until, at-most-data, taken}
+use Rattle.tape.proofs.Values.{Gives, gives-handle, gives-give, gives-then, gives-last, gives-refuse, gives-data, given}
 use Rattle.bus.specs.declared.response.Form.{Form}
 use Rattle.bus.specs.declared.response.Response.{Response}
 use Rattle.bus.specs.Command.{formOf, zeros, issue, pollCompletion, waitCompletion, echo, responseWords, judge, answer}

@@ -13,7 +13,7 @@ use Rattle.tape.specs.Plan.{Cause, Plan, failed, ended, give, refuse, re
 use Rattle.tape.specs.Rows.{roomOf, rowAt}
 use Rattle.tape.specs.Run.{State, After, noted, haltOf, run, doesAt, Gave}
 use Rattle.tape.specs.Steps.{dataFrom}
-use Rattle.tape.specs.Laws.{by-cases}
+use Rattle.tape.proofs.Laws.{by-cases}
 
 unfoldable pub gives : {A : Type 0} → (A → Type 0) → Plan A → Type 0
 gives P (give a) = P a

@@ -20,9 +20,9 @@ use Rattle.tape.specs.Plan.{Cause, failed, ended, Plan, give, refuse, re
 use Rattle.tape.specs.Plan.{until}
 use Rattle.tape.specs.Rows.{roomOf, rowAt}
 use Rattle.tape.specs.Run.{State, After, noted, run, doesAt, Gave}
-use Rattle.tape.specs.Laws.{by-cases}
+use Rattle.tape.proofs.Laws.{by-cases}
 use Rattle.tape.specs.Steps.{word, row, dataFrom}
-use Rattle.tape.specs.Room.{Written, Free, with-row, free}
+use Rattle.tape.proofs.Room.{Written, Free, with-row, free}
 
 -- What a call does on a script with more words behind: the same, where it did not come to the script's end; and where
 -- it did, the rows so far are the first of those that it writes then.

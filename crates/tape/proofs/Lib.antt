@@ -1,0 +1,5 @@
+pub mod Laws
+pub mod Loops
+pub mod Room
+pub mod Words
+pub mod Values
