@@ -10,7 +10,7 @@ returns c = rw (eq-eqb _ _ (c .if1 .taken))
 
 returns-2 : tie.Need-returns-2
 unfolding addressOf
-returns-2 c = rw (ne-eqb _ _ (c .before .if1 .left), lt-ltb _ _ (c .if2 .taken))
+returns-2 c = rw (ne-eqb _ _ (c .before .if1 .left), lt-ltb 511 _ (c .if2 .taken))
 
 returns-3 : tie.Need-returns-3
 unfolding addressOf
