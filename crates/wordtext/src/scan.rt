@@ -16,7 +16,8 @@ pub struct Scan {
 // One byte more, which stands at `at`. A word that it completes goes into the list, where that has room.
 fn step(s: Scan, at: usize, b: u8, words: &mut [u32]) -> Scan
     requires { ⌜ s .count ≤ length (now words) ⌝ }
-    ensures { λ r. ⌜ Holds (step (length (now (words .entry))) at (stateOf s (now (words .entry))) b) (now (words .entry)) r (now (words .exit)) ⌝ }
+    ensures grows { λ r. ⌜ s .count ≤ r .count ⌝ }
+    ensures holds { λ r. ⌜ Holds (step (length (now (words .entry))) at (stateOf s (now (words .entry))) b) (now (words .entry)) r (now (words .exit)) ⌝ }
 {
     let token = s.token;
     let next = token.after(b);
