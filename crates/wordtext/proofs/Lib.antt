@@ -1,3 +1,4 @@
+pub mod Answers
 pub mod Places
 pub mod Steps
 pub mod Tests

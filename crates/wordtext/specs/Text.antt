@@ -15,7 +15,9 @@ use Rattle.wordtext.specs.declared.token.Token.{Token}
 use Rattle.wordtext.specs.declared.token.Token.the-variants as T
 use Rattle.wordtext.specs.declared.token.Given.{Given}
 use Rattle.wordtext.specs.declared.token.Given.the-variants as G
-use Rattle.wordtext.specs.Token.{NEWLINE, after, completed, beganAt}
+use Rattle.wordtext.specs.declared.token.Verdict.{Verdict}
+use Rattle.wordtext.specs.declared.token.Verdict.the-variants as W
+use Rattle.wordtext.specs.Token.{NEWLINE, after, completed, beganAt, verdictOf}
 
 -- how far a reading has come: what is in hand, where that began, and the words before it
 pub record State : Type 0 where
@@ -61,18 +63,16 @@ placeFrom p (b ∷ bs) = placeFrom (moved p b) bs
 unfoldable pub placeOf : List ℕ → ℕ → Place
 placeOf text at = placeFrom (record { line = 1; column = 1 }) (take at text)
 
--- what a text comes to
-abbrev pub answerAt : Token → Place → ℕ → Reading
-answerAt (T.Wrong cause) place count = Refused cause place
-answerAt T.Nothing place count = Words count
-answerAt T.Comment place count = Words count
-answerAt T.Zero place count = Words count
-answerAt T.Prefix place count = Words count
-answerAt (T.Decimal value) place count = Words count
-answerAt (T.Hexadecimal value) place count = Words count
+-- what a text comes to: so many words, or the first thing that is none, with its place
+abbrev pub answerBy : Verdict → Place → ℕ → Reading
+answerBy W.Right place count = Words count
+answerBy (W.Wrong cause) place count = Refused cause place
+
+abbrev pub answerAt : State → List ℕ → Reading
+answerAt s text = answerBy (verdictOf (s .token)) (placeOf text (s .start)) (length (s .words))
 
 unfoldable pub answerOf : ℕ → List ℕ → Reading
-answerOf room text = answerAt (readOf room text .token) (placeOf text (readOf room text .start)) (length (readOf room text .words))
+answerOf room text = answerAt (readOf room text) text
 
 -- words laid over the start of a list
 abbrev pub laid : List ℕ → List ℕ → List ℕ

@@ -10,6 +10,8 @@ use Rattle.wordtext.specs.declared.token.Grown.{Grown}
 use Rattle.wordtext.specs.declared.token.Grown.the-variants.{To, Not}
 use Rattle.wordtext.specs.declared.token.Given.{Given}
 use Rattle.wordtext.specs.declared.token.Given.the-variants as G
+use Rattle.wordtext.specs.declared.token.Verdict.{Verdict}
+use Rattle.wordtext.specs.declared.token.Verdict.the-variants as W
 
 -- bytes by their sign
 abbrev pub NEWLINE : ℕ
@@ -104,3 +106,13 @@ beganAt T.Prefix at start = start
 beganAt (T.Decimal value) at start = start
 beganAt (T.Hexadecimal value) at start = start
 beganAt (T.Wrong cause) at start = start
+
+-- whether all was right so far
+abbrev pub verdictOf : Token → Verdict
+verdictOf (T.Wrong cause) = W.Wrong cause
+verdictOf T.Nothing = W.Right
+verdictOf T.Comment = W.Right
+verdictOf T.Zero = W.Right
+verdictOf T.Prefix = W.Right
+verdictOf (T.Decimal value) = W.Right
+verdictOf (T.Hexadecimal value) = W.Right

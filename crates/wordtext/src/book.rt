@@ -7,7 +7,7 @@ use crate::place;
 use crate::place::Place;
 use crate::scan;
 use crate::token::Cause;
-use crate::token::Token;
+use crate::token::Verdict;
 use types::words;
 
 // What a text comes to: so many words, or the first thing that is none, with its place.
@@ -29,18 +29,13 @@ impl Book {
 pub fn read_words(text: &[u8], words: &mut [u32]) -> Reading
     ensures answer { λ r. ⌜ r ≡ answerOf (length (now (words .entry))) (now (text .entry)) ⌝ }
     ensures list { λ _. ⌜ now (words .exit) ≡ laid (readOf (length (now (words .entry))) (now (text .entry)) .words) (now (words .entry)) ⌝ }
-    ensures fits { λ r. ⌜ countOf r ≤ length (now (words .exit)) ⌝ }
+    ensures fits { λ r. ⌜ (countOf r ≤ length (now (words .entry))) × (length (now (words .exit)) ≡ length (now (words .entry))) ⌝ }
 {
     let s = scan::scan_text(text, words);
     let token = s.token;
-    match token {
-        Token::Wrong(cause) => Reading::Refused(cause, place::place_at(text, s.start)),
-        Token::Nothing => Reading::Words(s.count),
-        Token::Comment => Reading::Words(s.count),
-        Token::Zero => Reading::Words(s.count),
-        Token::Prefix => Reading::Words(s.count),
-        Token::Decimal(_) => Reading::Words(s.count),
-        Token::Hexadecimal(_) => Reading::Words(s.count),
+    match token.verdict() {
+        Verdict::Right => Reading::Words(s.count),
+        Verdict::Wrong(cause) => Reading::Refused(cause, place::place_at(text, s.start)),
     }
 }
 

@@ -1,6 +1,6 @@
 // The word in hand, as far as it has come.
 ghost use mathlib.Core.Path.{_≡_};
-ghost use Rattle.wordtext.specs.Token.{withDigit, decimalOf, hexadecimalOf, goneOn, opened, closed, after, wordOf, completed, beganAt};
+ghost use Rattle.wordtext.specs.Token.{withDigit, decimalOf, hexadecimalOf, goneOn, opened, closed, after, wordOf, completed, beganAt, verdictOf};
 use crate::byte;
 
 // Why something in a text is no word of the book.
@@ -32,6 +32,12 @@ pub enum Grown {
 pub enum Given {
     Word(u32),
     Nothing,
+}
+
+// Whether all was right so far.
+pub enum Verdict {
+    Right,
+    Wrong(Cause),
 }
 
 fn with_digit(base: u8, value: u32, b: u8) -> Grown
@@ -111,13 +117,7 @@ impl Token {
         ensures { λ r. ⌜ r ≡ closed self b ⌝ }
     {
         match self {
-            Token::Comment => {
-                if b == b'\n' {
-                    Token::Nothing
-                } else {
-                    self
-                }
-            }
+            Token::Comment => { if b == b'\n' { Token::Nothing } else { self } }
             Token::Prefix => Token::Wrong(Cause::NotANumber),
             Token::Wrong(_) => self,
             Token::Nothing => opened(b),
@@ -176,6 +176,21 @@ impl Token {
             Token::Decimal(_) => start,
             Token::Hexadecimal(_) => start,
             Token::Wrong(_) => start,
+        }
+    }
+
+    // Whether all was right up to here.
+    pub fn verdict(self) -> Verdict
+        ensures { λ r. ⌜ r ≡ verdictOf self ⌝ }
+    {
+        match self {
+            Token::Wrong(cause) => Verdict::Wrong(cause),
+            Token::Nothing => Verdict::Right,
+            Token::Comment => Verdict::Right,
+            Token::Zero => Verdict::Right,
+            Token::Prefix => Verdict::Right,
+            Token::Decimal(_) => Verdict::Right,
+            Token::Hexadecimal(_) => Verdict::Right,
         }
     }
 }

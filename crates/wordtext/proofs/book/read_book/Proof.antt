@@ -1,56 +1,49 @@
+use Prim.Native.Nat.{ℕ, _≤_}
+use mathlib.Core.List.{List}
+use mathlib.Core.Path.{_≡_, ap, sym, _∙_}
+use native.Mathlib.Omega.{arith}
+use lib.ListN.{length, take}
+use lib.Seq.{length-take-le}
+use Rattle.types.specs.Words.{filled}
+use Rattle.wordtext.specs.Text.{answerOf, readOf, bookOver, countOf}
+use Rattle.wordtext.proofs.Answers.{words-count, first-words}
 use borrow.Author.Needs.{needs}
 use Rattle.wordtext.proofs.book.read_book.Statement.{statement}
 use Rattle.wordtext.proofs.book.read_book.Tie as tie
-use Rattle.wordtext.proofs.book.read_book.Reads as reads
-use Rattle.wordtext.proofs.book.read_book.Lts as lts
-use Rattle.types.proofs.words.fill.Reads as fill-reads
-use Rattle.wordtext.proofs.book.read_words.Reads as read-words-reads
 
--- src/book.rt:54:30
-slice-aggregate-read-words : tie.Need-slice-aggregate-read-words
-slice-aggregate-read-words c = search needs
-
--- src/book.rt:54:9
-read-words-requires : tie.Need-read-words-requires
-read-words-requires c κs = search needs
-
--- src/book.rt:55:27
-enum-known-r : tie.Need-enum-known-r
-enum-known-r c = search needs
-
--- src/book.rt:56:28
 array-share-prefix-list : tie.Need-array-share-prefix-list
-array-share-prefix-list c = ?
+array-share-prefix-list c =
+    let known = c .before .before in
+    let read = known .before .before .before in
+    let fits = read .read-words .ensures .1 .1 in
+    omega (arith, fits .1, rw (known .r .given .1) at (fits .0))
 
--- src/book.rt:56:28
 slice-aggregate-fill : tie.Need-slice-aggregate-fill
-slice-aggregate-fill c = ?
+slice-aggregate-fill c =
+    let known = c .before .before .before in
+    let read = known .before .before .before in
+    let fits = read .read-words .ensures .1 .1 in
+    sym (length-take-le (known .r .given .0 .0) _ (omega (arith, fits .1, rw (known .r .given .1) at (fits .0))))
 
--- src/book.rt:56:9
-fill-requires : tie.Need-fill-requires
-fill-requires c κs = search needs
-
-enum-told : tie.Need-enum-told
-enum-told c = search needs
-
--- src/book.rt:48:1
 returns : tie.Need-returns
-returns c = ?
+returns c =
+    let known = c .before .before .before .before in
+    let read = known .before .before .before in
+    let text = read .before .before .before .args .text .now in
+    let n = known .r .given .0 .0 in
+    let answer = sym (known .r .given .1) ∙ read .read-words .ensures .0 in
+    let count = words-count 4096 text n (sym answer) in (
+      answer,
+      (c .fill .ensures ∙ ap (λ (l : List ℕ). filled l (read .before .before .before .args .bytes .now)) (ap (take n) (read .read-words .ensures .1 .0) ∙ first-words (readOf 4096 text .words) _ n count), rw (known .r .given .1) at (read .read-words .ensures .1 .1 .0)),
+    )
 
--- src/book.rt:48:1
 returns-2 : tie.Need-returns-2
-returns-2 c = ?
+returns-2 c =
+    let read = c .before .before .before in
+    (read .read-words .ensures .0, (rw (c .enum-told .given .1), rw (c .enum-told .given .1) (omega arith)))
 
 pub read-book-spec : {M : Type 1} → statement M
 read-book-spec =
     tie.close
-    (tie.spec
-    slice-aggregate-read-words
-    read-words-requires
-    enum-known-r
-    array-share-prefix-list
-    slice-aggregate-fill
-    fill-requires
-    enum-told
-    returns
-    returns-2)
+    (tie.spec (λ c. search needs) (λ c κs. search needs) (λ c. search needs) array-share-prefix-list slice-aggregate-fill
+    (λ c κs. search needs) (λ c. search needs) returns returns-2)

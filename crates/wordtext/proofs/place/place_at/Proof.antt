@@ -9,9 +9,6 @@ use Rattle.wordtext.proofs.Places.{place-more, place-all, moved-little}
 use borrow.Author.Needs.{needs}
 use Rattle.wordtext.proofs.place.place_at.Statement.{statement}
 use Rattle.wordtext.proofs.place.place_at.Tie as tie
-use Rattle.wordtext.proofs.place.place_at.Reads as reads
-use Rattle.wordtext.proofs.place.place_at.Lts as lts
-use Rattle.wordtext.proofs.place.moved.Reads as moved-reads
 
 abbrev Inv-loop : tie.InvT-loop
 Inv-loop text at end p₀ i₀ p i =
@@ -48,8 +45,8 @@ returns c =
     c .before .loop .inv .2
     ∙ ⊎-elim
     (λ w.
-      let same : i ≡ a .at = omega arith in
-      ap (placeOf text) same)
+    let same : i ≡ a .at = omega arith in
+    ap (placeOf text) same)
     (λ w. place-all text i (a .at) (omega arith) (omega arith))
     (start .if1 .came)
 

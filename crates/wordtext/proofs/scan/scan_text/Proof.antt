@@ -8,9 +8,6 @@ use Rattle.wordtext.proofs.Steps.{goes-on, ends, rest-more}
 use borrow.Author.Needs.{needs}
 use Rattle.wordtext.proofs.scan.scan_text.Statement.{statement}
 use Rattle.wordtext.proofs.scan.scan_text.Tie as tie
-use Rattle.wordtext.proofs.scan.scan_text.Reads as reads
-use Rattle.wordtext.proofs.scan.scan_text.Lts as lts
-use Rattle.wordtext.proofs.scan.step.Reads as step-reads
 
 abbrev Inv-loop : tie.InvT-loop
 Inv-loop text words₀ s₀ i₀ words s i =
@@ -53,8 +50,8 @@ loop-again c =
     let holds = called .step .ensures .1 in (
       omega arith,
       ap (λ (t : State). scan room (i + 1) t (drop (i + 1) text)) (holds .same ∙ ap (λ (n : ℕ). step n i s b) (inv .3))
-      ∙ sym (goes-on room i s text (omega arith))
-      ∙ inv .1,
+          ∙ sym (goes-on room i s text (omega arith))
+          ∙ inv .1,
       rest-more (head .loop .s .count) (called .step .result .count) _ (head .loop .words) (a .words .now) (called .step .ensures .0) (holds .rest) (inv .2),
       holds .size ∙ inv .3,
       omega (arith, holds .fits),

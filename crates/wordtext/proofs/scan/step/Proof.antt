@@ -12,7 +12,7 @@ returns c =
     let a = start .args in (
       omega arith,
       rw (done .before .before .after .ensures, done .before .began .ensures)
-      (by-none (a .s) (a .at) (a .b) (a .words .now) (start .pre) (sym (done .completed .ensures) ∙ c .enum-told .given .1)),
+          (by-none (a .s) (a .at) (a .b) (a .words .now) (start .pre) (sym (done .completed .ensures) ∙ c .enum-told .given .1)),
     )
 
 returns-2 : tie.Need-returns-2
@@ -23,7 +23,7 @@ returns-2 c =
     let a = start .args in (
       omega arith,
       rw (done .before .before .after .ensures, done .before .began .ensures)
-      (by-word (a .s) (a .at) (a .b) (a .words .now) (start .pre) _ (sym (done .completed .ensures) ∙ word .word .given .1) (c .if1 .taken)),
+          (by-word (a .s) (a .at) (a .b) (a .words .now) (start .pre) _ (sym (done .completed .ensures) ∙ word .word .given .1) (c .if1 .taken)),
     )
 
 returns-3 : tie.Need-returns-3
@@ -34,7 +34,7 @@ returns-3 c =
     let a = start .args in (
       omega arith,
       rw (done .before .began .ensures)
-      (by-full (a .s) (a .at) (a .b) (a .words .now) (start .pre) _ (sym (done .completed .ensures) ∙ word .word .given .1) (c .if1 .left)),
+          (by-full (a .s) (a .at) (a .b) (a .words .now) (start .pre) _ (sym (done .completed .ensures) ∙ word .word .given .1) (c .if1 .left)),
     )
 
 pub step-spec : {M : Type 1} → statement M
