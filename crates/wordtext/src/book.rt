@@ -40,10 +40,10 @@ pub fn read_words(text: &[u8], words: &mut [u32]) -> Reading
 }
 
 // Reads a book's words into bytes, the lowest byte of each first. The bytes stay as they are where the text is refused.
-pub fn read_book(text: &[u8], bytes: &mut [u8; 16384]) -> Reading
+pub fn read_book(text: &[u8], bytes: &mut [u8]) -> Reading
     ensures answer { λ r. ⌜ r ≡ answerOf 4096 (now (text .entry)) ⌝ }
     ensures bytes { λ r. ⌜ now (bytes .exit) ≡ bookOver r (readOf 4096 (now (text .entry)) .words) (now (bytes .entry)) ⌝ }
-    ensures fits { λ r. ⌜ countOf r ≤ 4096 ⌝ }
+    ensures fits { λ r. ⌜ (countOf r ≤ 4096) × (length (now (bytes .exit)) ≡ length (now (bytes .entry))) ⌝ }
 {
     let mut list = [0u32; 4096];
     let r = read_words(text, &mut list);

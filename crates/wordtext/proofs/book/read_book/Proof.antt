@@ -1,6 +1,6 @@
 use Prim.Native.Nat.{ℕ, _≤_}
 use mathlib.Core.List.{List}
-use mathlib.Core.Path.{_≡_, ap, sym, _∙_}
+use mathlib.Core.Path.{_≡_, refl, ap, sym, _∙_}
 use native.Mathlib.Omega.{arith}
 use lib.ListN.{length, take}
 use lib.Seq.{length-take-le}
@@ -27,23 +27,28 @@ slice-aggregate-fill c =
 
 returns : tie.Need-returns
 returns c =
-    let known = c .before .before .before .before in
+    let filled-in = c .before .before in
+    let known = filled-in .before .before .before .before in
     let read = known .before .before .before in
-    let text = read .before .before .before .args .text .now in
+    let a = read .before .before .before .before .args in
+    let text = a .text .now in
     let n = known .r .given .0 .0 in
     let answer = sym (known .r .given .1) ∙ read .read-words .ensures .0 in
-    let count = words-count 4096 text n (sym answer) in (
+    let words = ap (take n) (read .read-words .ensures .1 .0) ∙ first-words (readOf 4096 text .words) _ n (words-count 4096 text n (sym answer)) in (
       answer,
-      (c .fill .ensures ∙ ap (λ (l : List ℕ). filled l (read .before .before .before .args .bytes .now)) (ap (take n) (read .read-words .ensures .1 .0) ∙ first-words (readOf 4096 text .words) _ n count), rw (known .r .given .1) at (read .read-words .ensures .1 .1 .0)),
+      (
+        filled-in .fill .ensures ∙ ap (λ (l : List ℕ). filled l (a .bytes .now)) words,
+        (rw (known .r .given .1) at (read .read-words .ensures .1 .1 .0), search needs),
+      ),
     )
 
 returns-2 : tie.Need-returns-2
 returns-2 c =
     let read = c .before .before .before in
-    (read .read-words .ensures .0, (rw (c .enum-told .given .1), rw (c .enum-told .given .1) (omega arith)))
+    (read .read-words .ensures .0, (rw (c .enum-told .given .1), (rw (c .enum-told .given .1) (omega arith), refl)))
 
 pub read-book-spec : {M : Type 1} → statement M
 read-book-spec =
     tie.close
     (tie.spec (λ c. search needs) (λ c κs. search needs) (λ c. search needs) array-share-prefix-list slice-aggregate-fill
-    (λ c κs. search needs) (λ c. search needs) returns returns-2)
+    (λ c κs. search needs) (λ c. search needs) (λ c. search needs) returns returns-2)
