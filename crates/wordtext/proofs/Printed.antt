@@ -14,7 +14,7 @@ use Rattle.wordtext.specs.declared.token.Grown.the-variants.{To}
 use Rattle.wordtext.specs.declared.token.Token.{Token}
 use Rattle.wordtext.specs.declared.token.Token.the-variants as T
 use Rattle.wordtext.specs.declared.token.Given.the-variants as G
-use Rattle.wordtext.specs.Token.{wordOf, endsAt, digitOf, withDigit, decimalOf, hexadecimalOf, goneOn, opened, closed, after, completed, beganAt}
+use Rattle.wordtext.specs.Token.{LIMIT, wordOf, endsAt, digitOf, withDigit, decimalOf, hexadecimalOf, goneOn, opened, closed, after, completed, beganAt}
 use Rattle.wordtext.specs.Text.{State, taken, step, scan}
 use Rattle.wordtext.proofs.Tests.{both}
 
@@ -68,7 +68,7 @@ last-digit : (base w : ℕ) → 0 < base → base ≤ 16 → w < 2 ^ 32 → with
 unfolding withDigit
 last-digit base w some few h =
     let d = mod-lt w some in
-    rw (valued (w % base) (omega arith), lt-leb base (w % base) d, div-add-mod' w base, lt-ltb w (2 ^ 32) h)
+    rw (valued (w % base) (omega arith), lt-leb base (w % base) d, div-add-mod' w base, lt-ltb w LIMIT h)
 
 -- bytes one after the other, before the text's end
 abbrev over : ℕ → ℕ → State → List ℕ → State
@@ -146,8 +146,10 @@ first-digit w h = by (eqb w 0) refl
   where
     same : w % 10 ≡ w
     same = omega arith
+
     none : 0 ≡ w / 10
     none = omega arith
+
     by : (t : Bool) → eqb w 0 ≡ t → cond (eqb (glyph (w % 10)) 48) T.Zero (decimalOf 0 (glyph (w % 10))) ≡ cond t T.Zero (T.Decimal w)
     by true e = rw (same, zero-only w (omega arith) true e)
     by false e = rw (ap (λ (n : ℕ). eqb (glyph n) 48) same ∙ zero-only w (omega arith) false e, none, last-digit 10 w (omega arith) (omega arith) (omega arith))

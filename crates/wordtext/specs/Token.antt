@@ -23,6 +23,10 @@ COMMA = 44
 abbrev pub HASH : ℕ
 HASH = 35
 
+-- a word is below this
+abbrev pub LIMIT : ℕ
+LIMIT = 2 ^ 32
+
 abbrev pub between : ℕ → ℕ → ℕ → Bool
 between low high b = leb low b && leb b high
 
@@ -38,11 +42,11 @@ endsAt b = isWhite b || eqb b COMMA || eqb b HASH
 unfoldable pub digitOf : ℕ → ℕ
 digitOf b = cond (between 48 57 b) (b - 48) (cond (between 65 70 b) (b - 65 + 10) (cond (between 97 102 b) (b - 97 + 10) 16))
 
--- a number in this base, with one digit more: it has to be one of the base, and the number below 2 ^ 32
+-- a number in this base, with one digit more: it has to be one of the base, and the number below the limit
 unfoldable pub withDigit : ℕ → ℕ → ℕ → Grown
 withDigit base value b =
     cond (leb base (digitOf b)) (Not NotANumber)
-    (cond (ltb (value * base + digitOf b) (2 ^ 32)) (To (value * base + digitOf b)) (Not TooLarge))
+    (cond (ltb (value * base + digitOf b) LIMIT) (To (value * base + digitOf b)) (Not TooLarge))
 
 abbrev pub told : (ℕ → Token) → Grown → Token
 told kind (To n) = kind n

@@ -21,8 +21,6 @@ pub struct Book {}
 impl Book {
     // A book holds at most this many words.
     pub const WORDS: usize = 4096;
-
-    pub const BYTES: usize = 16384;
 }
 
 // Reads the words of a text into the start of a list; those of the list that are left over stay as they are.
@@ -45,7 +43,7 @@ pub fn read_book(text: &[u8], bytes: &mut [u8]) -> Reading
     ensures bytes { λ r. ⌜ now (bytes .exit) ≡ bookOver r (readOf 4096 (now (text .entry)) .words) (now (bytes .entry)) ⌝ }
     ensures fits { λ r. ⌜ (countOf r ≤ 4096) × (length (now (bytes .exit)) ≡ length (now (bytes .entry))) ⌝ }
 {
-    let mut list = [0u32; 4096];
+    let mut list = [0u32; Book::WORDS];
     let r = read_words(text, &mut list);
     if let Reading::Words(n) = r {
         words::fill(bytes, &list[..n]);

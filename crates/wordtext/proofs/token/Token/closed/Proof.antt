@@ -6,11 +6,11 @@ use Rattle.wordtext.proofs.token.Token.closed.Tie as tie
 
 returns : tie.Need-returns
 unfolding closed
-returns c = rw (c .before .enum-told .given .1, eq-eqb _ _ (c .if1 .taken))
+returns c = rw (c .before .enum-told .given .1, eq-eqb _ 10 (c .if1 .taken))
 
 returns-2 : tie.Need-returns-2
 unfolding closed
-returns-2 c = rw (c .before .enum-told .given .1, ne-eqb _ _ (c .if1 .left))
+returns-2 c = rw (c .before .enum-told .given .1, ne-eqb _ 10 (c .if1 .left))
 
 returns-3 : tie.Need-returns-3
 unfolding closed

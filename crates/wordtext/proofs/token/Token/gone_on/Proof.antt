@@ -6,19 +6,19 @@ use Rattle.wordtext.proofs.token.Token.gone_on.Tie as tie
 
 returns : tie.Need-returns
 unfolding goneOn
-returns c = rw (c .before .enum-told .given .1, eq-eqb _ _ (c .if1 .taken))
+returns c = rw (c .before .enum-told .given .1, eq-eqb _ 48 (c .if1 .taken))
 
 returns-2 : tie.Need-returns-2
 unfolding goneOn
-returns-2 c = rw (c .before .before .enum-told .given .1, ne-eqb _ _ (c .before .if1 .left), c .decimal .ensures)
+returns-2 c = rw (c .before .before .enum-told .given .1, ne-eqb _ 48 (c .before .if1 .left), c .decimal .ensures)
 
 returns-3 : tie.Need-returns-3
 unfolding goneOn
-returns-3 c = rw (c .before .enum-told2 .given .1, eq-eqb _ _ (c .if2 .taken))
+returns-3 c = rw (c .before .enum-told2 .given .1, eq-eqb _ 120 (c .if2 .taken))
 
 returns-4 : tie.Need-returns-4
 unfolding goneOn
-returns-4 c = rw (c .before .before .enum-told2 .given .1, ne-eqb _ _ (c .before .if2 .left), c .decimal2 .ensures)
+returns-4 c = rw (c .before .before .enum-told2 .given .1, ne-eqb _ 120 (c .before .if2 .left), c .decimal2 .ensures)
 
 returns-5 : tie.Need-returns-5
 unfolding goneOn
