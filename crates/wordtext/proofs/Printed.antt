@@ -1,7 +1,7 @@
 -- What `io::decimal` and `io::hex` print of a word reads back as that word.
 use Prim.Native.Nat.{ℕ, zero, suc, _+_, _*_, _/_, _%_, _^_, _<_, _≤_}
 use mathlib.Core.Bool.{Bool, true, false, cond, not, _&&_}
-use mathlib.Core.List.{List, [], _∷_, _++_, append-assoc}
+use mathlib.Core.List.{List, [], _∷_, _++_, append-assoc, append-nil}
 use mathlib.Core.Path.{_≡_, refl, ap, sym, _∙_}
 use native.Mathlib.Nat.{add-zero, div-add-mod', mod-lt, pow-suc}
 use native.Mathlib.Numerals.{add-one}
@@ -14,8 +14,9 @@ use Rattle.wordtext.specs.declared.token.Grown.the-variants.{To}
 use Rattle.wordtext.specs.declared.token.Token.{Token}
 use Rattle.wordtext.specs.declared.token.Token.the-variants as T
 use Rattle.wordtext.specs.declared.token.Given.the-variants as G
-use Rattle.wordtext.specs.Token.{LIMIT, wordOf, endsAt, digitOf, withDigit, decimalOf, hexadecimalOf, goneOn, opened, closed, after, completed, beganAt}
-use Rattle.wordtext.specs.Text.{State, taken, step, scan}
+use Rattle.wordtext.specs.Token.{LIMIT, HASH, wordOf, endsAt, digitOf, withDigit, decimalOf, hexadecimalOf, goneOn, opened, closed, after, completed, beganAt}
+use Rattle.wordtext.specs.Text.{State, at-first, taken, step, scan, readOf, answerOf}
+use Rattle.wordtext.specs.declared.book.Reading.the-variants.{Words}
 use Rattle.wordtext.proofs.Tests.{both}
 
 -- what holds of every number below n, computed
@@ -216,3 +217,35 @@ hexadecimal-reads k room at w b s rest is h digit fits e =
     ∙ scan-over room (at + 2) begun (digits 16 (suc k) w) (b ∷ rest)
     ∙ ap (λ (t : State). scan room n t (b ∷ rest)) (hex-held k room (at + 2) w begun refl digit fits)
     ∙ ended room n held b w rest (ends-word room n held b w (T.Hexadecimal w) refl refl refl refl e h)
+
+-- words that fit
+abbrev Below : List ℕ → Type 0
+Below [] = Unit {0}
+Below (w ∷ ws) = (w < 2 ^ 32) × Below ws
+
+-- Words printed one after the other, each in some number of digits that holds it, and each with a space or a comma, or
+-- whatever else ends a word and is no comment, behind it
+module _ (digitsLess1 : ℕ → ℕ) (holds : (w : ℕ) → w < 10 ^ suc (digitsLess1 w)) (b : ℕ) (ends : endsAt b ≡ true) (plain : eqb b HASH ≡ false) where
+  abbrev printed : List ℕ → List ℕ
+  printed [] = []
+  printed (w ∷ ws) = digits 10 (suc (digitsLess1 w)) w ++ b ∷ printed ws
+
+  -- from between two words, with room for them, they are read, and no other
+  read-back : (room at : ℕ) (s : State) (ws : List ℕ) → Below ws → s .token ≡ T.Nothing → length (s .words) + length ws ≤ room
+      → (scan room at s (printed ws) .words ≡ s .words ++ ws) × (scan room at s (printed ws) .token ≡ T.Nothing)
+  unfolding scan after completed taken endsAt closed
+  read-back room at s [] below is h = (rw is (sym (append-nil (s .words))), rw is)
+  read-back room at s (w ∷ ws) below is h =
+      let n = at + length (digits 10 (suc (digitsLess1 w)) w) + 1 in
+      let next : State = record { token = opened b; start = at; words = s .words ++ w ∷ [] } in
+      let one = decimal-reads (digitsLess1 w) room at w b s (printed ws) is (omega arith) (holds w) (below .0) ends in
+      let rest = read-back room n next ws (below .1) (rw plain) (rw length-append (omega arith)) in
+      (ap (λ (t : State). t .words) one ∙ rest .0 ∙ append-assoc (s .words) (w ∷ []) ws, ap (λ (t : State). t .token) one ∙ rest .1)
+
+  -- so a printed book is a text of exactly its words
+  pub book-reads : (room : ℕ) (ws : List ℕ) → Below ws → length ws ≤ room
+      → (answerOf room (printed ws) ≡ Words (length ws)) × (readOf room (printed ws) .words ≡ ws)
+  unfolding readOf answerOf
+  book-reads room ws below h =
+      let all-of = read-back room 0 at-first ws below refl (omega arith) in
+      (rw (all-of .1, all-of .0), all-of .0)
