@@ -1,3 +1,4 @@
+pub mod AnyList
 pub mod DataRefusals
 pub mod Guards
 pub mod InitRefusals
