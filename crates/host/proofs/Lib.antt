@@ -1,4 +1,3 @@
-pub mod AnyList
 pub mod DataRefusals
 pub mod Guards
 pub mod InitRefusals

@@ -30,17 +30,17 @@ use Rattle.bus.specs.Ready.{waitReady}
 use Rattle.init.specs.declared.settings.Settings.{Settings}
 use Rattle.init.specs.Initialise as I
 use Rattle.init.specs.Initialise.{sourceOf, limitOf, noCard}
 use Rattle.host.proofs.InitRefusals.{found-zero}
 use Rattle.host.proofs.Untouched.{read-16, status-16}
 use Rattle.host.proofs.Leaves.{Leaves, initialise-leaves, read-leaves, status-leaves}
 use Rattle.host.specs.declared.host.Held.{Held}
 use Rattle.host.specs.declared.host.Made.{Made}
 use Rattle.host.specs.declared.host.Sdmmc.{Sdmmc}
 use Rattle.host.specs.Calls.{Came, freshLine, hostOf, heldOf, holding, dropped, kept, ends, untouched, withStatus, initialised, initFrom}
 use Rattle.host.specs.Calls.{transferred, approached, served, readNext, readPlan, readFrom, readKnown, readCame, statusNext, statusPlan, statusFrom, statusCame}
 use Rattle.host.specs.Calls.{clockedHost, judgedHost, made}
-use Rattle.host.specs.Serve.{Call, initialise, read, status, comes, Served, serve, foundFrom, foundBy, approach, Approach, none, approachOf, readApproach, going, passed, begun}
-use Rattle.host.specs.Serve.{Told, toldOf, leftOut, remaining, counted, history, holds, holdsNone, allowed, afterInitialise, afterData, afterCall, expected}
+use Rattle.calls.specs.Serve.{Call, initialise, read, status, comes, Served, serve, foundFrom, foundBy, approach, Approach, none, approachOf, readApproach, going, passed, begun}
+use Rattle.calls.specs.Serve.{Told, toldOf, leftOut, remaining, counted, history, holds, holdsNone, allowed, afterInitialise, afterData, afterCall, expected}
 
 -- What a call that came to x makes of the record that was held before: nothing where it is left out.
 abbrev Follows : Sdmmc → (Answer → List ℕ → Held) → Came → Type 0
@@ -213,6 +213,13 @@ made-host set r = by (madeOf (sourceOf set) (set .config)) (clockOf (sourceOf se
     by Answered.TraceFull k e r = let z : _≡_ {A = ℕ} 0 1 = cc in absurd (omega arith)
     by Answered.BadBook k e r = let z : _≡_ {A = ℕ} 0 1 = cc in absurd (omega arith)
 
+made-clockable : (set : Settings) → made set .answer ≡ Answered.Accepted → Clockable (made set .host .settings)
+unfolding Clockable
+made-clockable set ok =
+    let m = made-host set ok in
+    let new : made set .host .settings ≡ set = ap (λ (h : Sdmmc). h .settings) (m .2) in
+    rw new (m .0, m .1)
+
 -- Demand 3, the record. From a host that holds what is expected after some past:
 after-any-list : (past : List Told) (host : Sdmmc) (cs : List Call) → Clockable (host .settings)
     → heldOf host ≡ expected past → heldOf (serve host cs .host) ≡ expected (history past host cs)
@@ -229,11 +236,8 @@ after-any-list past host (c ∷ cs) k e =
 -- and so from a host that was just made, which holds none.
 pub record-held : (set : Settings) → made set .answer ≡ Answered.Accepted → (cs : List Call)
     → heldOf (serve (made set .host) cs .host) ≡ expected (history [] (made set .host) cs)
-unfolding expected Clockable
-record-held set ok cs =
-    let m = made-host set ok in
-    let new : made set .host .settings ≡ set = ap (λ (h : Sdmmc). h .settings) (m .2) in
-    after-any-list [] (made set .host) cs (rw new (m .0, m .1)) (rw (m .2))
+unfolding expected
+record-held set ok cs = after-any-list [] (made set .host) cs (made-clockable set ok) (rw (made-host set ok .2))
 
 -- Demand 3, the next card: two calls that cannot be told apart, but for the host of those left out.
 pub record Alike (x y : Came) : Type 0 where
@@ -255,8 +259,8 @@ ends-alike h k refused accepted words (Stopped TraceFull) w =
     record { answer = refl; words = refl; rows = refl; list = refl; taken = refl; host = λ o. let z : _≡_ {A = ℕ} 0 1 = cc in absurd (omega arith) }
 
 initialise-alike : (h k : Sdmmc) (frequency : ℕ) (s l : List ℕ) → h .settings ≡ k .settings → Clockable (k .settings) → allowed frequency ≡ true
-    → Alike (initialised h frequency s l) (initialised k frequency s l)
-unfolding Clockable initialised initFrom
+    → Alike (comes h (initialise frequency s l)) (comes k (initialise frequency s l))
+unfolding Clockable comes initialised initFrom
 initialise-alike h k frequency s l e c may =
     let x = run s noCard (I.initialise (k .settings) (c .0) frequency) 0 0 (freshLine (c .0 .frequency)) l in
     rw (e, c .1, allow (eqb frequency 0 || ltb 50_000_000 frequency) may)
@@ -268,13 +272,10 @@ initialise-alike h k frequency s l e c may =
 
 -- 'An initialisation of allowed frequency answers, writes and uses what a new host of the same settings would on the same
 -- script and row list, and but for those two answers leaves the same host', whatever calls came before it.
-pub as-a-new-host : (set : Settings) → made set .answer ≡ Answered.Accepted → (cs : List Call) (frequency : ℕ) (s l : List ℕ) → allowed frequency ≡ true
-    → Alike (initialised (serve (made set .host) cs .host) frequency s l) (initialised (made set .host) frequency s l)
-unfolding Clockable
-as-a-new-host set ok cs frequency s l may =
-    let m = made-host set ok in
-    let new : made set .host .settings ≡ set = ap (λ (h : Sdmmc). h .settings) (m .2) in
-    initialise-alike (serve (made set .host) cs .host) (made set .host) frequency s l (settings-stay (made set .host) cs) (rw new (m .0, m .1)) may
+pub as-a-new-host : (set : Settings) → made set .answer ≡ Answered.Accepted → (past : List Call) (frequency : ℕ) (s l : List ℕ) → allowed frequency ≡ true
+    → Alike (comes (serve (made set .host) past .host) (initialise frequency s l)) (comes (made set .host) (initialise frequency s l))
+as-a-new-host set ok past frequency s l may =
+    initialise-alike (serve (made set .host) past .host) (made set .host) frequency s l (settings-stay (made set .host) past) (made-clockable set ok) may
 
 -- For readers: 'a bad card must not colour the next'.
 
@@ -288,53 +289,50 @@ none-known host e = by (host .known) (host .card) e
         let z : _≡_ {A = ℕ} 0 1 = cc in absurd (omega arith)
     by false card r = refl
 
+pub read-of-none : (host : Sdmmc) → heldOf host ≡ holdsNone → (index bytes : ℕ) (s l : List ℕ) → comes host (read index bytes s l) ≡ untouched host E.NoCard l
+unfolding comes
+read-of-none host e index bytes s l = read-16 host s l index bytes (none-known host e)
+
+pub status-of-none : (host : Sdmmc) → heldOf host ≡ holdsNone → (s l : List ℕ) → comes host (status s l) ≡ untouched host E.NoCard l
+unfolding comes
+status-of-none host e s l = status-16 host s l (none-known host e)
+
+-- after a refused initialisation of allowed frequency, whatever came before it, there is none: so a read answers 16
 module _ (set : Settings) (ok : made set .answer ≡ Answered.Accepted) (past : List Call) where
-  -- the host after this past
   abbrev pub used : Sdmmc
   used = serve (made set .host) past .host
 
-  used-clockable : Clockable (used .settings)
-  unfolding Clockable
-  used-clockable =
-      let m = made-host set ok in
-      let new : made set .host .settings ≡ set = ap (λ (h : Sdmmc). h .settings) (m .2) in
-      rw (settings-stay (made set .host) past, new) (m .0, m .1)
-
-  module _ (frequency : ℕ) (may : allowed frequency ≡ true) (s l : List ℕ) (e : Error) (refused : initialised used frequency s l .answer ≡ Answered.Refused e) where
-    -- after a refused initialisation of allowed frequency there is none
-    pub none-after-a-bad-card : heldOf (initialised used frequency s l .host) ≡ holdsNone
-    unfolding comes leftOut afterCall afterInitialise
+  module _ (frequency : ℕ) (may : allowed frequency ≡ true) (s l : List ℕ) (e : Error) (refused : comes used (initialise frequency s l) .answer ≡ Answered.Refused e) where
+    pub none-after-a-bad-card : heldOf (comes used (initialise frequency s l) .host) ≡ holdsNone
+    unfolding leftOut afterCall afterInitialise
     none-after-a-bad-card =
-        let so : Follows used (ruleOf used (initialise frequency s l)) (initialised used frequency s l) = follows used (initialise frequency s l) used-clockable in
-        rw (refused, may) at so
+        rw (refused, may) at (follows used (initialise frequency s l) (rw (settings-stay (made set .host) past) (made-clockable set ok)))
 
-    -- so a read, and a status call, answer 16
     pub read-after-a-bad-card : (index bytes : ℕ) (s′ l′ : List ℕ)
-        → readCame (initialised used frequency s l .host) index bytes s′ l′ ≡ untouched (initialised used frequency s l .host) E.NoCard l′
-    read-after-a-bad-card index bytes s′ l′ = read-16 (initialised used frequency s l .host) s′ l′ index bytes (none-known (initialised used frequency s l .host) none-after-a-bad-card)
-
-    pub status-after-a-bad-card : (s′ l′ : List ℕ)
-        → statusCame (initialised used frequency s l .host) s′ l′ ≡ untouched (initialised used frequency s l .host) E.NoCard l′
-    status-after-a-bad-card s′ l′ = status-16 (initialised used frequency s l .host) s′ l′ (none-known (initialised used frequency s l .host) none-after-a-bad-card)
+        → comes (comes used (initialise frequency s l) .host) (read index bytes s′ l′) ≡ untouched (comes used (initialise frequency s l) .host) E.NoCard l′
+    read-after-a-bad-card = read-of-none (comes used (initialise frequency s l) .host) none-after-a-bad-card
 
 -- an accepted initialisation was of allowed frequency
-accepted-allowed : (host : Sdmmc) (frequency : ℕ) (s l : List ℕ) → initialised host frequency s l .answer ≡ Answered.Accepted → allowed frequency ≡ true
-unfolding initialised
+accepted-allowed : (host : Sdmmc) (frequency : ℕ) (s l : List ℕ) → comes host (initialise frequency s l) .answer ≡ Answered.Accepted → allowed frequency ≡ true
+unfolding comes initialised
 accepted-allowed host frequency s l r = by (eqb frequency 0 || ltb 50_000_000 frequency) _ r
   where
     by : (b : Bool) (x : Came) → cond b (untouched host E.BadClock l) x .answer ≡ Answered.Accepted → not b ≡ true
     by true x r = let z : _≡_ {A = ℕ} 0 1 = cc in absurd (omega arith)
     by false x r = refl
 
--- two hosts of the same settings with different pasts cannot be told apart after an accepted initialisation on the same script
+-- two hosts of the same settings with different pasts cannot be told apart after an accepted initialisation on the same
+-- script: whatever calls follow
 pub not-told-apart : (set : Settings) → made set .answer ≡ Answered.Accepted → (past other : List Call) (frequency : ℕ) (s l : List ℕ)
-    → initialised (serve (made set .host) past .host) frequency s l .answer ≡ Answered.Accepted
-    → (cs : List Call) → serve (initialised (serve (made set .host) past .host) frequency s l .host) cs ≡ serve (initialised (serve (made set .host) other .host) frequency s l .host) cs
+    → comes (serve (made set .host) past .host) (initialise frequency s l) .answer ≡ Answered.Accepted
+    → (cs : List Call)
+    → serve (comes (serve (made set .host) past .host) (initialise frequency s l) .host) cs
+    ≡ serve (comes (serve (made set .host) other .host) (initialise frequency s l) .host) cs
 unfolding leftOut
 not-told-apart set ok past other frequency s l r cs =
     let may = accepted-allowed (serve (made set .host) past .host) frequency s l r in
     let one = as-a-new-host set ok past frequency s l may in
     let two = as-a-new-host set ok other frequency s l may in
-    let kept : leftOut (initialised (serve (made set .host) past .host) frequency s l .answer) ≡ false = rw r in
-    let also : leftOut (initialised (serve (made set .host) other .host) frequency s l .answer) ≡ false = rw (two .answer ∙ sym (one .answer) ∙ r) in
-    ap (λ (h : Sdmmc). serve h cs) (one .host kept ∙ sym (two .host also))
+    let counts : leftOut (comes (serve (made set .host) past .host) (initialise frequency s l) .answer) ≡ false = rw r in
+    let also : leftOut (comes (serve (made set .host) other .host) (initialise frequency s l) .answer) ≡ false = rw (two .answer ∙ sym (one .answer) ∙ r) in
+    ap (λ (h : Sdmmc). serve h cs) (one .host counts ∙ sym (two .host also))
