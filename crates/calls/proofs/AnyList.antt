@@ -1,11 +1,10 @@
 -- The order's third demand, proved of the definitions that the methods' contracts cite: any list of calls on one host.
-use Prim.Native.Nat.{ℕ, _*_, _/_, _%_, _≤_}
+use Prim.Native.Nat.{ℕ, _/_, _%_}
 use mathlib.Core.Bool.{Bool, true, false, cond, not, _&&_, _||_}
 use mathlib.Core.List.{List, [], _∷_}
 use mathlib.Core.Path.{_≡_, refl, ap, sym, _∙_}
 use native.Mathlib.Omega.{arith}
 use lib.Dec.{eqb, ltb}
-use lib.ListN.{replicate}
 use Rattle.types.specs.declared.card.AddressAnswer.{AddressAnswer}
 use Rattle.types.specs.declared.card.AddressAnswer.the-variants as Address
 use Rattle.types.specs.declared.card.Card.{Card}
@@ -20,7 +19,6 @@ use Rattle.types.specs.Leaf.{addressOf, clockOf}
 use Rattle.types.specs.Settings.{madeOf}
 use Rattle.types.specs.Words.{sdStatusOf}
 use Rattle.tape.specs.declared.progress.Halt.the-variants.{Refused, ScriptEnded, TraceFull}
-use Rattle.tape.specs.declared.progress.Line.{Line}
 use Rattle.tape.specs.declared.progress.Pace.{Pace}
 use Rattle.tape.specs.declared.progress.Pace.the-variants.{Going, Stopped}
 use Rattle.tape.specs.Plan.{Nothing, Plan}
@@ -34,13 +32,12 @@ use Rattle.host.proofs.InitRefusals.{found-zero}
 use Rattle.host.proofs.Untouched.{read-16, status-16}
 use Rattle.host.proofs.Leaves.{Leaves, initialise-leaves, read-leaves, status-leaves}
 use Rattle.host.specs.declared.host.Held.{Held}
-use Rattle.host.specs.declared.host.Made.{Made}
 use Rattle.host.specs.declared.host.Sdmmc.{Sdmmc}
 use Rattle.host.specs.Calls.{Came, freshLine, hostOf, heldOf, holding, dropped, kept, ends, untouched, withStatus, initialised, initFrom}
 use Rattle.host.specs.Calls.{transferred, approached, served, readNext, readPlan, readFrom, readKnown, readCame, statusNext, statusPlan, statusFrom, statusCame}
 use Rattle.host.specs.Calls.{clockedHost, judgedHost, made}
-use Rattle.calls.specs.Serve.{Call, initialise, read, status, comes, Served, serve, foundFrom, foundBy, approach, Approach, none, approachOf, readApproach, going, passed, begun}
-use Rattle.calls.specs.Serve.{Told, toldOf, leftOut, remaining, counted, history, holds, holdsNone, allowed, afterInitialise, afterData, afterCall, expected}
+use Rattle.calls.specs.Serve.{Call, initialise, read, status, comes, Served, serve, foundFrom, foundBy, approach, none, approachOf, readApproach, going, passed, begun}
+use Rattle.calls.specs.Serve.{Told, toldOf, leftOut, asNew, remaining, counted, history, holds, holdsNone, allowed, afterInitialise, afterData, afterCall, expected}
 
 -- What a call that came to x makes of the record that was held before: nothing where it is left out.
 abbrev Follows : Sdmmc → (Answer → List ℕ → Held) → Came → Type 0
@@ -72,9 +69,11 @@ module _ (host : Sdmmc) (frequency : ℕ) (s l : List ℕ) (c : Clock) (clocked 
       by true t = rw t
       by false t =
           let x = run s noCard (I.initialise (host .settings) c frequency) 0 0 (freshLine (c .frequency)) l in
+          let none : (e : Error) → holdsNone ≡ afterInitialise frequency (Answered.Refused e) (x .value) (heldOf host) =
+          λ e. ap (λ (b : Bool). cond (not b) holdsNone (heldOf host)) (sym t) in
           ended host (dropped host (x .state)) (holding host (x .state) (x .value)) []
           (λ a words. afterInitialise frequency a (x .value) (heldOf host)) (x .state .progress .pace) (x .state)
-          (λ e stopped. rw t) (λ g. ap (λ (st : List ℕ). holds (withStatus (x .value) st)) (found-zero s (host .settings) c frequency l g))
+          (λ e stopped. none e) (λ g. ap (λ (st : List ℕ). holds (withStatus (x .value) st)) (found-zero s (host .settings) c frequency l g))
 
 -- A call with a data phase: `accepted` is what it leaves of the record where it was accepted, from its data words.
 
@@ -239,32 +238,25 @@ pub record-held : (set : Settings) → made set .answer ≡ Answered.Accepted �
 unfolding expected
 record-held set ok cs = after-any-list [] (made set .host) cs (made-clockable set ok) (rw (made-host set ok .2))
 
--- Demand 3, the next card: two calls that cannot be told apart, but for the host of those left out.
-pub record Alike (x y : Came) : Type 0 where
-  pub answer : x .answer ≡ y .answer
-  pub words : x .words ≡ y .words
-  pub rows : x .rows ≡ y .rows
-  pub list : x .list ≡ y .list
-  pub taken : x .taken ≡ y .taken
-  pub host : leftOut (x .answer) ≡ false → x .host ≡ y .host
+-- Demand 3, the next card.
 
-ends-alike : (h k refused accepted : Sdmmc) (words : List ℕ) (q : Pace) (w : State)
-    → Alike (ends h refused accepted words q w) (ends k refused accepted words q w)
+-- the plan's end is the same on every host, and so is what it leaves
+ends-as-new : (h k : Sdmmc) (set : Settings) (card : Card) (words : List ℕ) (q : Pace) (w : State)
+    → ends h (hostOf set (w .progress .line) false noCard) (hostOf set (w .progress .line) true card) words q w
+    ≡ asNew h (ends k (hostOf set (w .progress .line) false noCard) (hostOf set (w .progress .line) true card) words q w)
 unfolding ends leftOut
-ends-alike h k refused accepted words Going w = record { answer = refl; words = refl; rows = refl; list = refl; taken = refl; host = λ o. refl }
-ends-alike h k refused accepted words (Stopped (Refused e)) w = record { answer = refl; words = refl; rows = refl; list = refl; taken = refl; host = λ o. refl }
-ends-alike h k refused accepted words (Stopped ScriptEnded) w =
-    record { answer = refl; words = refl; rows = refl; list = refl; taken = refl; host = λ o. let z : _≡_ {A = ℕ} 0 1 = cc in absurd (omega arith) }
-ends-alike h k refused accepted words (Stopped TraceFull) w =
-    record { answer = refl; words = refl; rows = refl; list = refl; taken = refl; host = λ o. let z : _≡_ {A = ℕ} 0 1 = cc in absurd (omega arith) }
+ends-as-new h k set card words Going w = refl
+ends-as-new h k set card words (Stopped (Refused e)) w = refl
+ends-as-new h k set card words (Stopped ScriptEnded) w = refl
+ends-as-new h k set card words (Stopped TraceFull) w = refl
 
-initialise-alike : (h k : Sdmmc) (frequency : ℕ) (s l : List ℕ) → h .settings ≡ k .settings → Clockable (k .settings) → allowed frequency ≡ true
-    → Alike (comes h (initialise frequency s l)) (comes k (initialise frequency s l))
+initialise-as-new : (h k : Sdmmc) (frequency : ℕ) (s l : List ℕ) → h .settings ≡ k .settings → Clockable (k .settings) → allowed frequency ≡ true
+    → comes h (initialise frequency s l) ≡ asNew h (comes k (initialise frequency s l))
 unfolding Clockable comes initialised initFrom
-initialise-alike h k frequency s l e c may =
+initialise-as-new h k frequency s l e c may =
     let x = run s noCard (I.initialise (k .settings) (c .0) frequency) 0 0 (freshLine (c .0 .frequency)) l in
     rw (e, c .1, allow (eqb frequency 0 || ltb 50_000_000 frequency) may)
-    (ends-alike (hostOf (k .settings) (h .line) (h .known) (h .card)) k (dropped k (x .state)) (holding k (x .state) (x .value)) [] (x .state .progress .pace) (x .state))
+    (ends-as-new (hostOf (k .settings) (h .line) (h .known) (h .card)) k (k .settings) (x .value) [] (x .state .progress .pace) (x .state))
   where
     allow : (b : Bool) → not b ≡ true → b ≡ false
     allow true n = let z : _≡_ {A = ℕ} 0 1 = cc in absurd (omega arith)
@@ -273,9 +265,10 @@ initialise-alike h k frequency s l e c may =
 -- 'An initialisation of allowed frequency answers, writes and uses what a new host of the same settings would on the same
 -- script and row list, and but for those two answers leaves the same host', whatever calls came before it.
 pub as-a-new-host : (set : Settings) → made set .answer ≡ Answered.Accepted → (past : List Call) (frequency : ℕ) (s l : List ℕ) → allowed frequency ≡ true
-    → Alike (comes (serve (made set .host) past .host) (initialise frequency s l)) (comes (made set .host) (initialise frequency s l))
+    → comes (serve (made set .host) past .host) (initialise frequency s l)
+    ≡ asNew (serve (made set .host) past .host) (comes (made set .host) (initialise frequency s l))
 as-a-new-host set ok past frequency s l may =
-    initialise-alike (serve (made set .host) past .host) (made set .host) frequency s l (settings-stay (made set .host) past) (made-clockable set ok) may
+    initialise-as-new (serve (made set .host) past .host) (made set .host) frequency s l (settings-stay (made set .host) past) (made-clockable set ok) may
 
 -- For readers: 'a bad card must not colour the next'.
 
@@ -330,9 +323,13 @@ pub not-told-apart : (set : Settings) → made set .answer ≡ Answered.Accepted
     ≡ serve (comes (serve (made set .host) other .host) (initialise frequency s l) .host) cs
 unfolding leftOut
 not-told-apart set ok past other frequency s l r cs =
-    let may = accepted-allowed (serve (made set .host) past .host) frequency s l r in
-    let one = as-a-new-host set ok past frequency s l may in
-    let two = as-a-new-host set ok other frequency s l may in
-    let counts : leftOut (comes (serve (made set .host) past .host) (initialise frequency s l) .answer) ≡ false = rw r in
-    let also : leftOut (comes (serve (made set .host) other .host) (initialise frequency s l) .answer) ≡ false = rw (two .answer ∙ sym (one .answer) ∙ r) in
-    ap (λ (h : Sdmmc). serve h cs) (one .host counts ∙ sym (two .host also))
+    let one = serve (made set .host) past .host in
+    let two = serve (made set .host) other .host in
+    let new = comes (made set .host) (initialise frequency s l) in
+    let may = accepted-allowed one frequency s l r in
+    let first = as-a-new-host set ok past frequency s l may in
+    let second = as-a-new-host set ok other frequency s l may in
+    let accepted : new .answer ≡ Answered.Accepted = ap (λ (x : Came). x .answer) (sym first) ∙ r in
+    let counts : (h : Sdmmc) → asNew h new .host ≡ new .host = λ h. rw accepted in
+    ap (λ (h : Sdmmc). serve h cs)
+    (ap (λ (x : Came). x .host) first ∙ counts one ∙ sym (ap (λ (x : Came). x .host) second ∙ counts two))

@@ -5,6 +5,7 @@
 use Prim.Native.Nat.{ℕ, _/_, _%_}
 use mathlib.Core.Bool.{Bool, true, false, cond, not, _&&_, _||_}
 use mathlib.Core.List.{List, [], _∷_}
+use mathlib.Core.Path.{_≡_}
 use lib.Dec.{eqb, ltb}
 use lib.ListN.{replicate}
 use Rattle.types.specs.declared.card.AddressAnswer.{AddressAnswer}
@@ -122,6 +123,24 @@ leftOut (Answered.Refused e) = false
 leftOut Answered.ScriptEnded = true
 leftOut Answered.TraceFull = true
 leftOut Answered.BadBook = false
+
+-- what a call came to on another host, as this one's: the two answers leave this host as it was, any other the same host
+abbrev pub asNew : Sdmmc → Came → Came
+asNew host y =
+    record {
+      answer = y .answer;
+      words = y .words;
+      rows = y .rows;
+      list = y .list;
+      taken = y .taken;
+      host = cond (leftOut (y .answer)) host (y .host);
+    }
+
+-- the same clock, signalling and gate
+pub record SameLine (h h′ : Line) : Type 0 where
+  pub gated : h′ .gated ≡ h .gated
+  pub clock : h′ .clock ≡ h .clock
+  pub signalling : h′ .signalling ≡ h .signalling
 
 -- a list of calls without those left out, and what the others come to
 unfoldable pub remaining : Sdmmc → List Call → List Call
