@@ -64,6 +64,13 @@ init-zero s set c frequency =
     (λ _. yields-give s StatusZero (withScr card scr) none)))))
     (λ e. yields-refuse s StatusZero (failed e))))
 
+pub found-zero : (s : List ℕ) (set : Settings) (c : Clock) (frequency : ℕ) (l : List ℕ)
+    → run s noCard (initialise set c frequency) 0 0 (freshLine (c .frequency)) l .state .progress .pace ≡ Going
+    → StatusZero (run s noCard (initialise set c frequency) 0 0 (freshLine (c .frequency)) l .value)
+unfolding initialise
+found-zero s set c frequency l =
+    yields-guard s StatusZero noCard resetController (initCard set c frequency) (init-zero s set c frequency) noCard 0 0 (freshLine (c .frequency)) l
+
 -- every source that a host is made with has a clock of identification
 pub identification-clock : (source : ℕ) → 2 ≤ source → source ≤ 102_800_000 → (c : Clock) × (clockOf source 400_000 false ≡ Clocked.Set c)
 identification-clock source from2 upTo = by (clockOf source 400_000 false) refl
@@ -108,14 +115,12 @@ module _ (host : Sdmmc) (frequency : ℕ) (s l : List ℕ) (some : 1 ≤ frequen
 
   -- with status zero
   pub initialise-status : initialised host frequency s l .answer ≡ Answered.Accepted → initialised host frequency s l .host .card .status ≡ replicate 16 0
-  unfolding initFrom initialise
+  unfolding initFrom
   initialise-status r =
       let x = run s noCard (initialise (host .settings) c frequency) 0 0 (freshLine (c .frequency)) l in
       let how = ends-accepted host (dropped host (x .state)) (holding host (x .state) (x .value)) [] (x .state) (x .state .progress .pace)
       (ap (λ (y : Came). y .answer) (sym begins) ∙ r) in
-      ap (λ (y : Came). y .host .card .status) (initialise-accepted r)
-      ∙ yields-guard s StatusZero noCard resetController (initCard (host .settings) c frequency) (init-zero s (host .settings) c frequency)
-      noCard 0 0 (freshLine (c .frequency)) l (how .0)
+      ap (λ (y : Came). y .host .card .status) (initialise-accepted r) ∙ found-zero s (host .settings) c frequency l (how .0)
 
   -- Line 5, its end: 'inside initialisation the reset rows come twice'. A data phase begun at w on the way of the steps and
   -- refused: where the steps end its reset rows are written, and once more at the end of the call.

@@ -1,0 +1,335 @@
+-- The order's third demand, proved of the definitions that the methods' contracts cite: any list of calls on one host.
+use Prim.Native.Nat.{ℕ, _/_, _%_}
+use mathlib.Core.Bool.{Bool, true, false, cond, not, _&&_, _||_}
+use mathlib.Core.List.{List, [], _∷_}
+use mathlib.Core.Path.{_≡_, refl, ap, sym, _∙_}
+use native.Mathlib.Omega.{arith}
+use lib.Dec.{eqb, ltb}
+use Rattle.types.specs.declared.card.AddressAnswer.{AddressAnswer}
+use Rattle.types.specs.declared.card.AddressAnswer.the-variants as Address
+use Rattle.types.specs.declared.card.Card.{Card}
+use Rattle.types.specs.declared.clock.Clock.{Clock}
+use Rattle.types.specs.declared.clock.ClockAnswer.{ClockAnswer}
+use Rattle.types.specs.declared.clock.ClockAnswer.the-variants as Clocked
+use Rattle.types.specs.declared.error.Answer.{Answer}
+use Rattle.types.specs.declared.error.Answer.the-variants as Answered
+use Rattle.types.specs.declared.error.Error.{Error}
+use Rattle.types.specs.declared.error.Error.the-variants as E
+use Rattle.types.specs.Leaf.{addressOf, clockOf}
+use Rattle.types.specs.Settings.{madeOf}
+use Rattle.types.specs.Words.{sdStatusOf}
+use Rattle.tape.specs.declared.progress.Halt.the-variants.{Refused, ScriptEnded, TraceFull}
+use Rattle.tape.specs.declared.progress.Pace.{Pace}
+use Rattle.tape.specs.declared.progress.Pace.the-variants.{Going, Stopped}
+use Rattle.tape.specs.Plan.{Nothing, Plan}
+use Rattle.tape.specs.Run.{State, run, runFrom}
+use Rattle.bus.specs.Command.{appCommand}
+use Rattle.bus.specs.Ready.{waitReady}
+use Rattle.init.specs.declared.settings.Settings.{Settings}
+use Rattle.init.specs.Initialise as I
+use Rattle.init.specs.Initialise.{sourceOf, limitOf, noCard}
+use Rattle.host.proofs.InitRefusals.{found-zero}
+use Rattle.host.proofs.Untouched.{read-16, status-16}
+use Rattle.host.proofs.Leaves.{Leaves, initialise-leaves, read-leaves, status-leaves}
+use Rattle.host.specs.declared.host.Held.{Held}
+use Rattle.host.specs.declared.host.Sdmmc.{Sdmmc}
+use Rattle.host.specs.Calls.{Came, freshLine, hostOf, heldOf, holding, dropped, kept, ends, untouched, withStatus, initialised, initFrom}
+use Rattle.host.specs.Calls.{transferred, approached, served, readNext, readPlan, readFrom, readKnown, readCame, statusNext, statusPlan, statusFrom, statusCame}
+use Rattle.host.specs.Calls.{clockedHost, judgedHost, made}
+use Rattle.calls.specs.Serve.{Call, initialise, read, status, comes, Served, serve, foundFrom, foundBy, approach, none, approachOf, readApproach, going, passed, begun}
+use Rattle.calls.specs.Serve.{Told, toldOf, leftOut, asNew, remaining, counted, history, holds, holdsNone, allowed, afterInitialise, afterData, afterCall, expected}
+
+-- What a call that came to x makes of the record that was held before: nothing where it is left out.
+abbrev Follows : Sdmmc → (Answer → List ℕ → Held) → Came → Type 0
+Follows host rule x = heldOf (x .host) ≡ cond (leftOut (x .answer)) (heldOf host) (rule (x .answer) (x .taken))
+
+-- how its plan ends: what `ends` makes of the record, from what the two hosts hold that it may leave
+ended : (host refused accepted : Sdmmc) (words : List ℕ) (rule : Answer → List ℕ → Held) (q : Pace) (w : State)
+    → ((e : Error) → q ≡ Stopped (Refused e) → heldOf refused ≡ rule (Answered.Refused e) []) → (q ≡ Going → heldOf accepted ≡ rule Answered.Accepted words)
+    → Follows host rule (ends host refused accepted words q w)
+unfolding ends leftOut
+ended host refused accepted words rule Going w out in′ = in′ refl
+ended host refused accepted words rule (Stopped (Refused e)) w out in′ = out e refl
+ended host refused accepted words rule (Stopped ScriptEnded) w out in′ = refl
+ended host refused accepted words rule (Stopped TraceFull) w out in′ = refl
+
+-- An initialisation.
+
+module _ (host : Sdmmc) (frequency : ℕ) (s l : List ℕ) (c : Clock) (clocked : clockOf (sourceOf (host .settings)) 400_000 false ≡ Clocked.Set c) where
+  abbrev initRule : Answer → List ℕ → Held
+  initRule a words = afterInitialise frequency a (foundBy (host .settings) (initialise frequency s l)) (heldOf host)
+
+  initialise-follows : Follows host initRule (initialised host frequency s l)
+  unfolding initialised initFrom foundBy foundFrom leftOut afterInitialise
+  initialise-follows = rw clocked (by (eqb frequency 0 || ltb 50_000_000 frequency) refl)
+    where
+      by : (b : Bool) → (eqb frequency 0 || ltb 50_000_000 frequency) ≡ b
+          → Follows host (λ a words. afterInitialise frequency a (foundFrom (host .settings) frequency (Clocked.Set c) s l) (heldOf host))
+          (cond b (untouched host E.BadClock l) (initFrom host frequency (Clocked.Set c) s l))
+      by true t = rw t
+      by false t =
+          let x = run s noCard (I.initialise (host .settings) c frequency) 0 0 (freshLine (c .frequency)) l in
+          let none : (e : Error) → holdsNone ≡ afterInitialise frequency (Answered.Refused e) (x .value) (heldOf host) =
+          λ e. ap (λ (b : Bool). cond (not b) holdsNone (heldOf host)) (sym t) in
+          ended host (dropped host (x .state)) (holding host (x .state) (x .value)) []
+          (λ a words. afterInitialise frequency a (x .value) (heldOf host)) (x .state .progress .pace) (x .state)
+          (λ e stopped. none e) (λ g. ap (λ (st : List ℕ). holds (withStatus (x .value) st)) (found-zero s (host .settings) c frequency l g))
+
+-- A call with a data phase: `accepted` is what it leaves of the record where it was accepted, from its data words.
+
+module _ (host : Sdmmc) (plan : Plan Nothing) (transfer : Plan (List ℕ)) (next : State → List ℕ → Sdmmc) (accepted : List ℕ → Held)
+    (same : (w : State) (ws : List ℕ) → heldOf (next w ws) ≡ accepted ws) (s l : List ℕ) where
+  abbrev dataRule : Answer → List ℕ → Held
+  dataRule a words = afterData a (passed (approach plan) (host .line) s l) (accepted words) (heldOf host)
+
+  served-follows : Follows host dataRule (served host plan transfer next s l)
+  unfolding passed served approached transferred going afterData
+  served-follows = by (w .progress .pace) refl
+    where
+      w : State
+      w = run s (tt {0}) plan 0 0 (host .line) l .state
+
+      by : (q : Pace) → w .progress .pace ≡ q
+          → Follows host (λ a words. afterData a (going q) (accepted words) (heldOf host)) (approached host transfer next s q w)
+      by Going g =
+          let x = runFrom s [] transfer w in
+          ended host (dropped host (x .state)) (next (x .state) (x .value)) (x .value)
+          (λ a words. afterData a true (accepted words) (heldOf host)) (x .state .progress .pace) (x .state)
+          (λ e stopped. refl) (λ y. same (x .state) (x .value))
+      by (Stopped h) g =
+          ended host (kept host w) host [] (λ a words. afterData a false (accepted words) (heldOf host)) (Stopped h) w
+          (λ e stopped. refl) (λ y. let z : _≡_ {A = ℕ} 0 1 = cc in absurd (omega arith))
+
+-- what is to be held after a call, from its answer and data words
+abbrev ruleOf : Sdmmc → Call → Answer → List ℕ → Held
+ruleOf host c a words =
+    afterCall c (record { call = c; answer = a; begun = begun host c; found = foundBy (host .settings) c; taken = words }) (heldOf host)
+
+status-follows : (host : Sdmmc) (s l : List ℕ) → Follows host (ruleOf host (status s l)) (statusCame host s l)
+unfolding statusCame afterCall begun approachOf passed leftOut afterData
+status-follows host s l = by (host .known) refl
+  where
+    by : (b : Bool) → host .known ≡ b
+        → Follows host
+        (λ a words.
+        afterData a (passed (cond b (approach (appCommand (limitOf (host .settings)) (host .card .rca))) none) (host .line) s l)
+        (record { answer = heldOf host .answer; card = withStatus (heldOf host .card) (sdStatusOf words) }) (heldOf host))
+        (cond b (statusFrom host s l) (untouched host E.NoCard l))
+    by true k =
+        served-follows host (appCommand (limitOf (host .settings)) (host .card .rca)) (statusPlan host) (statusNext host)
+        (λ ws. record { answer = heldOf host .answer; card = withStatus (heldOf host .card) (sdStatusOf ws) }) (λ w ws. rw k) s l
+    by false k = refl
+
+read-follows : (host : Sdmmc) (index bytes : ℕ) (s l : List ℕ) → Follows host (ruleOf host (read index bytes s l)) (readCame host index bytes s l)
+unfolding readCame readKnown readFrom afterCall begun approachOf passed leftOut afterData
+read-follows host index bytes s l =
+    by (host .known) (eqb (bytes % 512) 0) (addressOf (host .card .«card_type») (host .card .«block_count» .0) index (bytes / 512))
+  where
+    by : (b d : Bool) (a : AddressAnswer)
+        → Follows host (λ r words. afterData r (passed (cond (b && d) (readApproach host a) none) (host .line) s l) (heldOf host) (heldOf host))
+        (cond b (cond d (readFrom host (bytes / 512) a s l) (untouched host E.InvalidBufferLength l)) (untouched host E.NoCard l))
+    by true true (Address.Address a) =
+        served-follows host (waitReady (sourceOf (host .settings)) (host .settings .config) (host .card .rca)) (readPlan host a (bytes / 512)) (readNext host)
+        (λ ws. heldOf host) (λ w ws. refl) s l
+    by true true (Address.Refused e) = refl
+    by true false a = refl
+    by false d a = refl
+
+-- a host whose source has a clock of identification, as every one that is made
+Clockable : Settings → Type 0
+Clockable set = (c : Clock) × (clockOf (sourceOf set) 400_000 false ≡ Clocked.Set c)
+
+-- One call: what is held after it is what is expected from what was held before.
+follows : (host : Sdmmc) (c : Call) → Clockable (host .settings) → Follows host (ruleOf host c) (comes host c)
+unfolding comes afterCall Clockable
+follows host (initialise frequency s l) k = initialise-follows host frequency s l (k .0) (k .1)
+follows host (read index bytes s l) k = read-follows host index bytes s l
+follows host (status s l) k = status-follows host s l
+
+-- What every call keeps: its settings; and the whole host where it is left out.
+
+abbrev listOf : Call → List ℕ
+listOf (initialise frequency s l) = l
+listOf (read index bytes s l) = l
+listOf (status s l) = l
+
+leaves : (host : Sdmmc) (c : Call) → Leaves host (listOf c) (comes host c)
+unfolding comes
+leaves host (initialise frequency s l) = initialise-leaves host frequency s l
+leaves host (read index bytes s l) = read-leaves host index bytes s l
+leaves host (status s l) = status-leaves host s l
+
+-- 'calls answered ScriptEnded or TraceFull change nothing of the host'
+pub left-out-changes-nothing : (host : Sdmmc) (c : Call) → leftOut (comes host c .answer) ≡ true → comes host c .host ≡ host
+unfolding leftOut
+left-out-changes-nothing host c out = by (comes host c .answer) refl out
+  where
+    by : (a : Answer) → comes host c .answer ≡ a → leftOut a ≡ true → comes host c .host ≡ host
+    by Answered.Accepted r o = let z : _≡_ {A = ℕ} 0 1 = cc in absurd (omega arith)
+    by (Answered.Refused e) r o = let z : _≡_ {A = ℕ} 0 1 = cc in absurd (omega arith)
+    by Answered.ScriptEnded r o = leaves host c .ended r
+    by Answered.TraceFull r o = leaves host c .full r
+    by Answered.BadBook r o = let z : _≡_ {A = ℕ} 0 1 = cc in absurd (omega arith)
+
+-- so they can be left out: the others come to the same, and so does the last host
+pub left-out : (host : Sdmmc) (cs : List Call)
+    → serve host (remaining host cs) ≡ record { came = counted (serve host cs .came); host = serve host cs .host }
+unfolding serve remaining counted
+left-out host [] = refl
+left-out host (c ∷ cs) = by (left-out (comes host c .host) cs) (leftOut (comes host c .answer)) refl
+  where
+    after : Sdmmc
+    after = comes host c .host
+
+    rest : Served
+    rest = serve after cs
+
+    by : serve after (remaining after cs) ≡ record { came = counted (rest .came); host = rest .host } → (b : Bool) → leftOut (comes host c .answer) ≡ b
+        → serve host (cond b (remaining after cs) (c ∷ remaining after cs))
+        ≡ record { came = cond b (counted (rest .came)) (comes host c ∷ counted (rest .came)); host = rest .host }
+    by so true o = ap (λ (h : Sdmmc). serve h (remaining after cs)) (sym (left-out-changes-nothing host c o)) ∙ so
+    by so false o = rw so
+
+-- the settings are those that the host was made with
+pub settings-stay : (host : Sdmmc) (cs : List Call) → serve host cs .host .settings ≡ host .settings
+unfolding serve
+settings-stay host [] = refl
+settings-stay host (c ∷ cs) = settings-stay (comes host c .host) cs ∙ leaves host c .settings
+
+-- A host that was made: of these settings, with a clock of identification, and no record.
+
+pub made-host : (set : Settings) → made set .answer ≡ Answered.Accepted
+    → (c : Clock) × (clockOf (sourceOf set) 400_000 false ≡ Clocked.Set c) × (made set .host ≡ hostOf set (freshLine (c .frequency)) false noCard)
+unfolding made judgedHost clockedHost
+made-host set r = by (madeOf (sourceOf set) (set .config)) (clockOf (sourceOf set) 400_000 false) refl r
+  where
+    by : (a : Answer) (k : ClockAnswer) → clockOf (sourceOf set) 400_000 false ≡ k → judgedHost set a .answer ≡ Answered.Accepted
+        → (c : Clock) × (clockOf (sourceOf set) 400_000 false ≡ Clocked.Set c) × (judgedHost set a .host ≡ hostOf set (freshLine (c .frequency)) false noCard)
+    by Answered.Accepted (Clocked.Set c) e r = (c, e, rw e)
+    by Answered.Accepted (Clocked.Refused x) e r = let no : Answered.Refused x ≡ Answered.Accepted = rw e at r in let z : _≡_ {A = ℕ} 0 1 = cc in absurd (omega arith)
+    by (Answered.Refused x) k e r = let z : _≡_ {A = ℕ} 0 1 = cc in absurd (omega arith)
+    by Answered.ScriptEnded k e r = let z : _≡_ {A = ℕ} 0 1 = cc in absurd (omega arith)
+    by Answered.TraceFull k e r = let z : _≡_ {A = ℕ} 0 1 = cc in absurd (omega arith)
+    by Answered.BadBook k e r = let z : _≡_ {A = ℕ} 0 1 = cc in absurd (omega arith)
+
+made-clockable : (set : Settings) → made set .answer ≡ Answered.Accepted → Clockable (made set .host .settings)
+unfolding Clockable
+made-clockable set ok =
+    let m = made-host set ok in
+    let new : made set .host .settings ≡ set = ap (λ (h : Sdmmc). h .settings) (m .2) in
+    rw new (m .0, m .1)
+
+-- Demand 3, the record. From a host that holds what is expected after some past:
+after-any-list : (past : List Told) (host : Sdmmc) (cs : List Call) → Clockable (host .settings)
+    → heldOf host ≡ expected past → heldOf (serve host cs .host) ≡ expected (history past host cs)
+unfolding serve history expected
+after-any-list past host [] k e = e
+after-any-list past host (c ∷ cs) k e =
+    after-any-list (cond (leftOut (comes host c .answer)) past (toldOf host c ∷ past)) (comes host c .host) cs (rw (leaves host c .settings) k)
+    (follows host c k ∙ by (leftOut (comes host c .answer)))
+  where
+    by : (b : Bool) → cond b (heldOf host) (afterCall c (toldOf host c) (heldOf host)) ≡ expected (cond b past (toldOf host c ∷ past))
+    by true = e
+    by false = ap (afterCall c (toldOf host c)) e
+
+-- and so from a host that was just made, which holds none.
+pub record-held : (set : Settings) → made set .answer ≡ Answered.Accepted → (cs : List Call)
+    → heldOf (serve (made set .host) cs .host) ≡ expected (history [] (made set .host) cs)
+unfolding expected
+record-held set ok cs = after-any-list [] (made set .host) cs (made-clockable set ok) (rw (made-host set ok .2))
+
+-- Demand 3, the next card.
+
+-- the plan's end is the same on every host, and so is what it leaves
+ends-as-new : (h k : Sdmmc) (set : Settings) (card : Card) (words : List ℕ) (q : Pace) (w : State)
+    → ends h (hostOf set (w .progress .line) false noCard) (hostOf set (w .progress .line) true card) words q w
+    ≡ asNew h (ends k (hostOf set (w .progress .line) false noCard) (hostOf set (w .progress .line) true card) words q w)
+unfolding ends leftOut
+ends-as-new h k set card words Going w = refl
+ends-as-new h k set card words (Stopped (Refused e)) w = refl
+ends-as-new h k set card words (Stopped ScriptEnded) w = refl
+ends-as-new h k set card words (Stopped TraceFull) w = refl
+
+initialise-as-new : (h k : Sdmmc) (frequency : ℕ) (s l : List ℕ) → h .settings ≡ k .settings → Clockable (k .settings) → allowed frequency ≡ true
+    → comes h (initialise frequency s l) ≡ asNew h (comes k (initialise frequency s l))
+unfolding Clockable comes initialised initFrom
+initialise-as-new h k frequency s l e c may =
+    let x = run s noCard (I.initialise (k .settings) (c .0) frequency) 0 0 (freshLine (c .0 .frequency)) l in
+    rw (e, c .1, allow (eqb frequency 0 || ltb 50_000_000 frequency) may)
+    (ends-as-new (hostOf (k .settings) (h .line) (h .known) (h .card)) k (k .settings) (x .value) [] (x .state .progress .pace) (x .state))
+  where
+    allow : (b : Bool) → not b ≡ true → b ≡ false
+    allow true n = let z : _≡_ {A = ℕ} 0 1 = cc in absurd (omega arith)
+    allow false n = refl
+
+-- 'An initialisation of allowed frequency answers, writes and uses what a new host of the same settings would on the same
+-- script and row list, and but for those two answers leaves the same host', whatever calls came before it.
+pub as-a-new-host : (set : Settings) → made set .answer ≡ Answered.Accepted → (past : List Call) (frequency : ℕ) (s l : List ℕ) → allowed frequency ≡ true
+    → comes (serve (made set .host) past .host) (initialise frequency s l)
+    ≡ asNew (serve (made set .host) past .host) (comes (made set .host) (initialise frequency s l))
+as-a-new-host set ok past frequency s l may =
+    initialise-as-new (serve (made set .host) past .host) (made set .host) frequency s l (settings-stay (made set .host) past) (made-clockable set ok) may
+
+-- For readers: 'a bad card must not colour the next'.
+
+-- a host that holds no record answers 16, and is left as it was
+none-known : (host : Sdmmc) → heldOf host ≡ holdsNone → host .known ≡ false
+none-known host e = by (host .known) (host .card) e
+  where
+    by : (b : Bool) (card : Card) → cond b (holds card) holdsNone ≡ holdsNone → b ≡ false
+    by true card r =
+        let told : Answered.Accepted ≡ Answered.Refused E.NoCard = ap (λ (held : Held). held .answer) r in
+        let z : _≡_ {A = ℕ} 0 1 = cc in absurd (omega arith)
+    by false card r = refl
+
+pub read-of-none : (host : Sdmmc) → heldOf host ≡ holdsNone → (index bytes : ℕ) (s l : List ℕ) → comes host (read index bytes s l) ≡ untouched host E.NoCard l
+unfolding comes
+read-of-none host e index bytes s l = read-16 host s l index bytes (none-known host e)
+
+pub status-of-none : (host : Sdmmc) → heldOf host ≡ holdsNone → (s l : List ℕ) → comes host (status s l) ≡ untouched host E.NoCard l
+unfolding comes
+status-of-none host e s l = status-16 host s l (none-known host e)
+
+-- after a refused initialisation of allowed frequency, whatever came before it, there is none: so a read answers 16
+module _ (set : Settings) (ok : made set .answer ≡ Answered.Accepted) (past : List Call) where
+  abbrev pub used : Sdmmc
+  used = serve (made set .host) past .host
+
+  module _ (frequency : ℕ) (may : allowed frequency ≡ true) (s l : List ℕ) (e : Error) (refused : comes used (initialise frequency s l) .answer ≡ Answered.Refused e) where
+    pub none-after-a-bad-card : heldOf (comes used (initialise frequency s l) .host) ≡ holdsNone
+    unfolding leftOut afterCall afterInitialise
+    none-after-a-bad-card =
+        rw (refused, may) at (follows used (initialise frequency s l) (rw (settings-stay (made set .host) past) (made-clockable set ok)))
+
+    pub read-after-a-bad-card : (index bytes : ℕ) (s′ l′ : List ℕ)
+        → comes (comes used (initialise frequency s l) .host) (read index bytes s′ l′) ≡ untouched (comes used (initialise frequency s l) .host) E.NoCard l′
+    read-after-a-bad-card = read-of-none (comes used (initialise frequency s l) .host) none-after-a-bad-card
+
+-- an accepted initialisation was of allowed frequency
+accepted-allowed : (host : Sdmmc) (frequency : ℕ) (s l : List ℕ) → comes host (initialise frequency s l) .answer ≡ Answered.Accepted → allowed frequency ≡ true
+unfolding comes initialised
+accepted-allowed host frequency s l r = by (eqb frequency 0 || ltb 50_000_000 frequency) _ r
+  where
+    by : (b : Bool) (x : Came) → cond b (untouched host E.BadClock l) x .answer ≡ Answered.Accepted → not b ≡ true
+    by true x r = let z : _≡_ {A = ℕ} 0 1 = cc in absurd (omega arith)
+    by false x r = refl
+
+-- two hosts of the same settings with different pasts cannot be told apart after an accepted initialisation on the same
+-- script: whatever calls follow
+pub not-told-apart : (set : Settings) → made set .answer ≡ Answered.Accepted → (past other : List Call) (frequency : ℕ) (s l : List ℕ)
+    → comes (serve (made set .host) past .host) (initialise frequency s l) .answer ≡ Answered.Accepted
+    → (cs : List Call)
+    → serve (comes (serve (made set .host) past .host) (initialise frequency s l) .host) cs
+    ≡ serve (comes (serve (made set .host) other .host) (initialise frequency s l) .host) cs
+unfolding leftOut
+not-told-apart set ok past other frequency s l r cs =
+    let one = serve (made set .host) past .host in
+    let two = serve (made set .host) other .host in
+    let new = comes (made set .host) (initialise frequency s l) in
+    let may = accepted-allowed one frequency s l r in
+    let first = as-a-new-host set ok past frequency s l may in
+    let second = as-a-new-host set ok other frequency s l may in
+    let accepted : new .answer ≡ Answered.Accepted = ap (λ (x : Came). x .answer) (sym first) ∙ r in
+    let counts : (h : Sdmmc) → asNew h new .host ≡ new .host = λ h. rw accepted in
+    ap (λ (h : Sdmmc). serve h cs)
+    (ap (λ (x : Came). x .host) first ∙ counts one ∙ sym (ap (λ (x : Came). x .host) second ∙ counts two))

@@ -1,0 +1,2 @@
+pub mod AnyList
+pub mod Steady
