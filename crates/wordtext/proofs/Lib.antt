@@ -1,0 +1,5 @@
+pub mod Answers
+pub mod Places
+pub mod Printed
+pub mod Steps
+pub mod Tests
