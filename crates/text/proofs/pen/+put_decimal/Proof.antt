@@ -52,6 +52,6 @@ pub +put-decimal-spec : {M : Type 1} → statement M
     let more = decimal-more (args .n) (omega arith) in
     let front = called .put-decimal .ensures in
     let last = c .before .before .put-byte2 .ensures in (
-      rw (more, ← next-append, ← front .0, ← front .1) (last .0),
-      rw (more, ← ink-append, ← front .0, ← front .1) (last .1),
+      last .0 ∙ rw (front .0, front .1, more) (next-append (args .at) _ _ (args .buffer .now)),
+      last .1 ∙ rw (front .0, front .1, more) (ink-append (args .at) _ _ (args .buffer .now)),
     ))

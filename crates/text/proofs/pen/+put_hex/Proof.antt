@@ -56,6 +56,6 @@ pub +put-hex-spec : {M : Type 1} → statement M
     let front = called .put-hex .ensures in
     let digit = c .before .before .before .hex-digit .ensures in
     let last = c .before .before .put-byte .ensures in (
-      rw (more, ← next-append, ← front .0, ← front .1, ← digit) (last .0),
-      rw (more, ← ink-append, ← front .0, ← front .1, ← digit) (last .1),
+      last .0 ∙ rw (front .0, front .1, more, digit) (next-append (args .at) _ _ (args .buffer .now)),
+      last .1 ∙ rw (front .0, front .1, more, digit) (ink-append (args .at) _ _ (args .buffer .now)),
     ))
