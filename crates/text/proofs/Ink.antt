@@ -5,8 +5,8 @@ use mathlib.Core.Path.{_≡_, refl, ap, sym, _∙_}
 use native.Mathlib.Nat.{add-zero, zero-add, suc-add, add-suc, suc-sub-suc, sub-zero, zero-sub}
 use native.Mathlib.Omega.{arith}
 use native.Mathlib.Numerals.{add-one}
-use lib.ListN.{length, getD, take, drop, set, length-append, length-set, take-append-drop}
-use lib.Seq.{take-suc, sets, length-sets, set-out, take-nil, drop-nil}
+use lib.ListN.{length, getD, take, drop, set, length-append, length-take, drop-of-length-le}
+use lib.Seq.{take-suc, take-all, take-take, sets, length-sets, set-out, take-nil, drop-nil}
 use mathlib.Core.Logic.{⊎-elim}
 use Rattle.text.proofs.Orders.{either}
 use Rattle.text.specs.Ink.{inked, next}
@@ -77,3 +77,14 @@ module _ (at : ℕ) (text buffer : List ℕ) (i : ℕ) (h : i < length text) whe
 
   pub next-more : next (next at (take i text) buffer) (getD text i 0 ∷ []) (inked at (take i text) buffer) ≡ next at (take (i + 1) text) buffer
   next-more = next-append at (take i text) (getD text i 0 ∷ []) buffer ∙ ap (λ (l : List ℕ). next at l buffer) more
+
+-- what does not fit may be cut off before
+pub ink-cut : (at : ℕ) (text buffer : List ℕ) → inked at (take (length buffer - at) text) buffer ≡ inked at text buffer
+unfolding inked
+ink-cut at text buffer =
+    let k = length buffer - at in
+    ⊎-elim (λ (h : length text ≤ k). rw (take-all k text h, take-all k text h))
+    (λ (h : k < length text).
+    let cut : length (take k text) ≡ k = rw length-take (omega arith) in
+    rw (take-take k k text (omega arith), cut, drop-of-length-le buffer {i = at + k} (omega arith), drop-of-length-le buffer {i = at + length text} (omega arith)))
+    (either (length text) k)
