@@ -1,3 +1,6 @@
 pub mod Rows
 pub mod Causes
 pub mod Load
+pub mod Bytes
+pub mod Written
+pub mod Both

@@ -123,3 +123,18 @@ badBook bytes = not (eqb (length bytes % 4) 0) || badWords (wordsOf bytes)
 -- THE BOOK OF A FILE'S BYTES, none exactly for answer 23
 unfoldable pub bookOf : List ℕ → Option Book
 bookOf bytes = cond (badBook bytes) none (some (bookIn (wordsOf bytes)))
+
+-- A book that can be written so.
+
+unfoldable pub badCalls : List Call → Bool
+badCalls [] = false
+badCalls (c ∷ cs) = badRow (c .kind) (c .a) (c .b) || badCalls cs
+
+pub record WellFormed (book : Book) : Type 0 where
+  pub words : (i : ℕ) → getD (wordsIn book) i 0 < 2 ^ 32
+  pub long : length (wordsIn book) ≤ 4096
+  pub flags : book .flags ≤ 3
+  pub attempts : book .readyAttempts ≤ 65535
+  pub least : 0 < length (book .calls)
+  pub most : length (book .calls) ≤ 64
+  pub calls : badCalls (book .calls) ≡ false
