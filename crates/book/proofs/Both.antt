@@ -11,7 +11,7 @@ use lib.Dec.{eqb, ltb}
 use lib.ListN.{length, getD, take, drop, length-append, length-drop, take-append-drop}
 use lib.Seq.{drop-at, drop-drop, drop-cons, take-all}
 use Rattle.types.specs.Words.{bytesOf}
-use Rattle.book.specs.Layout.{Book, rowsIn, scriptsIn, wordsIn, encode, countOf, contentsOf, callsOf, bookIn, badRows, scriptWords, badWords, badBook, bookOf, badCalls, wordsOf, WellFormed}
+use Rattle.book.specs.Layout.{Book, Call, rowsIn, scriptsIn, wordsIn, encode, countOf, contentsOf, callsOf, bookIn, badRows, scriptWords, badWords, badBook, bookOf, badCalls, wordsOf, WellFormed}
 use Rattle.book.proofs.Bytes.{words-back, bytes-back, words-fit}
 use Rattle.book.proofs.Causes.{fills, Good, good-words}
 use Rattle.book.proofs.Written.{length-rows, read-calls, read-bad, read-words, length-calls, write-rows, write-scripts, write-bad}
@@ -44,7 +44,10 @@ module _ (book : Book) (well : WellFormed book) where
 
   same : bookIn (wordsIn book) ≡ book
   unfolding wordsIn bookIn
-  same = rw (behind, read-calls (scriptsIn (book .calls)) (book .calls))
+  same =
+      let cs = book .calls in
+      let whole : List Call → Book = λ l. record { source = book .source; pollLimit = book .pollLimit; readyAttempts = book .readyAttempts; dataTimeout = book .dataTimeout; softwareTimeout = book .softwareTimeout; flags = book .flags; calls = l } in
+      ap whole (ap (λ (l : List ℕ). callsOf (length cs) (rowsIn cs ++ scriptsIn cs) l) behind ∙ read-calls (scriptsIn cs) cs)
 
   pub written-read : bookOf (encode book) ≡ some book
   unfolding encode badBook bookOf

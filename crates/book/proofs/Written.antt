@@ -19,7 +19,8 @@ module _ (rest : List ℕ) where
   unfolding rowsIn scriptsIn callsOf
   read-calls [] = refl
   read-calls (c ∷ cs) =
-      rw (take-at (c .script) (scriptsIn cs) (length (c .script)) refl, drop-at (c .script) (scriptsIn cs) (length (c .script)) refl, read-calls cs)
+      rw (take-at (c .script) (scriptsIn cs) (length (c .script)) refl, drop-at (c .script) (scriptsIn cs) (length (c .script)) refl)
+      (ap (λ (l : List Call). c ∷ l) (read-calls cs))
 
   pub read-bad : (cs : List Call) → badRows (length cs) (rowsIn cs ++ rest) ≡ badCalls cs
   unfolding rowsIn badRows badCalls
