@@ -13,7 +13,7 @@ use lib.Seq.{drop-at, drop-drop, drop-cons, take-all}
 use Rattle.types.specs.Words.{bytesOf}
 use Rattle.book.specs.Layout.{Book, Call, rowsIn, scriptsIn, wordsIn, encode, countOf, contentsOf, callsOf, bookIn, badRows, scriptWords, badWords, badBook, bookOf, badCalls, wordsOf, WellFormed}
 use Rattle.book.proofs.Bytes.{words-back, bytes-back, words-fit}
-use Rattle.book.proofs.Causes.{fills, Good, good-words}
+use Rattle.book.proofs.Causes.{or-left, or-right, fills, Good, good-words}
 use Rattle.book.proofs.Written.{length-rows, read-calls, read-bad, read-words, length-calls, write-rows, write-scripts, write-bad}
 
 -- four bytes a word
@@ -56,15 +56,6 @@ module _ (book : Book) (well : WellFormed book) where
       simp (words-back (wordsIn book) (well .words), eq-eqb _ _ even, good, same)
 
 -- READ AND WRITTEN
-or-left : (s t : Bool) → s || t ≡ false → s ≡ false
-or-left true t e = e
-or-left false t e = refl
-
-or-right : (s t : Bool) → s || t ≡ false → t ≡ false
-or-right true true e = e
-or-right true false e = refl
-or-right false t e = e
-
 module _ (ws : List ℕ) (g : Good ws) where
   seven : getD ws 0 0 ∷ getD ws 1 0 ∷ getD ws 2 0 ∷ getD ws 3 0 ∷ getD ws 4 0 ∷ getD ws 5 0 ∷ getD ws 6 0 ∷ drop 7 ws ≡ ws
   seven =

@@ -11,9 +11,18 @@ use lib.ListN.{length, getD, drop}
 use Rattle.text.proofs.Orders.{either}
 use Rattle.book.specs.Layout.{countOf, contentsOf, badRows, scriptWords, badWords}
 
-or-true : (t : Bool) → t || true ≡ true
+pub or-true : (t : Bool) → t || true ≡ true
 or-true true = refl
 or-true false = refl
+
+pub or-left : (s t : Bool) → s || t ≡ false → s ≡ false
+or-left true t e = e
+or-left false t e = refl
+
+pub or-right : (s t : Bool) → s || t ≡ false → t ≡ false
+or-right true true e = e
+or-right true false e = refl
+or-right false t e = e
 
 module _ (ws : List ℕ) where
   pub too-long : 4096 < length ws → badWords ws ≡ true

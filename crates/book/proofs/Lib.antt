@@ -4,3 +4,5 @@ pub mod Load
 pub mod Bytes
 pub mod Written
 pub mod Both
+pub mod Opening
+pub mod Reached

@@ -6,9 +6,9 @@ use mathlib.Core.Path.{_≡_, refl, ap, sym, _∙_}
 use native.Mathlib.Nat.{zero-add, sub-zero}
 use native.Mathlib.Omega.{arith}
 use lib.ListN.{length, getD, set, take, drop, length-take}
-use lib.Seq.{take-all}
+use lib.Seq.{take-all, take-append-seam}
 use Rattle.text.specs.Ink.{inked, next}
-use Rattle.text.proofs.Ink.{ink-sets, ink-more, ink-cut}
+use Rattle.text.proofs.Ink.{ink-sets, ink-length, ink-more, ink-cut}
 use Rattle.text.proofs.Orders.{either}
 use Rattle.book.specs.Layout.{word4, wordsOf}
 
@@ -52,3 +52,22 @@ module _ (text buffer : List ℕ) where
       let all : n ≡ length buffer - 0 = omega arith in
       rw all (ink-cut 0 text buffer))
       (either (length text) (length buffer))
+
+  -- and where all fit, they are the first of the list
+  pub loaded : length text ≤ length buffer → take (length text) (inked 0 text buffer) ≡ text
+  unfolding inked
+  loaded h = rw (zero-add, sub-zero, take-all (length buffer) text h) (take-append-seam text (drop (length text) buffer))
+
+-- what loading leaves
+module _ (bytes words last : List ℕ) (n : ℕ) (e : n ≡ next 0 (wordsOf bytes) words) (f : last ≡ inked 0 (wordsOf bytes) words) where
+  pub counted : n ≡ min (length bytes / 4) (length words)
+  unfolding next
+  counted = e ∙ rw (zero-add, length-words)
+
+  pub kept : length last ≡ length words
+  kept = rw f (ink-length 0 (wordsOf bytes) words)
+
+  pub book-words : length bytes / 4 ≤ n → take n last ≡ wordsOf bytes
+  book-words h =
+      let all : n ≡ length (wordsOf bytes) = rw length-words (omega (arith, counted)) in
+      rw (f, all) (loaded (wordsOf bytes) words (rw length-words (omega (arith, counted))))

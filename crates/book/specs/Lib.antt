@@ -1,2 +1,3 @@
 pub mod Layout
 pub mod Readers
+pub mod Cases

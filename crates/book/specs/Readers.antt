@@ -1,10 +1,14 @@
 -- The words of a book as the readers hand them out.
-use Prim.Native.Nat.{ℕ, _+_, _*_}
+use Prim.Native.Nat.{ℕ, _+_, _*_, _/_}
+use mathlib.Core.Bool.{cond, _||_}
 use mathlib.Core.List.{List}
-use lib.ListN.{getD, take, drop}
-use Rattle.book.specs.Layout.{Call, callsOf}
+use lib.Dec.{ltb}
+use lib.ListN.{length, getD, take, drop}
+use Rattle.book.specs.Layout.{Call, callsOf, badBook}
 use Rattle.book.specs.declared.layout.Asked.{Asked}
 use Rattle.book.specs.declared.layout.Heading.{Heading}
+use Rattle.book.specs.declared.layout.Opened.{Opened}
+use Rattle.book.specs.declared.layout.Opened.the-variants as Opening
 
 abbrev pub headingOf : List ℕ → Heading
 headingOf ws =
@@ -37,3 +41,8 @@ callAsked ws x =
 -- the m calls from row k on, with their scripts from a place on
 unfoldable pub callsFrom : List ℕ → ℕ → ℕ → ℕ → List Call
 callsFrom ws k place m = callsOf m (drop (7 + 4 * k) ws) (drop place ws)
+
+-- what opening a file's bytes comes to, in a list of so many words
+unfoldable pub openedOf : List ℕ → ℕ → Opened
+openedOf bytes room =
+    cond (badBook bytes || ltb room (length bytes / 4)) Opening.Bad (Opening.Words (length bytes / 4))

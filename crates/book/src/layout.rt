@@ -2,10 +2,10 @@
 // reader asks anything of the words.
 ghost use mathlib.Core.Path.{_≡_};
 ghost use Prim.Native.Nat.{min};
-ghost use lib.ListN.{getD, drop};
+ghost use lib.ListN.{length, getD, drop};
 ghost use Rattle.text.specs.Ink.{inked, next};
 ghost use Rattle.book.specs.Layout.{word4, wordsOf, contentsOf, badRow, badRows, scriptWords, badWords};
-ghost use Rattle.book.specs.Readers.{headingOf, askedAt};
+ghost use Rattle.book.specs.Readers.{headingOf, askedAt, openedOf};
 
 // The contents before the rows of the calls.
 pub struct Heading {
@@ -25,6 +25,12 @@ pub struct Asked {
     pub b: u32,
     pub script_at: usize,
     pub script_len: usize,
+}
+
+// A file's bytes as a book: so many words of the list, or none.
+pub enum Opened {
+    Words(usize),
+    Bad,
 }
 
 fn least(a: usize, b: usize) -> usize
@@ -178,4 +184,22 @@ pub fn is_bad(words: &[u32]) -> bool
         return true;
     }
     script_words(words, calls) != words.len() - rest_at
+}
+
+// Loads a book, and judges it. A list of 4,096 words has room for every book.
+pub fn open(bytes: &[u8], words: &mut [u32]) -> Opened
+    ensures answered { λ r. ⌜ r ≡ openedOf (now (bytes .entry)) (length (now (words .entry))) ⌝ }
+    ensures laid { λ r. ⌜ now (words .exit) ≡ inked 0 (wordsOf (now (bytes .entry))) (now (words .entry)) ⌝ }
+{
+    let n = load(bytes, words);
+    if bytes.len() % 4 != 0 {
+        return Opened::Bad;
+    }
+    if n < bytes.len() / 4 {
+        return Opened::Bad;
+    }
+    if is_bad(&words[..n]) {
+        return Opened::Bad;
+    }
+    Opened::Words(n)
 }
