@@ -3,7 +3,7 @@
 ghost use mathlib.Core.Path.{_≡_};
 ghost use Prim.Native.Nat.{min};
 ghost use lib.ListN.{length, getD, drop};
-ghost use Rattle.text.specs.Ink.{inked, next};
+ghost use Rattle.text.specs.Ink.{inked, Laid};
 ghost use Rattle.book.specs.Layout.{word4, wordsOf, contentsOf, badRow, badRows, scriptWords, badWords};
 ghost use Rattle.book.specs.Readers.{headingOf, askedAt, openedOf};
 
@@ -48,8 +48,7 @@ fn little(a: u8, b: u8, c: u8, d: u8) -> u32
 
 // Lays the bytes' words into the list, as far as they fit; gives how many.
 pub fn load(bytes: &[u8], words: &mut [u32]) -> usize
-    ensures counted { λ r. ⌜ r ≡ next 0 (wordsOf (now (bytes .entry))) (now (words .entry)) ⌝ }
-    ensures laid { λ r. ⌜ now (words .exit) ≡ inked 0 (wordsOf (now (bytes .entry))) (now (words .entry)) ⌝ }
+    ensures { λ r. ⌜ Laid 0 (wordsOf (now (bytes .entry))) (now (words .entry)) r (now (words .exit)) ⌝ }
 {
     let n = least(bytes.len() / 4, words.len());
     let mut i = 0;

@@ -9,7 +9,7 @@ use lib.ListN.{length, getD, take, drop, set, length-append, length-take, drop-o
 use lib.Seq.{take-suc, take-all, take-take, sets, length-sets, set-out, take-nil, drop-nil}
 use mathlib.Core.Logic.{⊎-elim}
 use Rattle.text.proofs.Orders.{either}
-use Rattle.text.specs.Ink.{inked, next}
+use Rattle.text.specs.Ink.{inked, next, Laid}
 
 -- stores behind the first element
 sets-cons : (x : ℕ) (xs : List ℕ) (i : ℕ) (vs : List ℕ) → sets (x ∷ xs) (suc i) vs ≡ x ∷ sets xs i vs
@@ -68,15 +68,11 @@ module _ (at : ℕ) (us vs buffer : List ℕ) where
   next-append = rw (ink-length, length-append) (omega arith)
 
 -- a byte more
-module _ (at : ℕ) (text buffer : List ℕ) (i : ℕ) (h : i < length text) where
-  more : take i text ++ (getD text i 0 ∷ []) ≡ take (i + 1) text
-  more = rw (add-one, take-suc text i 0)
+pub take-more : (text : List ℕ) (i : ℕ) → i < length text → take i text ++ (getD text i 0 ∷ []) ≡ take (i + 1) text
+take-more text i h = rw (add-one, take-suc text i 0)
 
-  pub ink-more : inked (next at (take i text) buffer) (getD text i 0 ∷ []) (inked at (take i text) buffer) ≡ inked at (take (i + 1) text) buffer
-  ink-more = ink-append at (take i text) (getD text i 0 ∷ []) buffer ∙ ap (λ (l : List ℕ). inked at l buffer) more
-
-  pub next-more : next (next at (take i text) buffer) (getD text i 0 ∷ []) (inked at (take i text) buffer) ≡ next at (take (i + 1) text) buffer
-  next-more = next-append at (take i text) (getD text i 0 ∷ []) buffer ∙ ap (λ (l : List ℕ). next at l buffer) more
+pub ink-more : (at : ℕ) (text buffer : List ℕ) (i : ℕ) → i < length text → inked (next at (take i text) buffer) (getD text i 0 ∷ []) (inked at (take i text) buffer) ≡ inked at (take (i + 1) text) buffer
+ink-more at text buffer i h = ink-append at (take i text) (getD text i 0 ∷ []) buffer ∙ ap (λ (l : List ℕ). inked at l buffer) (take-more text i h)
 
 -- what does not fit may be cut off before
 pub ink-cut : (at : ℕ) (text buffer : List ℕ) → inked at (take (length buffer - at) text) buffer ≡ inked at text buffer
@@ -88,3 +84,11 @@ ink-cut at text buffer =
     let cut : length (take k text) ≡ k = rw length-take (omega arith) in
     rw (take-take k k text (omega arith), cut, drop-of-length-le buffer {i = at + k} (omega arith), drop-of-length-le buffer {i = at + length text} (omega arith)))
     (either (length text) k)
+
+-- a text after a text, of what the pen laid in
+pub and-then : {at : ℕ} {us before : List ℕ} {place : ℕ} {between vs : List ℕ} {place′ : ℕ} {after : List ℕ} → Laid at us before place between → Laid place vs between place′ after → Laid at (us ++ vs) before place′ after
+and-then {at} {us} {before} {place} {between} {vs} p q =
+    record {
+      placed = q .placed ∙ rw (p .placed, p .laid) (next-append at us vs before);
+      laid = q .laid ∙ rw (p .placed, p .laid) (ink-append at us vs before);
+    }

@@ -2,7 +2,7 @@
 ghost use mathlib.Core.Path.{_≡_};
 ghost use mathlib.Core.List.{[], _∷_};
 ghost use Prim.Native.Nat.{min, _<_};
-ghost use Rattle.text.specs.Ink.{inked, next};
+ghost use Rattle.text.specs.Ink.{Laid};
 ghost use Rattle.text.specs.Digits.{decimalOf, hexDigit, hexOf};
 
 fn least(a: usize, b: usize) -> usize
@@ -12,8 +12,7 @@ fn least(a: usize, b: usize) -> usize
 }
 
 pub fn put_byte(buffer: &mut [u8], at: usize, byte: u8) -> usize
-    ensures placed { λ r. ⌜ r ≡ next at (byte ∷ []) (now (buffer .entry)) ⌝ }
-    ensures laid { λ r. ⌜ now (buffer .exit) ≡ inked at (byte ∷ []) (now (buffer .entry)) ⌝ }
+    ensures { λ r. ⌜ Laid at (byte ∷ []) (now (buffer .entry)) r (now (buffer .exit)) ⌝ }
 {
     if at < buffer.len() {
         buffer[at] = byte;
@@ -23,8 +22,7 @@ pub fn put_byte(buffer: &mut [u8], at: usize, byte: u8) -> usize
 }
 
 pub fn put(buffer: &mut [u8], at: usize, text: &[u8]) -> usize
-    ensures placed { λ r. ⌜ r ≡ next at (now (text .entry)) (now (buffer .entry)) ⌝ }
-    ensures laid { λ r. ⌜ now (buffer .exit) ≡ inked at (now (text .entry)) (now (buffer .entry)) ⌝ }
+    ensures { λ r. ⌜ Laid at (now (text .entry)) (now (buffer .entry)) r (now (buffer .exit)) ⌝ }
 {
     let mut place = least(at, buffer.len());
     let mut i = 0;
@@ -37,8 +35,7 @@ pub fn put(buffer: &mut [u8], at: usize, text: &[u8]) -> usize
 
 // A number in decimal, without leading zeros.
 pub fn put_decimal(buffer: &mut [u8], at: usize, n: u64) -> usize
-    ensures placed { λ r. ⌜ r ≡ next at (decimalOf n) (now (buffer .entry)) ⌝ }
-    ensures laid { λ r. ⌜ now (buffer .exit) ≡ inked at (decimalOf n) (now (buffer .entry)) ⌝ }
+    ensures { λ r. ⌜ Laid at (decimalOf n) (now (buffer .entry)) r (now (buffer .exit)) ⌝ }
 {
     let digit = 48 + (n % 10) as u8;
     if n < 10 {
@@ -57,8 +54,7 @@ fn hex_digit(n: u8) -> u8
 
 // The low digits of a number in hexadecimal, lower case, exactly so many.
 pub fn put_hex(buffer: &mut [u8], at: usize, digits: u8, n: u64) -> usize
-    ensures placed { λ r. ⌜ r ≡ next at (hexOf digits n) (now (buffer .entry)) ⌝ }
-    ensures laid { λ r. ⌜ now (buffer .exit) ≡ inked at (hexOf digits n) (now (buffer .entry)) ⌝ }
+    ensures { λ r. ⌜ Laid at (hexOf digits n) (now (buffer .entry)) r (now (buffer .exit)) ⌝ }
 {
     if digits == 0 {
         return least(at, buffer.len());

@@ -37,10 +37,11 @@ returns c =
     let args = c .before .before .before .before .before .args in
     let n = c .before .before .least .ensures in
     let count = length-words (args .bytes .now) in
-    let done : c .before .loop .i ≡ c .before .before .least .result = omega arith in (
-      rw count (omega (arith, n)),
-      rw (c .before .loop .inv .0, done) (stored (wordsOf (args .bytes .now)) (args .words .now) (c .before .before .least .result) (rw count n)),
-    )
+    let done : c .before .loop .i ≡ c .before .before .least .result = omega arith in
+    record {
+      placed = rw count (omega (arith, n));
+      laid = rw (c .before .loop .inv .0, done) (stored (wordsOf (args .bytes .now)) (args .words .now) (c .before .before .least .result) (rw count n));
+    }
 
 pub load-spec : {M : Type 1} → statement M
 load-spec = tie.close (tie.spec Inv-loop μ-loop (λ c κs. search needs) loop-holds (λ c. omega arith) (λ c. omega arith) (λ c. omega arith) (λ c. omega arith) (λ c. omega arith) (λ c. omega arith) (λ c. omega arith) (λ c. omega arith) (λ c κs. search needs) (λ c. omega arith) (λ c. omega arith) (λ c. omega arith) (λ c. omega arith) loop-again (λ c. c .before .loop .inv .2) returns)

@@ -17,7 +17,7 @@ returns c =
     let args = c .before .before .before .before .before .before .before .args in
     let bytes = args .bytes .now in
     let words = args .words .now in
-    (sym (open-odd bytes (length words) (c .if1 .taken)), load .ensures .1)
+    (sym (open-odd bytes (length words) (c .if1 .taken)), load .ensures .laid)
 
 returns-2 : tie.Need-returns-2
 returns-2 c =
@@ -25,8 +25,8 @@ returns-2 c =
     let args = c .before .before .before .before .before .before .before .before .args in
     let bytes = args .bytes .now in
     let words = args .words .now in
-    let n = counted bytes words (load .last .1 .0) (load .result) (load .ensures .0) (load .ensures .1) in
-    (sym (open-over bytes (length words) (omega arith)), load .ensures .1)
+    let n = counted bytes words (load .last .1 .0) (load .result) (load .ensures .placed) (load .ensures .laid) in
+    (sym (open-over bytes (length words) (omega arith)), load .ensures .laid)
 
 slice-reshare-prefix-is-bad : tie.Need-slice-reshare-prefix-is-bad
 slice-reshare-prefix-is-bad c =
@@ -34,8 +34,8 @@ slice-reshare-prefix-is-bad c =
     let args = c .before .before .before .before .before .before .before .before .args in
     let bytes = args .bytes .now in
     let words = args .words .now in
-    let n = counted bytes words (load .last .1 .0) (load .result) (load .ensures .0) (load .ensures .1) in
-    let l = kept bytes words (load .last .1 .0) (load .result) (load .ensures .0) (load .ensures .1) in
+    let n = counted bytes words (load .last .1 .0) (load .result) (load .ensures .placed) (load .ensures .laid) in
+    let l = kept bytes words (load .last .1 .0) (load .result) (load .ensures .placed) (load .ensures .laid) in
     omega arith
 
 slice-aggregate-is-bad : tie.Need-slice-aggregate-is-bad
@@ -44,8 +44,8 @@ slice-aggregate-is-bad c =
     let args = c .before .before .before .before .before .before .before .before .before .args in
     let bytes = args .bytes .now in
     let words = args .words .now in
-    let n = counted bytes words (load .last .1 .0) (load .result) (load .ensures .0) (load .ensures .1) in
-    let l = kept bytes words (load .last .1 .0) (load .result) (load .ensures .0) (load .ensures .1) in
+    let n = counted bytes words (load .last .1 .0) (load .result) (load .ensures .placed) (load .ensures .laid) in
+    let l = kept bytes words (load .last .1 .0) (load .result) (load .ensures .placed) (load .ensures .laid) in
     rw length-take (omega arith)
 
 returns-3 : tie.Need-returns-3
@@ -54,8 +54,8 @@ returns-3 c =
     let args = c .before .before .before .before .before .before .before .before .before .before .before .args in
     let bytes = args .bytes .now in
     let words = args .words .now in
-    let all = book-words bytes words (load .last .1 .0) (load .result) (load .ensures .0) (load .ensures .1) (omega arith) in
-    (sym (open-bad bytes (length words) (ap badWords (sym all) ∙ sym (c .before .is-bad .ensures) ∙ c .if3 .taken)), load .ensures .1)
+    let all = book-words bytes words (load .last .1 .0) (load .result) (load .ensures .placed) (load .ensures .laid) (omega arith) in
+    (sym (open-bad bytes (length words) (ap badWords (sym all) ∙ sym (c .before .is-bad .ensures) ∙ c .if3 .taken)), load .ensures .laid)
 
 returns-4 : tie.Need-returns-4
 returns-4 c =
@@ -63,11 +63,11 @@ returns-4 c =
     let args = c .before .before .before .before .before .before .before .before .before .before .before .args in
     let bytes = args .bytes .now in
     let words = args .words .now in
-    let n = counted bytes words (load .last .1 .0) (load .result) (load .ensures .0) (load .ensures .1) in
-    let all = book-words bytes words (load .last .1 .0) (load .result) (load .ensures .0) (load .ensures .1) (omega arith) in
+    let n = counted bytes words (load .last .1 .0) (load .result) (load .ensures .placed) (load .ensures .laid) in
+    let all = book-words bytes words (load .last .1 .0) (load .result) (load .ensures .placed) (load .ensures .laid) (omega arith) in
     let count : load .result ≡ length bytes / 4 = omega arith in
     let good = ap badWords (sym all) ∙ sym (c .before .is-bad .ensures) ∙ c .if3 .left in
-    (rw count (sym (open-good bytes (length words) (omega arith) good (omega arith))), load .ensures .1)
+    (rw count (sym (open-good bytes (length words) (omega arith) good (omega arith))), load .ensures .laid)
 
 pub open-spec : {M : Type 1} → statement M
 open-spec = tie.close (tie.spec (λ c κs. search needs) (λ c. search needs) returns (λ c. search needs) returns-2 slice-reshare-prefix-is-bad slice-aggregate-is-bad (λ c κs. search needs) (λ c. search needs) returns-3 (λ c. search needs) returns-4)

@@ -2,8 +2,7 @@
 use Prim.Native.Nat.{ℕ, _<_, _≤_}
 use mathlib.Core.Path.{_≡_, refl, sym, ap, _∙_}
 use native.Mathlib.Omega.{arith}
-use Rattle.text.specs.Ink.{inked, next}
-use Rattle.text.proofs.Ink.{ink-length, ink-append, next-append}
+use Rattle.text.proofs.Ink.{and-then}
 use Rattle.text.proofs.Decimal.{decimal-one, decimal-more}
 use borrow.Author.Needs.{needs}
 use borrow.Fn.Kinds.{In}
@@ -42,7 +41,7 @@ pub +put-decimal-spec : {M : Type 1} → statement M
     (λ c.
     let args = c .before .before .before .before .before .before .args in
     let one = decimal-one (args .n) (omega arith) in
-    (rw one (c .before .before .put-byte .ensures .0), rw one (c .before .before .put-byte .ensures .1)))
+    rw one (c .before .before .put-byte .ensures))
     (λ c κs. (omega arith, tt))
     (λ c κs. search needs)
     (λ c. c .before .before .put-byte2 .kept .0 ∙ c .before .before .before .before .before .before .put-decimal .kept .0)
@@ -50,8 +49,4 @@ pub +put-decimal-spec : {M : Type 1} → statement M
     let called = c .before .before .before .before .before .before in
     let args = called .before .before .before .before .args in
     let more = decimal-more (args .n) (omega arith) in
-    let front = called .put-decimal .ensures in
-    let last = c .before .before .put-byte2 .ensures in (
-      last .0 ∙ rw (front .0, front .1, more) (next-append (args .at) _ _ (args .buffer .now)),
-      last .1 ∙ rw (front .0, front .1, more) (ink-append (args .at) _ _ (args .buffer .now)),
-    ))
+    rw (more) (and-then (called .put-decimal .ensures) (c .before .before .put-byte2 .ensures)))

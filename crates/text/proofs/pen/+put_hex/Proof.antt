@@ -2,8 +2,7 @@
 use Prim.Native.Nat.{ℕ, _<_, _≤_, min}
 use mathlib.Core.Path.{_≡_, refl, sym, ap, _∙_}
 use native.Mathlib.Omega.{arith}
-use Rattle.text.specs.Ink.{inked, next}
-use Rattle.text.proofs.Ink.{ink-nil, next-nil, ink-append, next-append}
+use Rattle.text.proofs.Ink.{ink-nil, next-nil, and-then}
 use Rattle.text.proofs.Hex.{hex-none, hex-more}
 use borrow.Author.Needs.{needs}
 use borrow.Fn.Kinds.{In}
@@ -42,7 +41,7 @@ pub +put-hex-spec : {M : Type 1} → statement M
     (λ c κs. search needs)
     (λ c.
     let none = hex-none (c .before .before .before .args .digits) (c .before .before .before .args .n) (omega arith) in
-    (rw (none, next-nil) (c .least .ensures), rw (none, ink-nil)))
+    rw none (record { placed = rw next-nil (c .least .ensures); laid = rw ink-nil }))
     (λ c. omega arith)
     (λ c κs. (omega arith, tt))
     (λ c. search needs)
@@ -53,9 +52,5 @@ pub +put-hex-spec : {M : Type 1} → statement M
     let called = c .before .before .before .before .before .before .before in
     let args = called .before .before .before .before .args in
     let more = hex-more (args .digits) (args .n) (omega arith) in
-    let front = called .put-hex .ensures in
     let digit = c .before .before .before .hex-digit .ensures in
-    let last = c .before .before .put-byte .ensures in (
-      last .0 ∙ rw (front .0, front .1, more, digit) (next-append (args .at) _ _ (args .buffer .now)),
-      last .1 ∙ rw (front .0, front .1, more, digit) (ink-append (args .at) _ _ (args .buffer .now)),
-    ))
+    rw (more, ← digit) (and-then (called .put-hex .ensures) (c .before .before .put-byte .ensures)))
