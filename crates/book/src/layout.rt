@@ -1,11 +1,11 @@
 // The words of a bench book: loaded from bytes, judged, and read call by call. A word that is not there reads as 0, so no
 // reader asks anything of the words.
 ghost use mathlib.Core.Path.{_≡_};
-ghost use Prim.Native.Nat.{min};
 ghost use lib.ListN.{length, getD, drop};
 ghost use Rattle.text.specs.Ink.{inked, Laid};
 ghost use Rattle.book.specs.Layout.{word4, wordsOf, contentsOf, badRow, badRows, scriptWords, badWords};
 ghost use Rattle.book.specs.Readers.{headingOf, askedAt, openedOf};
+use text::pen;
 
 // The contents before the rows of the calls.
 pub struct Heading {
@@ -33,12 +33,6 @@ pub enum Opened {
     Bad,
 }
 
-fn least(a: usize, b: usize) -> usize
-    ensures { λ r. ⌜ r ≡ min a b ⌝ }
-{
-    if a < b { a } else { b }
-}
-
 // Four bytes as a word, the lowest first.
 fn little(a: u8, b: u8, c: u8, d: u8) -> u32
     ensures { λ r. ⌜ r ≡ word4 a b c d ⌝ }
@@ -50,7 +44,7 @@ fn little(a: u8, b: u8, c: u8, d: u8) -> u32
 pub fn load(bytes: &[u8], words: &mut [u32]) -> usize
     ensures { λ r. ⌜ Laid 0 (wordsOf (now (bytes .entry))) (now (words .entry)) r (now (words .exit)) ⌝ }
 {
-    let n = least(bytes.len() / 4, words.len());
+    let n = pen::least(bytes.len() / 4, words.len());
     let mut i = 0;
     while i < n {
         let at = 4 * i;

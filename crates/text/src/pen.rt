@@ -5,7 +5,7 @@ ghost use Prim.Native.Nat.{min, _<_};
 ghost use Rattle.text.specs.Ink.{Laid};
 ghost use Rattle.text.specs.Digits.{decimalOf, hexDigit, hexOf};
 
-fn least(a: usize, b: usize) -> usize
+pub fn least(a: usize, b: usize) -> usize
     ensures { λ r. ⌜ r ≡ min a b ⌝ }
 {
     if a < b { a } else { b }
