@@ -1,17 +1,17 @@
 -- A book's words, and what words say, agree both ways: a good book's bytes are read as the book, and bytes that are read as
 -- a book are that book's bytes.
-use Prim.Native.Nat.{ℕ, zero, suc, _+_, _*_, _-_, _/_, _%_, _^_, _≤_, _<_}
-use mathlib.Core.Bool.{Bool, true, false, cond, not, _||_}
+use Prim.Native.Nat.{ℕ, _+_, _*_, _-_, _%_, _<_}
+use mathlib.Core.Bool.{Bool, true, false, cond, not}
 use mathlib.Core.List.{List, [], _∷_, _++_}
-use mathlib.Core.Option.{Option, none, some}
+use mathlib.Core.Option.{none, some}
 use mathlib.Core.Path.{_≡_, refl, ap, sym, _∙_}
 use native.Mathlib.Omega.{arith}
-use borrow.Author.Tests.{ltb-false, eqb-true, eqb-false, not-false, eq-eqb}
-use lib.Dec.{eqb, ltb}
+use borrow.Author.Tests.{eqb-true, not-false, eq-eqb}
+use lib.Dec.{eqb}
 use lib.ListN.{length, getD, take, drop, length-append, length-drop, take-append-drop}
 use lib.Seq.{drop-at, drop-drop, drop-cons, take-all}
 use Rattle.types.specs.Words.{bytesOf}
-use Rattle.book.specs.Layout.{Book, Call, rowsIn, scriptsIn, wordsIn, encode, countOf, contentsOf, callsOf, bookIn, badRows, scriptWords, badWords, badBook, bookOf, badCalls, wordsOf, WellFormed}
+use Rattle.book.specs.Layout.{Book, Call, rowsIn, scriptsIn, wordsIn, encode, countOf, contentsOf, callsOf, bookIn, scriptWords, badWords, badBook, bookOf, wordsOf, WellFormed}
 use Rattle.book.proofs.Bytes.{words-back, bytes-back, words-fit}
 use Rattle.book.proofs.Causes.{or-left, or-right, fills, Good, good-words}
 use Rattle.book.proofs.Written.{length-rows, read-calls, read-bad, read-words, length-calls, write-rows, write-scripts, write-bad}

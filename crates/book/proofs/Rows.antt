@@ -1,13 +1,13 @@
 -- Rows one after the other: what the definitions say of the rows from row k on, by row k and the rows behind it.
-use Prim.Native.Nat.{ℕ, zero, suc, _+_, _*_, _-_, _≤_, _<_}
+use Prim.Native.Nat.{ℕ, suc, _+_, _*_, _-_, _≤_, _<_}
 use mathlib.Core.Bool.{Bool, true, false, _||_}
-use mathlib.Core.List.{List, [], _∷_}
-use mathlib.Core.Path.{_≡_, refl, ap, sym, _∙_}
+use mathlib.Core.List.{List, _∷_}
+use mathlib.Core.Path.{_≡_, ap, _∙_}
 use native.Mathlib.Nat.{add-zero}
 use native.Mathlib.Omega.{arith}
-use lib.ListN.{length, getD, take, drop}
+use lib.ListN.{getD, drop}
 use lib.Seq.{getD-drop, drop-drop}
-use Rattle.book.specs.Layout.{Call, callsOf, badRow, badRows, scriptWords}
+use Rattle.book.specs.Layout.{callsOf, badRow, badRows, scriptWords}
 use Rattle.book.specs.declared.layout.Asked.{Asked}
 use Rattle.book.specs.Readers.{askedAt, callAsked, callsFrom}
 

@@ -1,12 +1,11 @@
 -- Calls written as rows and scripts, and read again; rows and scripts read as calls, and written again.
-use Prim.Native.Nat.{ℕ, zero, suc, _+_, _*_, _-_, _≤_, _<_}
-use mathlib.Core.Bool.{Bool, true, false, _||_}
+use Prim.Native.Nat.{ℕ, zero, suc, _*_, _≤_}
 use mathlib.Core.List.{List, [], _∷_, _++_}
-use mathlib.Core.Path.{_≡_, refl, ap, sym, _∙_}
+use mathlib.Core.Path.{_≡_, refl, ap, sym}
 use native.Mathlib.Omega.{arith}
 use lib.ListN.{length, getD, take, drop, length-append, length-take, length-drop}
 use lib.Seq.{take-at, drop-at, take-add}
-use Rattle.book.specs.Layout.{Call, rowsIn, scriptsIn, callsOf, badRow, badRows, badCalls, scriptWords}
+use Rattle.book.specs.Layout.{Call, rowsIn, scriptsIn, callsOf, badRows, badCalls, scriptWords}
 
 pub length-rows : (cs : List Call) → length (rowsIn cs) ≡ 4 * length cs
 unfolding rowsIn

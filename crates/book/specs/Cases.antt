@@ -1,6 +1,6 @@
 -- Document 01's book, read by the definition; and its neighbours, which are none.
 use Prim.Native.Nat.{ℕ}
-use mathlib.Core.Bool.{Bool, true, false}
+use mathlib.Core.Bool.{true, false}
 use mathlib.Core.List.{List, [], _∷_, _++_, map}
 use mathlib.Core.Option.{some}
 use mathlib.Core.Path.{_≡_, refl}

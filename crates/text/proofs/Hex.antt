@@ -1,8 +1,7 @@
 -- Hexadecimal digits: one more, and how many.
-use Prim.Native.Nat.{ℕ, zero, suc, _+_, _*_, _-_, _/_, _%_, _≤_, _<_}
-use mathlib.Core.List.{List, [], _∷_, _++_}
-use mathlib.Core.Path.{_≡_, refl, ap, sym, _∙_}
-use native.Mathlib.Nat.{suc-sub-suc, sub-zero}
+use Prim.Native.Nat.{ℕ, zero, suc, _-_, _/_, _%_, _<_}
+use mathlib.Core.List.{[], _∷_, _++_}
+use mathlib.Core.Path.{_≡_, refl}
 use native.Mathlib.Omega.{arith}
 use lib.ListN.{length, length-append}
 use Rattle.text.specs.Digits.{hexDigit, hexOf}

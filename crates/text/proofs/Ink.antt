@@ -1,11 +1,11 @@
 -- Laws of inking: by stores one after the other; one text after another is both as one.
 use Prim.Native.Nat.{ℕ, zero, suc, _+_, _-_, _≤_, _<_, min}
-use mathlib.Core.List.{List, [], _∷_, _++_, append-nil}
+use mathlib.Core.List.{List, [], _∷_, _++_}
 use mathlib.Core.Path.{_≡_, refl, ap, sym, _∙_}
 use native.Mathlib.Nat.{add-zero, zero-add, suc-add, add-suc, suc-sub-suc, sub-zero, zero-sub}
 use native.Mathlib.Omega.{arith}
 use native.Mathlib.Numerals.{add-one}
-use lib.ListN.{length, getD, take, drop, set, length-append, length-take, drop-of-length-le}
+use lib.ListN.{length, getD, take, set, length-append, length-take, drop-of-length-le}
 use lib.Seq.{take-suc, take-all, take-take, sets, length-sets, set-out, take-nil, drop-nil}
 use mathlib.Core.Logic.{⊎-elim}
 use Rattle.text.proofs.Orders.{either}

@@ -1,11 +1,8 @@
 use Prim.Native.Nat.{ℕ}
-use mathlib.Core.Bool.{true, false, not}
-use mathlib.Core.Path.{_≡_, refl, sym, ap, _∙_}
+use mathlib.Core.Path.{sym, ap, _∙_}
 use native.Mathlib.Omega.{arith}
-use lib.ListN.{length, getD, drop}
-use lib.Dec.{eqb}
-use Rattle.book.specs.Layout.{badRows, scriptWords, badWords}
-use Rattle.book.specs.declared.layout.Heading.{Heading}
+use lib.ListN.{drop}
+use Rattle.book.specs.Layout.{badRows}
 use Rattle.book.proofs.Causes as cause
 use borrow.Author.Needs.{needs}
 use Rattle.book.proofs.layout.is_bad.Statement.{statement}

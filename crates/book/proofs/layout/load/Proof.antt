@@ -1,9 +1,9 @@
-use Prim.Native.Nat.{_-_, _/_, _≤_, min}
-use mathlib.Core.Path.{_≡_, refl, sym, ap, _∙_}
+use Prim.Native.Nat.{_-_, _≤_}
+use mathlib.Core.Path.{_≡_, refl, sym, _∙_}
 use native.Mathlib.Omega.{arith}
 use lib.ListN.{length, take, length-set}
 use Rattle.text.specs.Ink.{inked, next}
-use Rattle.text.proofs.Ink.{ink-nil, ink-length}
+use Rattle.text.proofs.Ink.{ink-nil}
 use Rattle.book.specs.Layout.{wordsOf}
 use Rattle.book.proofs.Load.{length-words, word-is, store, stored}
 use borrow.Author.Needs.{needs}

@@ -1,10 +1,8 @@
-use Prim.Native.Nat.{ℕ, _-_, _/_, _%_, _≤_, _<_, min}
-use mathlib.Core.Path.{_≡_, refl, sym, ap, _∙_}
+use Prim.Native.Nat.{_/_}
+use mathlib.Core.Path.{_≡_, sym, ap, _∙_}
 use native.Mathlib.Omega.{arith}
-use lib.ListN.{length, take, length-take}
-use Rattle.text.specs.Ink.{inked, next}
-use Rattle.text.proofs.Ink.{ink-length}
-use Rattle.book.specs.Layout.{wordsOf, badWords}
+use lib.ListN.{length, length-take}
+use Rattle.book.specs.Layout.{badWords}
 use Rattle.book.proofs.Load.{counted, kept, book-words}
 use Rattle.book.proofs.Opening.{open-odd, open-over, open-bad, open-good}
 use borrow.Author.Needs.{needs}

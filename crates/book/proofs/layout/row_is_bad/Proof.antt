@@ -1,4 +1,3 @@
-use borrow.Author.Needs.{needs}
 use borrow.Author.Tests.{eq-eqb, ne-eqb}
 use Rattle.book.specs.Layout.{badRow}
 use Rattle.book.proofs.layout.row_is_bad.Statement.{statement}

@@ -1,10 +1,9 @@
 use Prim.Native.Nat.{_+_, _*_, _-_, _≤_}
-use mathlib.Core.Bool.{false, _||_}
-use mathlib.Core.Path.{_≡_, refl, sym, ap, _∙_}
+use mathlib.Core.Path.{_≡_, sym, ap, _∙_}
 use native.Mathlib.Nat.{sub-zero}
 use native.Mathlib.Omega.{arith}
-use lib.ListN.{length, getD, drop}
-use Rattle.book.specs.Layout.{badRow, badRows}
+use lib.ListN.{drop}
+use Rattle.book.specs.Layout.{badRows}
 use Rattle.book.proofs.Rows.{badAsked, bad-here, bad-further, bad-none}
 use borrow.Author.Needs.{needs}
 use Rattle.book.proofs.layout.rows_are_bad.Statement.{statement}

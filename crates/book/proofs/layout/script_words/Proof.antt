@@ -1,8 +1,8 @@
 use Prim.Native.Nat.{_+_, _*_, _-_, _≤_}
-use mathlib.Core.Path.{_≡_, refl, sym, ap, _∙_}
+use mathlib.Core.Path.{_≡_, sym, ap, _∙_}
 use native.Mathlib.Nat.{zero-add, add-assoc, sub-zero}
 use native.Mathlib.Omega.{arith}
-use lib.ListN.{length, getD, drop}
+use lib.ListN.{drop}
 use Rattle.book.specs.Layout.{scriptWords}
 use Rattle.book.specs.declared.layout.Asked.{Asked}
 use Rattle.book.proofs.Rows.{words-step, words-none}

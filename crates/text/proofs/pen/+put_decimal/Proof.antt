@@ -1,6 +1,6 @@
 -- The measure is the number: a tenth of it is less.
-use Prim.Native.Nat.{ℕ, _<_, _≤_}
-use mathlib.Core.Path.{_≡_, refl, sym, ap, _∙_}
+use Prim.Native.Nat.{ℕ, _<_}
+use mathlib.Core.Path.{_∙_}
 use native.Mathlib.Omega.{arith}
 use Rattle.text.proofs.Ink.{and-then}
 use Rattle.text.proofs.Decimal.{decimal-one, decimal-more}

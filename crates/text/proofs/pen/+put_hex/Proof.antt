@@ -1,6 +1,6 @@
 -- The measure is the number of digits.
-use Prim.Native.Nat.{ℕ, _<_, _≤_, min}
-use mathlib.Core.Path.{_≡_, refl, sym, ap, _∙_}
+use Prim.Native.Nat.{ℕ, _<_}
+use mathlib.Core.Path.{_∙_}
 use native.Mathlib.Omega.{arith}
 use Rattle.text.proofs.Ink.{ink-nil, next-nil, and-then}
 use Rattle.text.proofs.Hex.{hex-none, hex-more}

@@ -1,9 +1,8 @@
-use Prim.Native.Nat.{_-_, _≤_, min}
-use mathlib.Core.Path.{_≡_, refl, sym, ap, _∙_}
-use native.Mathlib.Numerals.{add-one}
+use Prim.Native.Nat.{_-_, _≤_}
+use mathlib.Core.Path.{sym}
 use native.Mathlib.Omega.{arith}
-use lib.ListN.{length, take, drop, getD}
-use lib.Seq.{take-suc, take-all}
+use lib.ListN.{length, take}
+use lib.Seq.{take-all}
 use Rattle.text.specs.Ink.{next, Laid}
 use Rattle.text.proofs.Ink.{ink-length, ink-nil, take-more, and-then}
 use borrow.Author.Needs.{needs}

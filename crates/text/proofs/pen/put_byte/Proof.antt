@@ -1,9 +1,7 @@
-use mathlib.Core.List.{[], _∷_}
-use mathlib.Core.Path.{_≡_, refl, sym, _∙_}
+use mathlib.Core.Path.{sym, _∙_}
 use native.Mathlib.Omega.{arith}
-use lib.ListN.{length, set}
 use lib.Seq.{set-out}
-use Rattle.text.specs.Ink.{inked, next}
+use Rattle.text.specs.Ink.{next}
 use Rattle.text.proofs.Ink.{ink-sets}
 use borrow.Author.Needs.{needs}
 use Rattle.text.proofs.pen.put_byte.Statement.{statement}
