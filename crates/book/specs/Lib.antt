@@ -1,0 +1,4 @@
+pub mod Layout
+pub mod Readers
+pub mod Lines
+pub mod Cases

@@ -1,0 +1,39 @@
+// The lines that the program prints of a book.
+ghost use mathlib.Core.List.{_++_};
+ghost use Rattle.text.specs.Digits.{decimalOf};
+ghost use Rattle.text.specs.Ink.{Laid};
+ghost use Rattle.book.specs.Lines.{hostLine, callLine};
+use text::pen;
+
+fn put_named(buffer: &mut [u8], at: usize, name: &[u8], n: u64) -> usize
+    ensures { λ r. ⌜ Laid at (now (name .entry) ++ decimalOf n) (now (buffer .entry)) r (now (buffer .exit)) ⌝ }
+{
+    let place = pen::put(buffer, at, name);
+    pen::put_decimal(buffer, place, n)
+}
+
+// The first line: the answer at making the host, or of a book that is none.
+pub fn put_host(buffer: &mut [u8], at: usize, answer: u8) -> usize
+    ensures { λ r. ⌜ Laid at (hostLine answer) (now (buffer .entry)) r (now (buffer .exit)) ⌝ }
+{
+    let place = put_named(buffer, at, b"host answer ", answer as u64);
+    pen::put_byte(buffer, place, b'\n')
+}
+
+// A call's line: its number, counted from 1, its answer's number, the words it used and the rows it wrote.
+pub fn put_call(
+    buffer: &mut [u8],
+    at: usize,
+    call: u32,
+    answer: u8,
+    words: usize,
+    rows: usize,
+) -> usize
+    ensures { λ r. ⌜ Laid at (callLine call answer words rows) (now (buffer .entry)) r (now (buffer .exit)) ⌝ }
+{
+    let number = pen::put_decimal(buffer, at, call as u64);
+    let answered = put_named(buffer, number, b" answer ", answer as u64);
+    let used = put_named(buffer, answered, b" words ", words as u64);
+    let written = put_named(buffer, used, b" rows ", rows as u64);
+    pen::put_byte(buffer, written, b'\n')
+}

@@ -1,0 +1,4 @@
+pub mod Orders
+pub mod Ink
+pub mod Decimal
+pub mod Hex

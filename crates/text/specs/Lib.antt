@@ -1,0 +1,4 @@
+pub mod Typed
+pub mod Ink
+pub mod Digits
+pub mod Cases
