@@ -1,11 +1,11 @@
 // bookwords: text on standard input to a bench book on standard output. The text is decimal or 0x-hexadecimal words,
 // separated by white space or commas; `#` to the end of the line is a comment. Each word is written as 32 bits, the
 // lowest byte first. The first thing that is no word gets one line on standard error, and then nothing is written.
-mod input; // input.rt: all of standard input
 
 ghost use Prim.Native.Nat.{_≤_};
 ghost use lib.ListN.{length};
-use input::Input;
+use desk::input;
+use desk::input::Input;
 use libc::STDERR_FILENO;
 use libc::STDOUT_FILENO;
 use wordtext::book;

@@ -92,3 +92,8 @@ and-then {at} {us} {before} {place} {between} {vs} p q =
       placed = q .placed ∙ rw (p .placed, p .laid) (next-append at us vs before);
       laid = q .laid ∙ rw (p .placed, p .laid) (ink-append at us vs before);
     }
+
+-- the pen stands within the buffer
+pub stands-within : {at : ℕ} {text before : List ℕ} {place : ℕ} {after : List ℕ} → Laid at text before place after → place ≤ length after
+unfolding next
+stands-within l = rw (l .laid, ink-length) (rw (l .placed) (omega arith))

@@ -1,6 +1,6 @@
 // All of standard input.
 ghost use lib.ListN.{length};
-ghost use Rattle.bookwords.specs.Input.{Within};
+ghost use Rattle.desk.specs.Input.{Within};
 use libc::STDIN_FILENO;
 
 // What came: all of it, so many bytes; more than there was room for; or a reading failed.

@@ -2,8 +2,8 @@
 use Prim.Native.Nat.{ℕ, _≤_}
 use mathlib.Core.List.{List}
 use lib.ListN.{length}
-use Rattle.bookwords.specs.declared.input.Input.{Input}
-use Rattle.bookwords.specs.declared.input.Input.the-variants.{All, Full, Failed}
+use Rattle.desk.specs.declared.input.Input.{Input}
+use Rattle.desk.specs.declared.input.Input.the-variants.{All, Full, Failed}
 
 -- the bytes that came lie within the buffer
 abbrev pub Within : Input → List ℕ → Type 0

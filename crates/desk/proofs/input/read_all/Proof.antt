@@ -2,8 +2,8 @@ use Prim.Native.Nat.{_≤_, _-_}
 use mathlib.Core.Path.{_≡_}
 use lib.ListN.{length}
 use borrow.Author.Needs.{needs}
-use Rattle.bookwords.proofs.input.read_all.Statement.{statement}
-use Rattle.bookwords.proofs.input.read_all.Tie as tie
+use Rattle.desk.proofs.input.read_all.Statement.{statement}
+use Rattle.desk.proofs.input.read_all.Tie as tie
 
 abbrev Inv-loop : tie.InvT-loop
 Inv-loop buffer₀ done₀ buffer done = (done ≤ length buffer) × (length buffer ≡ length buffer₀)

@@ -1,0 +1,4 @@
+pub mod Asks
+pub mod Hosts
+pub mod Opens
+pub mod Turns

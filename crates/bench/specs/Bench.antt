@@ -1,0 +1,108 @@
+-- Document 01, 'The bench book and its program': what a book's calls come to, and the lines that are printed of them.
+use Prim.Native.Nat.{ℕ, _+_, _*_, _/_, _%_}
+use mathlib.Core.Bool.{cond}
+use mathlib.Core.List.{List, [], _∷_, _++_, map}
+use mathlib.Core.Option.{Option, none, some}
+use lib.Dec.{eqb}
+use lib.ListN.{replicate}
+use Rattle.types.specs.declared.error.Answer.{Answer}
+use Rattle.types.specs.declared.error.Answer.the-variants as Answered
+use Rattle.types.specs.Answer.{answerTold}
+use Rattle.init.specs.declared.settings.Settings.{Settings}
+use Rattle.host.specs.declared.host.Sdmmc.{Sdmmc}
+use Rattle.host.specs.Calls.{Came, bufferOf, made}
+use Rattle.calls.specs.Serve as S
+use Rattle.calls.specs.Serve.{comes, serve}
+use Rattle.book.specs.Layout as L
+use Rattle.book.specs.Layout.{Book, bookOf}
+use Rattle.book.specs.declared.layout.Asked.{Asked}
+use Rattle.book.specs.declared.layout.Heading.{Heading}
+use Rattle.book.specs.Readers.{askedAt, callAsked}
+use Rattle.book.specs.Lines.{hostLine, callLine}
+
+-- source, poll limit, ready attempts, data timeout, software timeout, flags (1 bypass, 2 wide)
+abbrev pub settingsWith : ℕ → ℕ → ℕ → ℕ → ℕ → ℕ → Settings
+settingsWith source limit attempts timeout software flags =
+    record {
+      source = record { 0 = source };
+      config =
+          record {
+            «data_transfer_timeout» = timeout;
+            «software_timeout_ms» = software;
+            «poll_limit» = limit;
+            «card_ready_attempts» = attempts;
+            «allow_clock_bypass» = eqb (flags % 2) 1;
+          };
+      wide = eqb (flags / 2) 1;
+    }
+
+abbrev pub settingsOf : Book → Settings
+settingsOf book = settingsWith (book .source) (book .pollLimit) (book .readyAttempts) (book .dataTimeout) (book .softwareTimeout) (book .flags)
+
+-- the same, of what stands in front of a book's words
+abbrev pub settingsIn : Heading → Settings
+settingsIn h = settingsWith (h .source) (h .«poll_limit») (h .«ready_attempts») (h .«data_timeout») (h .«software_timeout») (h .flags)
+
+-- kind (1 initialise, 2 read, 3 status), a (frequency, index, 0), b (0, blocks, 0), its script; with a row list, and a buffer
+-- of so many bytes
+abbrev pub callWith : List ℕ → ℕ → L.Call → S.Call
+callWith l bytes c =
+    cond (eqb (c .kind) 1) (S.initialise (c .a) (c .script) l)
+    (cond (eqb (c .kind) 2) (S.read (c .a) bytes (c .script) l) (S.status (c .script) l))
+
+-- a call of a book's words
+abbrev pub asking : List ℕ → ℕ → List ℕ → Asked → S.Call
+asking l bytes ws asked = callWith l bytes (callAsked ws asked)
+
+-- so many rows of room a call
+abbrev pub callOf : ℕ → L.Call → S.Call
+callOf room c = callWith (replicate (2 * room) 0) (512 * c .b) c
+
+-- the buffer after it: only a read fills it
+unfoldable pub bufferAfter : S.Call → Came → List ℕ → List ℕ
+bufferAfter (S.initialise frequency s l) x buffer = buffer
+bufferAfter (S.read index bytes s l) x buffer = bufferOf x buffer
+bufferAfter (S.status s l) x buffer = buffer
+
+abbrev pub numberOf : Answer → ℕ
+numberOf answer = answerTold answer .number
+
+abbrev pub cameLine : ℕ → Came → List ℕ
+cameLine k x = callLine k (numberOf (x .answer)) (x .words) (x .rows)
+
+-- what each call came to, a line each, numbered from k on
+unfoldable pub linesFrom : ℕ → List Came → List ℕ
+linesFrom k [] = []
+linesFrom k (x ∷ xs) = cameLine k x ++ linesFrom (k + 1) xs
+
+-- of call k of a book's words, counted from 0, whose script starts at a place: what it comes to, its line, the host after it
+abbrev pub cameOf : Sdmmc → List ℕ → ℕ → ℕ → Came
+cameOf host ws k place = comes host (callOf 4096 (callAsked ws (askedAt ws k place)))
+
+abbrev pub lineOf : Sdmmc → List ℕ → ℕ → ℕ → List ℕ
+lineOf host ws k place = cameLine (k + 1) (cameOf host ws k place)
+
+abbrev pub hostAfter : Sdmmc → List ℕ → ℕ → ℕ → Sdmmc
+hostAfter host ws k place = cameOf host ws k place .host
+
+-- the calls' lines, where there is a host
+unfoldable pub servedLines : Answer → List ℕ → List ℕ
+servedLines Answered.Accepted lines = lines
+servedLines (Answered.Refused e) lines = []
+servedLines Answered.ScriptEnded lines = []
+servedLines Answered.TraceFull lines = []
+servedLines Answered.BadBook lines = []
+
+unfoldable pub bookLines : Book → List ℕ
+bookLines book =
+    let host = made (settingsOf book) in
+    hostLine (numberOf (host .answer))
+    ++ servedLines (host .answer) (linesFrom 1 (serve (host .host) (map (callOf 4096) (book .calls)) .came))
+
+abbrev pub linesOf : Option Book → List ℕ
+linesOf none = hostLine (numberOf Answered.BadBook)
+linesOf (some book) = bookLines book
+
+-- WHAT IS PRINTED OF A FILE'S BYTES
+abbrev pub printed : List ℕ → List ℕ
+printed bytes = linesOf (bookOf bytes)

@@ -1,0 +1,72 @@
+// A book's settings, and a call of it on a host.
+ghost use mathlib.Core.Path.{_≡_};
+ghost use mathlib.Core.List.{_++_};
+ghost use Prim.Native.Nat.{_*_, _≤_};
+ghost use lib.ListN.{length, take, drop};
+ghost use Rattle.host.specs.Calls.{calledOf};
+ghost use Rattle.calls.specs.Serve.{comes};
+ghost use Rattle.bench.specs.Bench.{settingsIn, asking, bufferAfter};
+use book::layout::Asked;
+use book::layout::Heading;
+use host::blocks;
+use host::host::Called;
+use host::host::Sdmmc;
+use init::settings::Settings;
+use types::clock::Hertz;
+use types::config::Config;
+
+// One call, with a buffer of its blocks' bytes.
+pub fn ask(host: Sdmmc, words: &[u32], asked: Asked, rows: &mut [u32], buffer: &mut [u8]) -> Called
+    ensures answered { λ r. ⌜ r ≡ calledOf (comes host (asking (now (rows .entry)) (length (now (buffer .entry))) (now (words .entry)) asked)) ⌝ }
+    ensures listed { λ r. ⌜ now (rows .exit) ≡ comes host (asking (now (rows .entry)) (length (now (buffer .entry))) (now (words .entry)) asked) .list ⌝ }
+    ensures filled { λ r. ⌜ now (buffer .exit) ≡ bufferAfter (asking (now (rows .entry)) (length (now (buffer .entry))) (now (words .entry)) asked) (comes host (asking (now (rows .entry)) (length (now (buffer .entry))) (now (words .entry)) asked)) (now (buffer .entry)) ⌝ }
+{
+    let kind = asked.kind;
+    let a = asked.a;
+    let at = asked.script_at;
+    let len = asked.script_len;
+    let script = blocks::part(words, at, len);
+    if kind == 1 {
+        return host.blocking_init_card(script, rows, Hertz(a));
+    }
+    if kind == 2 {
+        return host.blocking_read_blocks(script, rows, a, buffer);
+    }
+    host.blocking_read_sd_status(script, rows)
+}
+
+// One call, in the part of the buffer that its blocks take.
+pub fn ask_in(
+    host: Sdmmc,
+    words: &[u32],
+    asked: Asked,
+    rows: &mut [u32],
+    buffer: &mut [u8],
+) -> Called
+    requires { ⌜ 512 * asked .b ≤ length (now buffer) ⌝ }
+    ensures answered { λ r. ⌜ r ≡ calledOf (comes host (asking (now (rows .entry)) (512 * asked .b) (now (words .entry)) asked)) ⌝ }
+    ensures listed { λ r. ⌜ now (rows .exit) ≡ comes host (asking (now (rows .entry)) (512 * asked .b) (now (words .entry)) asked) .list ⌝ }
+    ensures filled { λ r. ⌜ now (buffer .exit) ≡ bufferAfter (asking (now (rows .entry)) (512 * asked .b) (now (words .entry)) asked) (comes host (asking (now (rows .entry)) (512 * asked .b) (now (words .entry)) asked)) (take (512 * asked .b) (now (buffer .entry))) ++ drop (512 * asked .b) (now (buffer .entry)) ⌝ }
+{
+    let bytes = 512 * asked.b as usize;
+    ask(host, words, asked, rows, &mut buffer[..bytes])
+}
+
+// The settings of a book.
+pub fn settings(heading: Heading) -> Settings
+    requires { ⌜ heading .«ready_attempts» ≤ 65535 ⌝ }
+    ensures { λ r. ⌜ r ≡ settingsIn heading ⌝ }
+{
+    let flags = heading.flags;
+    Settings {
+        source: Hertz(heading.source),
+        config: Config {
+            data_transfer_timeout: heading.data_timeout,
+            software_timeout_ms: heading.software_timeout,
+            poll_limit: heading.poll_limit,
+            card_ready_attempts: heading.ready_attempts as u16,
+            allow_clock_bypass: flags % 2 == 1,
+        },
+        wide: flags / 2 == 1,
+    }
+}

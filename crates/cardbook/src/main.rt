@@ -1,0 +1,28 @@
+// cardbook: a bench book on standard input, a line for its host and one for each call on standard output.
+use bench::print;
+use desk::input;
+use desk::input::Input;
+use libc::STDOUT_FILENO;
+
+// Prints a book by way of a buffer.
+fn show(bytes: &[u8], out: &mut [u8]) {
+    let n = print::print_book(bytes, out);
+    if !io::write_all(STDOUT_FILENO, &out[..n]) {
+        os::fail(b"cardbook: standard output");
+    }
+}
+
+// Reads the book. A buffer that was filled holds one word more than a book may have, so it is no book whatever follows.
+fn run(buffer: &mut [u8], out: &mut [u8]) {
+    match input::read_all(buffer) {
+        Input::All(n) => show(&buffer[..n], out),
+        Input::Full => show(buffer, out),
+        Input::Failed => os::fail(b"cardbook: standard input"),
+    }
+}
+
+fn main() {
+    let mut buffer = [0u8; 16388];
+    let mut out = [0u8; 4096];
+    run(&mut buffer, &mut out);
+}
