@@ -10,7 +10,7 @@ returns : tie.Need-returns
 unfolding setClken
 returns c =
     let wrote = c .before .before in
-    let start = wrote .before .before .before .args in
+    let start = wrote .before .before .before .before .args in
     let value : wrote .before .before .with-clken .result ≡ clkenOf (start .p .line .clkcr) (start .on) = wrote .before .before .with-clken .ensures in
     λ s. looking _ (rw value at (wrote .write-row .ensures s))
 
