@@ -9,7 +9,7 @@ use Rattle.boundary.proofs.boresacu_transfer_rate.Tie as tie
 
 returns : tie.Need-returns
 unfolding rateAt rateWord
-returns c = rw (lt-ltb _ _ (c .before .if1 .taken)) (c .refused .ensures)
+returns c = rw (lt-ltb 255 _ (c .before .if1 .taken)) (c .refused .ensures)
 
 returns-2 : tie.Need-returns-2
 unfolding rateAt rateWord

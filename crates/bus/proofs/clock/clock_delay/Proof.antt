@@ -5,6 +5,10 @@ use borrow.Author.Needs.{needs}
 use Rattle.bus.proofs.clock.clock_delay.Statement.{statement}
 use Rattle.bus.proofs.clock.clock_delay.Tie as tie
 
+-- no division before the divisor is shown above 0
+spins-requires : tie.Need-spins-requires
+spins-requires c κs = search needs
+
 returns : tie.Need-returns
 unfolding clockDelay
 returns c = λ s. on-true _ (eq-eqb _ _ (c .before .if1 .taken)) (c .refuse .ensures s _)
@@ -27,5 +31,5 @@ returns-3 c =
 pub clock-delay-spec : {M : Type 1} → statement M
 clock-delay-spec =
     tie.close
-    (tie.spec (λ c κs. search needs) returns (λ c κs. search needs) (λ c. search needs) (λ c κs. search needs)
+    (tie.spec (λ c κs. search needs) returns spins-requires (λ c. search needs) (λ c κs. search needs)
     (λ c κs. search needs) (λ c. search needs) returns-2 returns-3)

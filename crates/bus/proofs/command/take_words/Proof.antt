@@ -1,5 +1,8 @@
+use Prim.Native.Nat.{ℕ}
 use native.Mathlib.Omega.{arith}
 use Rattle.tape.specs.declared.script.Reading.the-variants as Reading
+use Rattle.tape.specs.Run.{at, Gave}
+use Rattle.tape.specs.Steps.{word}
 use Rattle.bus.specs.Command.{responseWords}
 use Rattle.tape.proofs.Laws.{bind, read-on}
 use borrow.Author.Needs.{needs}
@@ -28,8 +31,9 @@ returns c =
     let third = fourth .before in
     let second = third .before in
     λ s l part.
+    let next : Gave s ℕ 0 (word (Reading.Response 1)) (at (second .before .read-word .result .progress) l) (second .read-word2 .result .word) (at (second .read-word2 .result .progress) l) = second .read-word2 .ensures (Reading.Response 1) s l part in
     bind _ (second .before .read-word .ensures (Reading.Response 0) s l part)
-    (bind _ (second .read-word2 .ensures (Reading.Response 1) s l part)
+    (bind _ next
     (bind _ (third .read-word3 .ensures (Reading.Response 2) s l part)
     (bind _ (fourth .read-word4 .ensures (Reading.Response 3) s l part) (c .give-words .ensures s l))))
 

@@ -9,7 +9,7 @@ returns : tie.Need-returns
 unfolding stopTransmission
 returns c =
     let told = c .before .before .before in
-    on-true _ (eq-eqb _ _ (told .before .before .if1 .taken)) (forget (told .send .ensures))
+    on-true _ (eq-eqb _ 18 (told .before .before .if1 .taken)) (forget (told .send .ensures))
 
 returns-2 : tie.Need-returns-2
 unfolding stopTransmission

@@ -1,4 +1,6 @@
-use mathlib.Core.Path.{sym, _∙_}
+use mathlib.Core.Bool.{false}
+use mathlib.Core.Path.{_≡_, sym, _∙_}
+use Rattle.types.specs.Leaf.{clockOf}
 use Rattle.host.specs.Calls.{clockedHost}
 use borrow.Author.Needs.{needs}
 use Rattle.host.proofs.host.clocked.Statement.{statement}
@@ -6,7 +8,9 @@ use Rattle.host.proofs.host.clocked.Tie as tie
 
 returns : tie.Need-returns
 unfolding clockedHost
-returns c = rw (sym (c .before .before .before .before .before .before .clock-setting .ensures) ∙ c .before .before .before .before .answer .given .1, c .before .fresh-line .ensures, c .no-card .ensures)
+returns c =
+    let told : c .before .before .before .before .before .before .clock-setting .result ≡ clockOf (c .before .before .before .before .before .before .before .before .args .settings .source .0) 400_000 false = c .before .before .before .before .before .before .clock-setting .ensures in
+    rw (sym told ∙ c .before .before .before .before .answer .given .1, c .before .fresh-line .ensures, c .no-card .ensures)
 
 returns-2 : tie.Need-returns-2
 unfolding clockedHost

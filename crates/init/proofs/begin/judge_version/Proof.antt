@@ -17,7 +17,7 @@ returns-2 c =
     let test = c .before in
     let halt = test .before .before .before in
     λ s l. settled-refusal (halt .before .before .before .pace .given .1 ∙ ap Stopped (halt .halt .given .1))
-    (on-true _ (eq-eqb _ _ (sym (test .before .number .ensures) ∙ test .if1 .taken)) (rw (c .resumed .ensures) stay))
+    (on-true _ (eq-eqb _ 1 (sym (test .before .number .ensures) ∙ test .if1 .taken)) (rw (c .resumed .ensures) stay))
 
 returns-3 : tie.Need-returns-3
 unfolding late run

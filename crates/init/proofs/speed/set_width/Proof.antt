@@ -1,3 +1,6 @@
+use mathlib.Core.Bool.{not, _||_, _&&_}
+use mathlib.Core.Path.{_≡_}
+use Rattle.types.specs.Sd.{oneLine, fourLines}
 use Rattle.init.specs.Initialise.{setWidth}
 use Rattle.tape.proofs.Laws.{seq, forget}
 use borrow.Author.Needs.{needs}
@@ -10,7 +13,9 @@ returns c =
     let told = c .before .before .before .before .before .before .before .before in
     let able = told .before .before in
     let start = c .before .before .before .before .before .before .before .before .before .before .before .before .before .before in
-    seq (rw (able .before .fits2 .ensures) at (able .ensure .ensures (start .args .script .now) (start .args .rows .now)))
+    let scr = start .args .scr .0 in
+    let fit : able .before .fits2 .result ≡ (oneLine scr && (not (start .args .settings .wide) || fourLines scr)) = able .before .fits2 .ensures in
+    seq (rw fit at (able .ensure .ensures (start .args .script .now) (start .args .rows .now)))
     (seq (told .app-command .ensures) (forget (rw (c .before .before .before .before .width .ensures) at (c .before .before .before .send .ensures))))
 
 pub set-width-spec : {M : Type 1} → statement M

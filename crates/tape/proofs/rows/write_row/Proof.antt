@@ -11,9 +11,6 @@ use Rattle.tape.proofs.rows.write_row.Tie as tie
 returns : tie.Need-returns
 returns c = λ s. from-stopped (c .enum-told2 .given .1)
 
-slice-write-rows-2 : tie.Need-slice-write-rows-2
-slice-write-rows-2 c = simp length-set (omega arith)
-
 returns-2 : tie.Need-returns-2
 unfolding run row
 returns-2 c =
@@ -25,6 +22,9 @@ unfolding run row
 returns-3 c =
     let test = c .before in
     λ s. from-going (test .before .enum-told .given .1) (rw (le-ltb _ _ (test .if1 .left), c .stopped .ensures))
+
+slice-write-rows-2 : tie.Need-slice-write-rows-2
+slice-write-rows-2 c = simp length-set (omega arith)
 
 pub write-row-spec : {M : Type 1} → statement M
 write-row-spec =

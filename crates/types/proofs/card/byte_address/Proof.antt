@@ -1,3 +1,4 @@
+use Prim.Native.Nat.{_*_, _^_}
 use borrow.Author.Tests.{lt-ltb, le-ltb}
 use Rattle.types.specs.Leaf.{unitsOf}
 use borrow.Author.Needs.{needs}
@@ -6,7 +7,7 @@ use Rattle.types.proofs.card.byte_address.Tie as tie
 
 returns : tie.Need-returns
 unfolding unitsOf
-returns c = rw (lt-ltb _ _ (c .if1 .taken))
+returns c = rw (lt-ltb (512 * c .before .args .index) (2 ^ 32) (c .if1 .taken))
 
 returns-2 : tie.Need-returns-2
 unfolding unitsOf

@@ -28,7 +28,7 @@ unfolding clockOf
 returns-5 c =
     let divided = c .before in
     let asked = divided .before .before .before in
-    rw (ne-eqb _ _ (asked .before .before .if1 .left), ne-eqb _ _ (asked .before .if2 .left), le-ltb _ _ (asked .if3 .left), sym (divided .before .before .may-bypass .ensures) ∙ divided .before .if4 .left, ← divided .divisor-for .ensures .0, lt-ltb _ _ (c .if5 .taken))
+    rw (ne-eqb _ _ (asked .before .before .if1 .left), ne-eqb _ _ (asked .before .if2 .left), le-ltb _ _ (asked .if3 .left), sym (divided .before .before .may-bypass .ensures) ∙ divided .before .if4 .left, ← divided .divisor-for .ensures .0, lt-ltb 257 _ (c .if5 .taken))
 
 returns-6 : tie.Need-returns-6
 unfolding clockOf

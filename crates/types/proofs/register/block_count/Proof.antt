@@ -1,7 +1,9 @@
-use Prim.Native.Nat.{_+_, _-_}
+use Prim.Native.Nat.{ℕ, _+_, _-_}
+use mathlib.Core.Path.{ap}
 use borrow.Author.Tests.{eq-eqb, ne-eqb, lt-ltb, le-ltb}
 use lib.Pow.{shl-exact}
 use native.Mathlib.Omega.{arith}
+use Rattle.types.specs.declared.register.CountAnswer.the-variants.{Blocks}
 use Rattle.types.specs.Leaf.{countOf}
 use borrow.Author.Needs.{needs}
 use Rattle.types.proofs.register.block_count.Statement.{statement}
@@ -17,14 +19,15 @@ returns-2 : tie.Need-returns-2
 unfolding countOf
 returns-2 c =
     let length = c .before .before in
-    rw (← length .before .before .structure .ensures, eq-eqb _ _ (length .before .if1 .taken), ← length .block-length .ensures, le-ltb _ _ (c .before .if2 .left), lt-ltb _ _ (c .if3 .taken))
+    rw (← length .before .before .structure .ensures, eq-eqb _ _ (length .before .if1 .taken), ← length .block-length .ensures, le-ltb _ _ (c .before .if2 .left), lt-ltb 11 _ (c .if3 .taken))
 
 returns-3 : tie.Need-returns-3
 unfolding countOf
 returns-3 c =
     let tests = c .before .before in
     let length = tests .before .before in
-    rw (← length .before .before .structure .ensures, eq-eqb _ _ (length .before .if1 .taken), ← length .block-length .ensures, le-ltb _ _ (tests .before .if2 .left), le-ltb _ _ (tests .if3 .left), shl-exact {a = c .before .size-1 .result + 1} 13 (c .multiplier .result + 2 + (length .block-length .result - 9)) 64 (omega arith) (omega arith), c .before .size-1 .ensures, c .multiplier .ensures)
+    let shift = c .multiplier .result + 2 + (length .block-length .result - 9) in
+    rw (← length .before .before .structure .ensures, eq-eqb _ _ (length .before .if1 .taken), ← length .block-length .ensures, le-ltb _ _ (tests .before .if2 .left), le-ltb _ _ (tests .if3 .left), ← c .before .size-1 .ensures, ← c .multiplier .ensures) (ap (λ (n : ℕ). Blocks (record { 0 = n })) (shl-exact {a = c .before .size-1 .result + 1} 13 shift 64 (omega arith) (omega arith)))
 
 returns-4 : tie.Need-returns-4
 unfolding countOf

@@ -11,7 +11,7 @@ use Rattle.types.proofs.register.transfer_rate.Tie as tie
 
 returns : tie.Need-returns
 unfolding rateOf
-returns c = rw (eq-eqb _ _ (c .if1 .taken))
+returns c = rw (eq-eqb (c .before .args .encoded / 128 % 2) 1 (c .if1 .taken))
 
 returns-2 : tie.Need-returns-2
 unfolding rateOf
@@ -21,16 +21,16 @@ returns-3 : tie.Need-returns-3
 unfolding rateOf
 returns-3 c = rw (ne-eqb _ _ (c .before .before .if1 .left), div-one, le-ltb _ _ (c .before .if2 .left), eq-eqb _ _ (c .if3 .taken))
 
+returns-4 : tie.Need-returns-4
+unfolding rateOf
+returns-4 c = rw (ne-eqb _ _ (c .before .before .if1 .left), div-one, le-ltb _ _ (c .before .if2 .left), ne-eqb _ _ (c .if3 .left))
+
 -- at most ten million times eighty
 mul-t23 : tie.Need-mul-t23
 mul-t23 c =
     let byte = c .before .before .before .args .encoded in
     let unit = bounded 100_000_000 rateUnits tt (byte % 8) in
     record { fits = lt-of-le-of-lt (mul-le-mul {n₂ = 10_000_000} (omega (arith, unit)) (bounded 80 rateTenths tt (byte / 8 % 16))) (lit< tt) }
-
-returns-4 : tie.Need-returns-4
-unfolding rateOf
-returns-4 c = rw (ne-eqb _ _ (c .before .before .if1 .left), div-one, le-ltb _ _ (c .before .if2 .left), ne-eqb _ _ (c .if3 .left))
 
 pub transfer-rate-spec : {M : Type 1} → statement M
 transfer-rate-spec = tie.close (tie.spec returns returns-2 returns-3 (λ c. search needs) (λ c. search needs) (λ c. search needs) (λ c. search needs) (λ c. search needs) (λ c. search needs) mul-t23 returns-4)

@@ -12,7 +12,7 @@ returns c = rw (eq-eqb _ _ (c .before .if1 .taken)) (c .untouched .ensures [], r
 
 returns-2 : tie.Need-returns-2
 unfolding initialised
-returns-2 c = rw (ne-eqb _ _ (c .before .before .if1 .left), lt-ltb _ _ (c .before .if2 .taken)) (c .untouched2 .ensures [], refl)
+returns-2 c = rw (ne-eqb _ _ (c .before .before .if1 .left), lt-ltb 50_000_000 _ (c .before .if2 .taken)) (c .untouched2 .ensures [], refl)
 
 returns-3 : tie.Need-returns-3
 unfolding initialised

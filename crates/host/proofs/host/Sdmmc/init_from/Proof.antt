@@ -1,8 +1,8 @@
 use mathlib.Core.List.{[]}
-use mathlib.Core.Path.{ap, sym, _∙_}
+use mathlib.Core.Path.{_≡_, ap, sym, _∙_}
 use Rattle.types.specs.declared.card.Card.{Card}
-use Rattle.tape.specs.Run.{After}
-use Rattle.host.specs.Calls.{Came, dropped, holding, ends, calledOf, initFrom}
+use Rattle.tape.specs.Run.{at, After}
+use Rattle.host.specs.Calls.{Came, freshLine, dropped, holding, ends, calledOf, initFrom}
 use Rattle.host.proofs.Ran.{begun, from-start, ends-list}
 use borrow.Author.Needs.{needs}
 use Rattle.host.proofs.host.Sdmmc.init_from.Statement.{statement}
@@ -17,10 +17,13 @@ returns c =
     let done = c .before .before .before .before .before .before .before .before .before in
     let start = c .before .before .before .before .before .before .before .before .before .before .before .before .before .before .before .before .before in
     let host = start .args .self in
-    let first = c .before .before .before .before .before .before .before .before .before .before .before .start .ensures ∙ ap begun (c .before .before .before .before .before .before .before .before .before .before .before .before .fresh-line .ensures) in
+    let first : c .before .before .before .before .before .before .before .before .before .before .before .start .result ≡ begun (freshLine (start .args .initial .frequency)) = c .before .before .before .before .before .before .before .before .before .before .before .start .ensures ∙ ap begun (c .before .before .before .before .before .before .before .before .before .before .before .before .fresh-line .ensures) in
     let ran = from-start (rw first at (done .initialise .ensures)) in
+    let left = at (done .initialise .result .progress) (done .initialise .last .1 .1 .0) in
+    let refused : c .before .before .with .result ≡ dropped host left = rw (c .before .before .before .no-card .ensures) at (c .before .before .with .ensures) in
+    let accepted : c .before .with2 .result ≡ holding host left (done .initialise .result .card) = c .before .with2 .ensures in
     let end : After Card → Came = λ x. ends host (dropped host (x .state)) (holding host (x .state) (x .value)) [] (x .state .progress .pace) (x .state) in (
-      rw (c .before .before .with .ensures, c .before .before .before .no-card .ensures, c .before .with2 .ensures) at (c .ends .ensures [] (done .initialise .last .1 .1 .0)) ∙ ap (λ (x : After Card). calledOf (end x)) ran,
+      rw (refused, accepted) at (c .ends .ensures [] (left .list)) ∙ ap (λ (x : After Card). calledOf (end x)) ran,
       sym (ends-list host _ _ [] _ _) ∙ ap (λ (x : After Card). end x .list) ran,
     )
 

@@ -1,9 +1,10 @@
 use mathlib.Core.List.{List}
-use mathlib.Core.Path.{ap, sym, _∙_}
+use mathlib.Core.Path.{_≡_, ap, sym, _∙_}
 use Prim.Native.Nat.{ℕ}
 use lib.ListN.{take, drop}
+use Rattle.tape.specs.Run.{at}
 use Rattle.tape.proofs.Laws.{kept}
-use Rattle.host.specs.Calls.{Came, calledOf, readPlan, readNext, blocksFilled}
+use Rattle.host.specs.Calls.{Came, calledOf, dropped, readPlan, readNext, blocksFilled}
 use Rattle.host.proofs.Ran.{data-done, ends-list, ends-taken}
 use borrow.Author.Needs.{needs}
 use Rattle.host.proofs.host.Sdmmc.read_data.Statement.{statement}
@@ -18,15 +19,18 @@ returns c =
     let start = c .before .before .before .before .before .before .before .before .before .before .before .before .before .before .before .before .before .before .before .before .before .before in
     let host = start .args .self in
     let buffer = start .args .buffer .now in
-    let l = read .blocking-data .last .1 .1 .0 in
+    let left = at (read .blocking-data .result .progress) (read .blocking-data .last .1 .1 .0) in
     let ws = take (read .blocking-data .result .count) (drop (read .blocking-data .result .place) (start .args .script .now)) in
     let gave = rw (c .before .before .before .before .before .before .before .before .before .before .before .before .before .before .before .read-transfer .ensures) at (read .blocking-data .ensures) in
+    let words : c .before .before .before .before .before .before .before .before .part .result .now ≡ ws = c .before .before .before .before .before .before .before .before .part .ensures in
+    let refused : c .before .before .with .result ≡ dropped host left = rw (c .before .before .before .no-card .ensures) at (c .before .before .with .ensures) in
+    let accepted : c .before .with2 .result ≡ readNext host left ws = c .before .with2 .ensures in
     let done = data-done host (readPlan host (start .args .address) (start .args .blocks)) (readNext host) _ (start .pre .0) gave in (
-      rw (c .before .before .with .ensures, c .before .before .before .no-card .ensures, c .before .with2 .ensures) at (c .ends .ensures ws l) ∙ ap calledOf done,
+      rw (refused, accepted) at (c .ends .ensures ws (left .list)) ∙ ap calledOf done,
       (
         sym (ends-list host _ _ ws _ _) ∙ ap (λ (x : Came). x .list) done,
         c .before .before .before .before .before .before .fill-blocks .ensures
-            ∙ ap (λ (w : List ℕ). blocksFilled w buffer) (c .before .before .before .before .before .before .before .before .part .ensures ∙ sym (ends-taken host _ _ ws _ _ (kept gave)))
+            ∙ ap (λ (w : List ℕ). blocksFilled w buffer) (words ∙ sym (ends-taken host _ _ ws _ _ (kept gave)))
             ∙ ap (λ (x : Came). blocksFilled (x .taken) buffer) done,
       ),
     )

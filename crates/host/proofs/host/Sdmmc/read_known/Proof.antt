@@ -1,3 +1,4 @@
+use Prim.Native.Nat.{_%_}
 use mathlib.Core.List.{[]}
 use mathlib.Core.Path.{refl, sym, _∙_}
 use native.Mathlib.Omega.{arith}
@@ -11,7 +12,7 @@ use Rattle.host.proofs.host.Sdmmc.read_known.Tie as tie
 
 returns : tie.Need-returns
 unfolding readKnown
-returns c = rw (ne-eqb _ _ (c .before .if1 .taken)) (c .untouched .ensures [], (refl, sym (none-filled (c .before .before .before .before .before .before .before .args .buffer .now))))
+returns c = rw (ne-eqb (_ % 512) 0 (c .before .if1 .taken)) (c .untouched .ensures [], (refl, sym (none-filled (c .before .before .before .before .before .before .before .args .buffer .now))))
 
 cast-read-from : tie.Need-cast-read-from
 cast-read-from c = let judged = address _ _ _ _ _ (sym (c .before .before .before .before .before .block-address .ensures) ∙ c .before .before .before .answer .given .1) in omega (arith, judged .most)

@@ -3,8 +3,9 @@ use mathlib.Core.Path.{_≡_, refl, ap, sym, _∙_}
 use Prim.Native.Nat.{ℕ}
 use lib.ListN.{take, drop}
 use Rattle.types.specs.Words.{counted, sdStatusOf}
+use Rattle.tape.specs.Run.{at}
 use Rattle.init.specs.Lent.{sixteenOf}
-use Rattle.host.specs.Calls.{Came, calledOf, statusPlan, statusNext}
+use Rattle.host.specs.Calls.{Came, calledOf, dropped, holding, statusPlan, statusNext}
 use Rattle.host.proofs.Ran.{data-done, ends-list}
 use borrow.Author.Needs.{needs}
 use Rattle.host.proofs.host.Sdmmc.status_data.Statement.{statement}
@@ -23,11 +24,14 @@ returns c =
     let read = c .before .before .before .before .before .before .before .before .before .before .before in
     let start = c .before .before .before .before .before .before .before .before .before .before .before .before .before .before .before .before .before .before in
     let host = start .args .self in
-    let l = read .blocking-data .last .1 .1 .0 in
+    let left = at (read .blocking-data .result .progress) (read .blocking-data .last .1 .1 .0) in
     let ws = take (read .blocking-data .result .count) (drop (read .blocking-data .result .place) (start .args .script .now)) in
-    let status = c .before .before .before .before .before .sd-status .ensures ∙ ap sdStatusOf (c .before .before .before .before .before .before .sixteen .ensures) ∙ status-sixteen ws in
+    let words : c .before .before .before .before .before .before .sixteen .result ≡ sixteenOf ws = c .before .before .before .before .before .before .sixteen .ensures in
+    let status = c .before .before .before .before .before .sd-status .ensures ∙ ap sdStatusOf words ∙ status-sixteen ws in
+    let refused : c .before .before .before .with .result ≡ dropped host left = rw (c .before .before .before .before .no-card .ensures) at (c .before .before .before .with .ensures) in
+    let accepted : c .before .with2 .result ≡ holding host left (c .before .before .with-status .result) = c .before .with2 .ensures in
     let done = data-done host (statusPlan host) (statusNext host) _ (start .pre) (read .blocking-data .ensures) in (
-      rw (c .before .before .before .with .ensures, c .before .before .before .before .no-card .ensures, c .before .with2 .ensures, c .before .before .with-status .ensures, status) at (c .ends .ensures ws l) ∙ ap calledOf done,
+      rw (refused, accepted, c .before .before .with-status .ensures, status) at (c .ends .ensures ws (left .list)) ∙ ap calledOf done,
       sym (ends-list host _ _ ws _ _) ∙ ap (λ (x : Came). x .list) done,
     )
 

@@ -6,7 +6,7 @@ use Rattle.types.proofs.register.BlockCount.bytes.Tie as tie
 
 returns : tie.Need-returns
 unfolding sizeOf
-returns c = rw (lt-ltb _ _ (c .if1 .taken))
+returns c = rw (lt-ltb 4_294_967_296 _ (c .if1 .taken))
 
 returns-2 : tie.Need-returns-2
 unfolding sizeOf
