@@ -169,7 +169,7 @@ pub fn give_data(p: Progress, place: usize, count: usize) -> Data
         Pace::Stopped(_) => Data {
             progress: p,
             place: 0,
-            count: 0,
+            count: 0, // a call that has stopped gives none
         },
     }
 }
