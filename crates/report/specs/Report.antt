@@ -1,6 +1,6 @@
 -- What happened in a call, as text: the lines that `cardtrace` prints below a call's own line.
 use Prim.Native.Nat.{ℕ, zero, suc, _+_, _*_}
-use mathlib.Core.Bool.{Bool, true, false, cond}
+use mathlib.Core.Bool.{Bool, cond}
 use mathlib.Core.List.{List, [], _++_}
 use lib.Dec.{eqb}
 use lib.ListN.{getD}
@@ -36,7 +36,7 @@ carriedText answer =
 -- W0:...:Wn
 unfoldable pub wordsText : ℕ → List ℕ → List ℕ
 wordsText zero words = hexOf 8 (getD words 0 0)
-wordsText (suc n) words = wordsText n words ++ (typed ":" ++ hexOf 8 (getD words (n + 1) 0))
+wordsText (suc n) words = wordsText n words ++ (typed ":" ++ hexOf 8 (getD words (suc n) 0))
 
 -- status W0:...:W15
 abbrev pub statusText : List ℕ → List ℕ

@@ -1,7 +1,6 @@
 use mathlib.Core.Path.{_≡_}
 use Prim.Native.Nat.{_-_, _≤_}
 use native.Mathlib.Omega.{arith}
-use lib.ListN.{length}
 use Rattle.text.specs.Ink.{Laid}
 use Rattle.text.proofs.Ink.{ink-length, and-then}
 use Rattle.report.specs.Report.{rowsText}
