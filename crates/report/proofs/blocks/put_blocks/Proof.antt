@@ -2,9 +2,9 @@ use Prim.Native.Nat.{_-_, _≤_}
 use mathlib.Core.Path.{_≡_}
 use native.Mathlib.Omega.{arith}
 use Rattle.text.specs.Ink.{Laid}
-use Rattle.text.proofs.Ink.{ink-length, and-then}
+use Rattle.text.proofs.Ink.{ink-length}
 use Rattle.report.specs.Report.{blocksText}
-use Rattle.report.proofs.Lines.{nothing, blocks-none, blocks-more}
+use Rattle.report.proofs.Lines.{nothing, blocks-none, block-more}
 use borrow.Author.Needs.{needs}
 use Rattle.report.proofs.blocks.put_blocks.Statement.{statement}
 use Rattle.report.proofs.blocks.put_blocks.Tie as tie
@@ -20,9 +20,7 @@ loop-holds : tie.Need-loop-holds Inv-loop μ-loop
 loop-holds c = (rw (blocks-none (c .before .before .before .args .buffer .now)) (nothing (c .least .ensures)), omega arith)
 
 loop-again : tie.Need-loop-again Inv-loop μ-loop
-loop-again c =
-    let buffer = c .before .before .before .before .before .before .before .before .before .args .buffer .now in
-    (rw (blocks-more buffer (c .before .before .before .before .before .loop .i)) at (and-then (c .before .before .before .before .before .loop .inv .0) (c .before .before .put-block .ensures)), omega arith)
+loop-again c = (block-more (c .before .before .before .before .before .before .before .before .before .args .buffer .now) (c .before .before .before .before .before .loop .i) (c .before .before .before .before .before .loop .inv .0) (c .before .before .put-block .ensures), omega arith)
 
 same-length : tie.Need-same-length Inv-loop μ-loop
 same-length c = rw (c .before .loop .inv .0 .laid) (ink-length _ _ _)

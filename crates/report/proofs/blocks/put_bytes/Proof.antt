@@ -2,9 +2,9 @@ use Prim.Native.Nat.{_*_, _-_, _≤_}
 use mathlib.Core.Path.{_≡_}
 use native.Mathlib.Omega.{arith}
 use Rattle.text.specs.Ink.{Laid}
-use Rattle.text.proofs.Ink.{ink-length, and-then}
+use Rattle.text.proofs.Ink.{ink-length}
 use Rattle.report.specs.Report.{bytesText}
-use Rattle.report.proofs.Lines.{nothing, bytes-none, bytes-more}
+use Rattle.report.proofs.Lines.{nothing, bytes-none, byte-more}
 use borrow.Author.Needs.{needs}
 use Rattle.report.proofs.blocks.put_bytes.Statement.{statement}
 use Rattle.report.proofs.blocks.put_bytes.Tie as tie
@@ -23,7 +23,7 @@ loop-again : tie.Need-loop-again Inv-loop μ-loop
 loop-again c =
     let args = c .before .before .before .before .before .before .before .before .before .before .args in
     let byte = rw (c .before .before .before .block-byte .ensures) at (c .before .before .put-hex .ensures) in
-    (rw (bytes-more (512 * args .i) (args .buffer .now) (c .before .before .before .before .before .before .loop .k)) at (and-then (c .before .before .before .before .before .before .loop .inv .0) byte), omega arith)
+    (byte-more (512 * args .i) (args .buffer .now) (c .before .before .before .before .before .before .loop .k) (c .before .before .before .before .before .before .loop .inv .0) byte, omega arith)
 
 same-length : tie.Need-same-length Inv-loop μ-loop
 same-length c = rw (c .before .loop .inv .0 .laid) (ink-length _ _ _)

@@ -2,9 +2,9 @@ use mathlib.Core.Path.{_≡_}
 use Prim.Native.Nat.{_-_, _≤_}
 use native.Mathlib.Omega.{arith}
 use Rattle.text.specs.Ink.{Laid}
-use Rattle.text.proofs.Ink.{ink-length, and-then}
+use Rattle.text.proofs.Ink.{ink-length}
 use Rattle.report.specs.Report.{rowsText}
-use Rattle.report.proofs.Lines.{nothing, rows-none, rows-more}
+use Rattle.report.proofs.Lines.{nothing, rows-none, row-more}
 use borrow.Author.Needs.{needs}
 use Rattle.report.proofs.rows.put_rows.Statement.{statement}
 use Rattle.report.proofs.rows.put_rows.Tie as tie
@@ -21,10 +21,8 @@ loop-holds c = (rw (rows-none (c .before .before .before .args .rows .now)) (not
 
 loop-again : tie.Need-loop-again Inv-loop μ-loop
 loop-again c =
-    let rows = c .before .before .before .before .before .before .before .before .before .before .before .args .rows .now in
-    let i = c .before .before .before .before .before .before .before .loop .i in
     let line = rw (c .before .before .before .before .row-word .ensures, c .before .before .before .row-word2 .ensures) at (c .before .before .put-row .ensures) in
-    (rw (rows-more rows i) at (and-then (c .before .before .before .before .before .before .before .loop .inv .0) line), omega arith)
+    (row-more (c .before .before .before .before .before .before .before .before .before .before .before .args .rows .now) (c .before .before .before .before .before .before .before .loop .i) (c .before .before .before .before .before .before .before .loop .inv .0) line, omega arith)
 
 same-length : tie.Need-same-length Inv-loop μ-loop
 same-length c = rw (c .before .loop .inv .0 .laid) (ink-length _ _ _)

@@ -5,7 +5,7 @@ use native.Mathlib.Omega.{arith}
 use Rattle.text.specs.Ink.{Laid}
 use Rattle.text.proofs.Ink.{ink-length, and-then}
 use Rattle.report.specs.Report.{wordsText}
-use Rattle.report.proofs.Lines.{words-one, words-more}
+use Rattle.report.proofs.Lines.{words-one, word-more}
 use borrow.Author.Needs.{needs}
 use Rattle.report.proofs.status.put_words.Statement.{statement}
 use Rattle.report.proofs.status.put_words.Tie as tie
@@ -22,9 +22,9 @@ loop-holds c = (λ first h. h, omega arith)
 
 loop-again : tie.Need-loop-again Inv-loop μ-loop
 loop-again c =
-    let words = c .before .before .before .before .before .before .before .before .before .before .before .before .before .before .before .before .before .before .args .words .now in
     let word = rw (c .before .before .before .word2 .ensures) at (c .before .before .put-hex2 .ensures) in
-    (λ first h. rw (words-more words (c .before .before .before .before .before .before .before .before .before .before .loop .i)) at (and-then (c .before .before .before .before .before .before .before .before .before .before .loop .inv .0 first h) (and-then (c .before .before .before .before .before .before .before .put-byte .ensures) word)), omega arith)
+    let joined = and-then (c .before .before .before .before .before .before .before .put-byte .ensures) word in
+    (λ first h. word-more (c .before .before .before .before .before .before .before .before .before .before .before .before .before .before .before .before .before .before .args .words .now) (c .before .before .before .before .before .before .before .before .before .before .loop .i) (c .before .before .before .before .before .before .before .before .before .before .loop .inv .0 first h) joined, omega arith)
 
 same-length : tie.Need-same-length Inv-loop μ-loop
 same-length c =
