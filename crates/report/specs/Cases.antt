@@ -36,7 +36,7 @@ joined : wordsText 2 (1 ∷ 0x20 ∷ 0xabc ∷ []) ≡ typed "00000001:00000020:
 unfolding wordsText hexOf
 joined = refl
 
-line : lineText (record { clkcr = 16640; gated = true; clock = record { 0 = 400 }; signalling = SDR25 }) ≡ typed "clock=400 signalling=SDR25 gated=1 clkcr=16640"
+line : lineText (record { clkcr = 16640; gated = true; clock = record { 0 = 400 }; signalling = SDR25 }) ≡ typed "state clock=400 signalling=SDR25 gated=1 clkcr=16640"
 unfolding decimalIn decimalOf
 line = refl
 
@@ -53,7 +53,7 @@ none : heldText false (record {
   scr = record { 0 = 0 };
   status = [];
   «block_count» = record { 0 = 0 };
-}) ≡ typed "record=none"
+}) ≡ typed " record=none"
 none = refl
 
 held : recordText (record {

@@ -60,21 +60,21 @@ abbrev pub signallingText : Signalling → List ℕ
 signallingText SDR12 = typed "SDR12"
 signallingText SDR25 = typed "SDR25"
 
--- clock=HZ signalling=SDR12|SDR25 gated=0|1 clkcr=VALUE
+-- state clock=HZ signalling=SDR12|SDR25 gated=0|1 clkcr=VALUE
 abbrev pub lineText : Line → List ℕ
 lineText line =
-    (typed "clock=" ++ decimalOf (line .clock .0))
+    (typed "state clock=" ++ decimalOf (line .clock .0))
     ++ (typed " signalling=" ++ signallingText (line .signalling))
     ++ (typed " gated=" ++ decimalOf (flag (line .gated)))
     ++ (typed " clkcr=" ++ decimalOf (line .clkcr))
 
 -- record=none|RECORD
 abbrev pub heldText : Bool → Card → List ℕ
-heldText known card = typed "record=" ++ cond known (recordText card) (typed "none")
+heldText known card = typed " record=" ++ cond known (recordText card) (typed "none")
 
--- state clock=HZ signalling=SDR12|SDR25 gated=0|1 clkcr=VALUE record=none|RECORD
+-- the two as one line
 unfoldable pub stateText : Sdmmc → List ℕ
-stateText host = typed "state " ++ lineText (host .line) ++ typed " " ++ heldText (host .known) (host .card) ++ typed "\n"
+stateText host = lineText (host .line) ++ heldText (host .known) (host .card) ++ typed "\n"
 
 -- n bytes from a place on, two digits each; a byte that is not there reads as 0
 unfoldable pub bytesText : ℕ → ℕ → List ℕ → List ℕ

@@ -6,9 +6,7 @@ use Rattle.report.proofs.state.put_state.Tie as tie
 
 returns : tie.Need-returns
 unfolding stateText
-returns c =
-    let lined = and-then (and-then (c .before .before .before .before .before .before .before .before .before .before .before .before .before .before .before .before .before .before .put .ensures) (c .before .before .before .before .before .before .before .before .before .before .before .before .before .before .put-line .ensures)) (c .before .before .before .before .before .before .before .before .before .before .put-byte .ensures) in
-    and-then (and-then lined (c .before .before .before .before .before .before .put-held .ensures)) (c .before .before .put-byte2 .ensures)
+returns c = and-then (and-then (c .before .before .before .before .before .before .before .before .before .before .put-line .ensures) (c .before .before .before .before .before .before .put-held .ensures)) (c .before .before .put-byte .ensures)
 
 pub put-state-spec : {M : Type 1} → statement M
-put-state-spec = tie.close (tie.spec (λ c. search needs) (λ c κs. search needs) (λ c κs. search needs) (λ c κs. search needs) (λ c κs. search needs) (λ c κs. search needs) (λ c. search needs) returns)
+put-state-spec = tie.close (tie.spec (λ c κs. search needs) (λ c κs. search needs) (λ c κs. search needs) (λ c. search needs) returns)
