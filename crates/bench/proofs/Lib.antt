@@ -1,4 +1,6 @@
 pub mod Asks
+pub mod Gives
 pub mod Hosts
 pub mod Opens
 pub mod Turns
+pub mod Zeros

@@ -1,31 +1,38 @@
 -- A book that was opened: its words lie in front of the list, and they are good.
 use Prim.Native.Nat.{ℕ, _/_, _≤_}
-use mathlib.Core.Bool.{false}
+use mathlib.Core.Bool.{Bool, true, false, cond, _||_}
 use mathlib.Core.List.{List}
-use mathlib.Core.Path.{_≡_, ap, sym, _∙_}
+use mathlib.Core.Path.{_≡_, refl, ap, sym, _∙_}
 use native.Mathlib.Omega.{arith}
+use borrow.Author.Tests.{ltb-false}
+use lib.Dec.{ltb}
 use lib.ListN.{length, take}
 use Rattle.text.specs.Ink.{inked}
 use Rattle.text.proofs.Ink.{ink-length}
 use Rattle.book.specs.declared.layout.Opened.the-variants as Opening
-use Rattle.book.specs.Layout.{wordsOf, badWords}
+use Rattle.book.specs.Layout.{wordsOf, badWords, badBook}
 use Rattle.book.specs.Readers.{openedOf}
-use Rattle.book.proofs.Causes.{good-words}
 use Rattle.book.proofs.Load.{length-words, loaded}
 use Rattle.book.proofs.Opening.{opened-some}
 
-module _ (bytes words last : List ℕ) (n : ℕ) (room : 4096 ≤ length words) (o : openedOf bytes (length words) ≡ Opening.Words n) (f : last ≡ inked 0 (wordsOf bytes) words) where
-  abbrev known : (n ≡ length bytes / 4) × (length (wordsOf bytes) ≤ 4096)
-  known = (opened-some bytes (length words) n o .2, good-words (wordsOf bytes) (opened-some bytes (length words) n o .1) .long)
+not-over : (bad over : Bool) (m n : ℕ) → cond (bad || over) Opening.Bad (Opening.Words m) ≡ Opening.Words n → over ≡ false
+not-over true over m n e = cc
+not-over false true m n e = cc
+not-over false false m n e = refl
 
-  pub all-words : n ≡ length (wordsOf bytes)
-  all-words = known .0 ∙ sym (length-words bytes)
+module _ (bytes words last : List ℕ) (n : ℕ) (o : openedOf bytes (length words) ≡ Opening.Words n) (f : last ≡ inked 0 (wordsOf bytes) words) where
+  room : length bytes / 4 ≤ length words
+  unfolding openedOf
+  room = ltb-false (length words) (length bytes / 4) (not-over (badBook bytes) (ltb (length words) (length bytes / 4)) (length bytes / 4) n o)
+
+  all-words : n ≡ length (wordsOf bytes)
+  all-words = opened-some bytes (length words) n o .2 ∙ sym (length-words bytes)
 
   pub words-lie : take n last ≡ wordsOf bytes
-  words-lie = rw (all-words, f) (loaded (wordsOf bytes) words (omega (arith, room, known .1)))
+  words-lie = rw (all-words, f) (loaded (wordsOf bytes) words (omega (arith, room, length-words bytes)))
 
   pub words-good : badWords (take n last) ≡ false
   words-good = ap badWords words-lie ∙ opened-some bytes (length words) n o .1
 
   pub words-fit : n ≤ length last
-  words-fit = rw (f, ink-length) (omega (arith, room, all-words, known .1))
+  words-fit = rw (f, ink-length) (omega (arith, room, all-words, length-words bytes))

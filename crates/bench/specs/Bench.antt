@@ -85,19 +85,19 @@ lineOf host ws k place = cameLine (k + 1) (cameOf host ws k place)
 abbrev pub hostAfter : Sdmmc → List ℕ → ℕ → ℕ → Sdmmc
 hostAfter host ws k place = cameOf host ws k place .host
 
--- the calls' lines, where there is a host
-unfoldable pub servedLines : Answer → List ℕ → List ℕ
-servedLines Answered.Accepted lines = lines
-servedLines (Answered.Refused e) lines = []
-servedLines Answered.ScriptEnded lines = []
-servedLines Answered.TraceFull lines = []
-servedLines Answered.BadBook lines = []
+-- a text only where the answer is accepted
+unfoldable pub whereAccepted : Answer → List ℕ → List ℕ
+whereAccepted Answered.Accepted text = text
+whereAccepted (Answered.Refused e) text = []
+whereAccepted Answered.ScriptEnded text = []
+whereAccepted Answered.TraceFull text = []
+whereAccepted Answered.BadBook text = []
 
 unfoldable pub bookLines : Book → List ℕ
 bookLines book =
     let host = made (settingsOf book) in
     hostLine (numberOf (host .answer))
-    ++ servedLines (host .answer) (linesFrom 1 (serve (host .host) (map (callOf 4096) (book .calls)) .came))
+    ++ whereAccepted (host .answer) (linesFrom 1 (serve (host .host) (map (callOf 4096) (book .calls)) .came))
 
 abbrev pub linesOf : Option Book → List ℕ
 linesOf none = hostLine (numberOf Answered.BadBook)

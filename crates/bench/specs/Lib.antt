@@ -1,1 +1,3 @@
 pub mod Bench
+pub mod Trace
+pub mod Opens

@@ -12,20 +12,20 @@ slice-reshare-prefix-serve-book : tie.Need-slice-reshare-prefix-serve-book
 slice-reshare-prefix-serve-book c =
     let opened = c .before .before .before .before .before .«open» in
     let start = c .before .before .before .before .before .before .before .before .before .before in
-    words-fit (start .args .bytes .now) (start .args .words .now) _ _ (start .pre) (sym (opened .ensures .0) ∙ c .before .opened .given .1) (opened .ensures .1)
+    words-fit (start .args .bytes .now) (start .args .words .now) _ _ (sym (opened .ensures .0) ∙ c .before .opened .given .1) (opened .ensures .1)
 
 slice-aggregate-serve-book : tie.Need-slice-aggregate-serve-book
 slice-aggregate-serve-book c =
     let opened = c .before .before .before .before .before .before .«open» in
     let start = c .before .before .before .before .before .before .before .before .before .before .before in
-    let fits = words-fit (start .args .bytes .now) (start .args .words .now) _ _ (start .pre) (sym (opened .ensures .0) ∙ c .before .before .opened .given .1) (opened .ensures .1) in
+    let fits = words-fit (start .args .bytes .now) (start .args .words .now) _ _ (sym (opened .ensures .0) ∙ c .before .before .opened .given .1) (opened .ensures .1) in
     rw length-take (omega (arith, fits))
 
 serve-book-requires : tie.Need-serve-book-requires
 serve-book-requires c κs =
     let opened = c .before .before .before .before .before .before .before .«open» in
     let start = c .before .before .before .before .before .before .before .before .before .before .before .before in
-    words-good (start .args .bytes .now) (start .args .words .now) _ _ (start .pre) (sym (opened .ensures .0) ∙ c .before .before .before .opened .given .1) (opened .ensures .1)
+    words-good (start .args .bytes .now) (start .args .words .now) _ _ (sym (opened .ensures .0) ∙ c .before .before .before .opened .given .1) (opened .ensures .1)
 
 returns : tie.Need-returns
 returns c =
@@ -34,7 +34,7 @@ returns c =
     let bytes = start .args .bytes .now in
     let words = start .args .words .now in
     let good = sym (opened .ensures .0) ∙ c .before .before .before .before .before .before .opened .given .1 in
-    let same = words-lie bytes words _ _ (start .pre) good (opened .ensures .1) in
+    let same = words-lie bytes words _ _ good (opened .ensures .1) in
     rw (opened-some bytes (length words) _ good .0) (rw same at (c .before .before .serve-book .ensures))
 
 returns-2 : tie.Need-returns-2

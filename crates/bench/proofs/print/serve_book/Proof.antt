@@ -6,7 +6,7 @@ use Rattle.host.specs.Calls.{made}
 use Rattle.book.specs.declared.layout.Heading.{Heading}
 use Rattle.book.specs.Layout.{bookIn}
 use Rattle.book.proofs.Causes.{good-words}
-use Rattle.bench.specs.Bench.{settingsIn, servedLines}
+use Rattle.bench.specs.Bench.{settingsIn, whereAccepted}
 use Rattle.bench.proofs.Hosts.{with-host, without-host}
 use borrow.Author.Needs.{needs}
 use Rattle.bench.proofs.print.serve_book.Statement.{statement}
@@ -33,28 +33,28 @@ returns c =
     (rw (c .before .before .before .before .before .before .before .before .before .number .ensures) at (c .before .before .before .before .before .before .before .before .put-host .ensures)) (c .before .before .before .before .enum-told .given .1) (c .before .before .serve-calls .ensures)
 
 returns-2 : tie.Need-returns-2
-unfolding bookIn servedLines
+unfolding bookIn whereAccepted
 returns-2 c =
     let m = c .before .before .before .before .before .before .before .before in
     without-host (bookIn (c .before .before .before .before .before .before .before .before .before .before .before .before .before .args .words .now)) (m .new .result) (sym (m .new .ensures ∙ ap made (c .before .before .before .before .before .before .before .before .before .settings .ensures ∙ ap settingsIn (c .before .before .before .before .before .before .before .before .before .before .head .ensures))))
     (rw (c .before .before .before .before .before .number .ensures) at (c .before .before .before .before .put-host .ensures)) (rw (c .enum-told2 .given .1))
 
 returns-3 : tie.Need-returns-3
-unfolding bookIn servedLines
+unfolding bookIn whereAccepted
 returns-3 c =
     let m = c .before .before .before .before .before .before .before .before in
     without-host (bookIn (c .before .before .before .before .before .before .before .before .before .before .before .before .before .args .words .now)) (m .new .result) (sym (m .new .ensures ∙ ap made (c .before .before .before .before .before .before .before .before .before .settings .ensures ∙ ap settingsIn (c .before .before .before .before .before .before .before .before .before .before .head .ensures))))
     (rw (c .before .before .before .before .before .number .ensures) at (c .before .before .before .before .put-host .ensures)) (rw (c .enum-told3 .given .1))
 
 returns-4 : tie.Need-returns-4
-unfolding bookIn servedLines
+unfolding bookIn whereAccepted
 returns-4 c =
     let m = c .before .before .before .before .before .before .before .before in
     without-host (bookIn (c .before .before .before .before .before .before .before .before .before .before .before .before .before .args .words .now)) (m .new .result) (sym (m .new .ensures ∙ ap made (c .before .before .before .before .before .before .before .before .before .settings .ensures ∙ ap settingsIn (c .before .before .before .before .before .before .before .before .before .before .head .ensures))))
     (rw (c .before .before .before .before .before .number .ensures) at (c .before .before .before .before .put-host .ensures)) (rw (c .enum-told4 .given .1))
 
 returns-5 : tie.Need-returns-5
-unfolding bookIn servedLines
+unfolding bookIn whereAccepted
 returns-5 c =
     let m = c .before .before .before .before .before .before .before .before in
     without-host (bookIn (c .before .before .before .before .before .before .before .before .before .before .before .before .before .args .words .now)) (m .new .result) (sym (m .new .ensures ∙ ap made (c .before .before .before .before .before .before .before .before .before .settings .ensures ∙ ap settingsIn (c .before .before .before .before .before .before .before .before .before .before .head .ensures))))

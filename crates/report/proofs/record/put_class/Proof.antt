@@ -1,0 +1,12 @@
+use borrow.Author.Needs.{needs}
+use Rattle.report.proofs.record.put_class.Statement.{statement}
+use Rattle.report.proofs.record.put_class.Tie as tie
+
+returns : tie.Need-returns
+returns c = rw (c .before .before .before .before .before .enum-told .given .1) (c .before .before .put .ensures)
+
+returns-2 : tie.Need-returns-2
+returns-2 c = rw (c .before .before .before .before .before .enum-told2 .given .1) (c .before .before .put2 .ensures)
+
+pub put-class-spec : {M : Type 1} → statement M
+put-class-spec = tie.close (tie.spec (λ c. search needs) (λ c. search needs) (λ c κs. search needs) (λ c. search needs) (λ c. search needs) (λ c κs. search needs) (λ c. search needs) returns (λ c. search needs) returns-2)

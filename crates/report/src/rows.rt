@@ -1,0 +1,62 @@
+// The rows that a call wrote, and the word that its answer carries.
+ghost use mathlib.Core.Path.{_≡_};
+ghost use mathlib.Core.List.{_++_};
+ghost use Prim.Native.Nat.{_+_, _*_, _<_};
+ghost use lib.ListN.{getD};
+ghost use Rattle.text.specs.Digits.{decimalOf};
+ghost use Rattle.text.specs.Ink.{Laid};
+ghost use Rattle.report.specs.Report.{rowLine, rowsText, carriedText};
+use book::layout;
+use text::pen;
+use types::error::Answer;
+
+pub fn put_named(out: &mut [u8], at: usize, name: &[u8], n: u64) -> usize
+    ensures { λ r. ⌜ Laid at (now (name .entry) ++ decimalOf n) (now (out .entry)) r (now (out .exit)) ⌝ }
+{
+    let place = pen::put(out, at, name);
+    pen::put_decimal(out, place, n)
+}
+
+// Word k of row i. A row past the list is told before its place is computed, which might not fit.
+fn row_word(rows: &[u32], i: usize, k: usize) -> u32
+    requires { ⌜ k < 2 ⌝ }
+    ensures { λ r. ⌜ r ≡ getD (now (rows .entry)) (2 * i + k) 0 ⌝ }
+{
+    if rows.len() / 2 < i {
+        return 0;
+    }
+    layout::word(rows, 2 * i + k)
+}
+
+fn put_row(out: &mut [u8], at: usize, register: u32, value: u32) -> usize
+    ensures { λ r. ⌜ Laid at (rowLine register value) (now (out .entry)) r (now (out .exit)) ⌝ }
+{
+    let named = put_named(out, at, b"row ", register as u64);
+    let told = put_named(out, named, b" ", value as u64);
+    pen::put_byte(out, told, b'\n')
+}
+
+// The first n rows of the list.
+pub fn put_rows(out: &mut [u8], at: usize, rows: &[u32], n: usize) -> usize
+    ensures { λ r. ⌜ Laid at (rowsText n (now (rows .entry))) (now (out .entry)) r (now (out .exit)) ⌝ }
+{
+    let mut place = pen::least(at, out.len());
+    let mut i = 0;
+    while i < n {
+        place = put_row(out, place, row_word(rows, i, 0), row_word(rows, i, 1));
+        i = i + 1;
+    }
+    place
+}
+
+// The card's status word, at the answer that carries one; nothing at any other.
+pub fn put_carried(out: &mut [u8], at: usize, answer: Answer) -> usize
+    ensures { λ r. ⌜ Laid at (carriedText answer) (now (out .entry)) r (now (out .exit)) ⌝ }
+{
+    if answer.number() == 10 {
+        let named = pen::put(out, at, b"carried ");
+        let told = pen::put_hex(out, named, 8, answer.word() as u64);
+        return pen::put_byte(out, told, b'\n');
+    }
+    pen::least(at, out.len())
+}
