@@ -2,5 +2,6 @@ pub mod Asks
 pub mod Gives
 pub mod Hosts
 pub mod Opens
+pub mod Pieces
 pub mod Turns
 pub mod Zeros
