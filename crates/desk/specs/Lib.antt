@@ -1,1 +1,4 @@
+pub mod Cases
 pub mod Input
+pub mod Pile
+pub mod Room

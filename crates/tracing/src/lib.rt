@@ -1,0 +1,53 @@
+// A book traced on standard output, for the programs that trace books.
+use bench::trace;
+use bench::trace::Turn;
+use host::host::Sdmmc;
+use libc::STDOUT_FILENO;
+
+// Serves a book's calls one after the other, and writes what happened before the next is served: so much text is held at
+// once as one call has. Answers whether all of it was written.
+fn trace_calls(
+    host: Sdmmc,
+    words: &[u32],
+    calls: u16,
+    script_at: usize,
+    room: usize,
+    out: &mut [u8],
+) -> bool {
+    let mut turn = Turn {
+        host: host,
+        script_at: script_at,
+        at: 0,
+    };
+    let mut k = 0;
+    while k < calls {
+        let next = turn.host;
+        turn = trace::trace_call(next, words, k, turn.script_at, room, out);
+        let at = turn.at;
+        if !io::write_all(STDOUT_FILENO, &out[..at]) {
+            return false;
+        }
+        k = k + 1;
+    }
+    true
+}
+
+// Traces a file's bytes as a book, with so many rows of room for each call, by way of a list for its words and a buffer
+// for the text of a call. Answers whether all of it was written.
+pub fn trace_book(bytes: &[u8], room: usize, words: &mut [u32], out: &mut [u8]) -> bool {
+    let opening = trace::open(bytes, words, out);
+    let at = opening.at;
+    if !io::write_all(STDOUT_FILENO, &out[..at]) {
+        return false;
+    }
+    let host = opening.host;
+    let n = opening.words;
+    trace_calls(
+        host,
+        &words[..n],
+        opening.calls,
+        opening.script_at,
+        room,
+        out,
+    )
+}
