@@ -9,18 +9,21 @@ use lib.Dec.{ltb}
 use lib.ListN.{length, take}
 use Rattle.text.specs.Ink.{inked}
 use Rattle.text.proofs.Ink.{ink-length}
-use Rattle.book.specs.declared.layout.Opened.the-variants as Opening
+use Rattle.book.specs.declared.layout.Opened.{Opened}
+use Rattle.book.specs.declared.layout.Opened.the-variants as Opened′
 use Rattle.book.specs.Layout.{wordsOf, badWords, badBook}
 use Rattle.book.specs.Readers.{openedOf}
 use Rattle.book.proofs.Load.{length-words, loaded}
 use Rattle.book.proofs.Opening.{opened-some}
+use Rattle.bench.specs.declared.trace.Opening.{Opening}
+use Rattle.bench.specs.Opens.{OpensAs}
 
-not-over : (bad over : Bool) (m n : ℕ) → cond (bad || over) Opening.Bad (Opening.Words m) ≡ Opening.Words n → over ≡ false
+not-over : (bad over : Bool) (m n : ℕ) → cond (bad || over) Opened′.Bad (Opened′.Words m) ≡ Opened′.Words n → over ≡ false
 not-over true over m n e = cc
 not-over false true m n e = cc
 not-over false false m n e = refl
 
-module _ (bytes words last : List ℕ) (n : ℕ) (o : openedOf bytes (length words) ≡ Opening.Words n) (f : last ≡ inked 0 (wordsOf bytes) words) where
+module _ (bytes words last : List ℕ) (n : ℕ) (o : openedOf bytes (length words) ≡ Opened′.Words n) (f : last ≡ inked 0 (wordsOf bytes) words) where
   room : length bytes / 4 ≤ length words
   unfolding openedOf
   room = ltb-false (length words) (length bytes / 4) (not-over (badBook bytes) (ltb (length words) (length bytes / 4)) (length bytes / 4) n o)
@@ -36,3 +39,13 @@ module _ (bytes words last : List ℕ) (n : ℕ) (o : openedOf bytes (length wor
 
   pub words-fit : n ≤ length last
   words-fit = rw (f, ink-length) (omega (arith, room, all-words, length-words bytes))
+
+-- however it was opened, its words lie within the list
+pub opening-fits : (bytes words last : List ℕ) (r : Opening) → OpensAs (openedOf bytes (length words)) (wordsOf bytes) r → last ≡ inked 0 (wordsOf bytes) words
+    → r .words ≤ length last
+unfolding OpensAs
+opening-fits bytes words last r so f = by (openedOf bytes (length words)) refl so
+  where
+    by : (o : Opened) → openedOf bytes (length words) ≡ o → OpensAs o (wordsOf bytes) r → r .words ≤ length last
+    by (Opened′.Words n) e s = omega (arith, s .words, all-words bytes words last n e f, words-fit bytes words last n e f)
+    by Opened′.Bad e s = omega (arith, s .words)

@@ -1,6 +1,6 @@
 // A book traced on standard output, for the programs that trace books.
+use bench::print::Turn;
 use bench::trace;
-use bench::trace::Turn;
 use host::host::Sdmmc;
 use libc::STDOUT_FILENO;
 
