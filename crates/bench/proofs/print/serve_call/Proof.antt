@@ -3,7 +3,7 @@ use native.Mathlib.Omega.{arith}
 use Rattle.host.specs.Calls.{calledOf}
 use Rattle.host.specs.declared.host.Called.{Called}
 use Rattle.book.specs.declared.layout.Asked.{Asked}
-use Rattle.bench.specs.Bench.{cameOf}
+use Rattle.bench.specs.Bench.{cameOf, numberOf}
 use borrow.Author.Needs.{needs}
 use Rattle.bench.proofs.print.serve_call.Statement.{statement}
 use Rattle.bench.proofs.print.serve_call.Tie as tie
@@ -26,10 +26,12 @@ returns c =
     let asked = c .before .before .before .before .before .before .before .before .before .before .before .before .call-at .ensures in
     let called : c .before .before .before .before .before .before .before .before .ask-in .result ≡ calledOf (cameOf (args .host) (args .words .now) (args .k) (args .place)) =
     rw asked at (c .before .before .before .before .before .before .before .before .ask-in .ensures .0) in
+    let number : c .before .before .before .number .result ≡ numberOf (c .before .before .before .before .before .before .before .before .ask-in .result .answer) =
+    c .before .before .before .number .ensures in
     let at = ap (λ (x : Asked). x .«script_at») asked in
     let len = ap (λ (x : Asked). x .«script_len») asked in (
       ap (λ (x : Called). x .host) called,
-      (rw (at, len), rw (c .before .before .before .number .ensures, called) at (c .before .before .put-call .ensures)),
+      (rw (at, len), rw (number, called) at (c .before .before .put-call .ensures)),
     )
 
 pub serve-call-spec : {M : Type 1} → statement M
