@@ -1,9 +1,10 @@
 use mathlib.Core.Path.{_≡_, ap}
 use native.Mathlib.Omega.{arith}
+use Rattle.text.specs.Ink.{Laid}
 use Rattle.host.specs.Calls.{calledOf}
 use Rattle.host.specs.declared.host.Called.{Called}
 use Rattle.book.specs.declared.layout.Asked.{Asked}
-use Rattle.bench.specs.Bench.{cameOf, numberOf}
+use Rattle.bench.specs.Bench.{cameOf, lineOf, numberOf}
 use borrow.Author.Needs.{needs}
 use Rattle.bench.proofs.print.serve_call.Statement.{statement}
 use Rattle.bench.proofs.print.serve_call.Tie as tie
@@ -28,10 +29,12 @@ returns c =
     rw asked at (c .before .before .before .before .before .before .before .before .ask-in .ensures .0) in
     let number : c .before .before .before .number .result ≡ numberOf (c .before .before .before .before .before .before .before .before .ask-in .result .answer) =
     c .before .before .before .number .ensures in
+    let line : Laid (args .at) (lineOf (args .host) (args .words .now) (args .k) (args .place)) (args .out .now) (c .before .before .put-call .result) (c .before .before .put-call .last .0) =
+    rw (number, called) at (c .before .before .put-call .ensures) in
     let at = ap (λ (x : Asked). x .«script_at») asked in
     let len = ap (λ (x : Asked). x .«script_len») asked in (
       ap (λ (x : Called). x .host) called,
-      (rw (at, len), rw (number, called) at (c .before .before .put-call .ensures)),
+      (rw (at, len), line),
     )
 
 pub serve-call-spec : {M : Type 1} → statement M
