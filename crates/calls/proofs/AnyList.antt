@@ -55,6 +55,16 @@ ended host refused accepted words rule (Stopped TraceFull) w out in′ = refl
 
 -- An initialisation.
 
+-- refused, of allowed frequency: no record
+allowed-none : (b : Bool) (before : Held) → b ≡ false → holdsNone ≡ cond (not b) holdsNone before
+allowed-none true before e = let z : _≡_ {A = ℕ} 0 1 = cc in absurd (omega arith)
+allowed-none false before e = refl
+
+none-left : (frequency : ℕ) (e : Error) (found : Card) (before : Held) → (eqb frequency 0 || ltb 50_000_000 frequency) ≡ false
+    → holdsNone ≡ afterInitialise frequency (Answered.Refused e) found before
+unfolding afterInitialise
+none-left frequency e found before may = allowed-none (eqb frequency 0 || ltb 50_000_000 frequency) before may
+
 module _ (host : Sdmmc) (frequency : ℕ) (s l : List ℕ) (c : Clock) (clocked : clockOf (sourceOf (host .settings)) 400_000 false ≡ Clocked.Set c) where
   abbrev initRule : Answer → List ℕ → Held
   initRule a words = afterInitialise frequency a (foundBy (host .settings) (initialise frequency s l)) (heldOf host)
@@ -69,11 +79,9 @@ module _ (host : Sdmmc) (frequency : ℕ) (s l : List ℕ) (c : Clock) (clocked 
       by true t = rw t
       by false t =
           let x = run s noCard (I.initialise (host .settings) c frequency) 0 0 (freshLine (c .frequency)) l in
-          let none : (e : Error) → holdsNone ≡ afterInitialise frequency (Answered.Refused e) (x .value) (heldOf host) =
-          λ e. ap (λ (b : Bool). cond (not b) holdsNone (heldOf host)) (sym t) in
           ended host (dropped host (x .state)) (holding host (x .state) (x .value)) []
           (λ a words. afterInitialise frequency a (x .value) (heldOf host)) (x .state .progress .pace) (x .state)
-          (λ e stopped. none e) (λ g. ap (λ (st : List ℕ). holds (withStatus (x .value) st)) (found-zero s (host .settings) c frequency l g))
+          (λ e stopped. none-left frequency e (x .value) (heldOf host) t) (λ g. ap (λ (st : List ℕ). holds (withStatus (x .value) st)) (found-zero s (host .settings) c frequency l g))
 
 -- A call with a data phase: `accepted` is what it leaves of the record where it was accepted, from its data words.
 
