@@ -1,18 +1,38 @@
 -- What is printed call by call, one piece after the other, is what is printed of the book.
 use Prim.Native.Nat.{ℕ, _+_, _*_, _≤_, _<_, min}
 use mathlib.Core.List.{List, [], _++_}
-use mathlib.Core.Path.{_≡_, ap, sym, _∙_}
+use mathlib.Core.Option.{none, some}
+use mathlib.Core.Path.{_≡_, refl, ap, sym, _∙_}
 use native.Mathlib.Omega.{arith}
-use lib.ListN.{getD}
+use lib.ListN.{length, getD}
 use Rattle.host.specs.declared.host.Sdmmc.{Sdmmc}
+use Rattle.host.specs.Calls.{made}
 use Rattle.calls.specs.Serve as S
 use Rattle.calls.specs.Serve.{comes}
-use Rattle.book.specs.Layout.{countOf}
+use Rattle.book.specs.declared.layout.Opened.the-variants as Opening
+use Rattle.book.specs.Layout as L
+use Rattle.book.specs.Layout.{countOf, contentsOf, bookIn}
 use Rattle.book.specs.Readers.{askedAt, callAsked}
 use Rattle.book.proofs.Rows.{rowAt}
-use Rattle.book.proofs.Reached.{Reached, callsLeft, script-within, one-call, none-left}
-use Rattle.bench.specs.Bench.{callOf}
-use Rattle.bench.specs.Trace.{bytesAt, placeAfter, callAt, callText, callsText}
+use Rattle.book.proofs.Reached.{Reached, callsLeft, script-within, all-calls, one-call, none-left}
+use Rattle.bench.specs.Bench.{settingsOf, callOf, whereAccepted}
+use Rattle.bench.specs.Opens.{headOf}
+use Rattle.bench.specs.Trace.{bytesAt, placeAfter, callAt, callText, callsText, headText, bookText}
+
+-- what opening a book prints comes first; its calls follow where there is a host
+pub first-piece : (ws : List ℕ) (room : ℕ)
+    → bookText room (some (bookIn ws))
+    ≡ headOf (Opening.Words (length ws)) ws
+    ++ whereAccepted (made (settingsOf (bookIn ws)) .answer) (callsText room 1 (made (settingsOf (bookIn ws)) .host) (callsLeft ws 0 (contentsOf ws)))
+unfolding headOf
+first-piece ws room =
+    let m = made (settingsOf (bookIn ws)) in
+    ap (λ (cs : List L.Call). headText m ++ whereAccepted (m .answer) (callsText room 1 (m .host) cs)) (all-calls ws)
+
+-- what is no book prints one line
+pub no-book-piece : (ws : List ℕ) (room : ℕ) → bookText room none ≡ headOf Opening.Bad ws
+unfolding headOf
+no-book-piece ws room = refl
 
 module _ (ws : List ℕ) (k place room : ℕ) (reached : Reached ws k place) (fits : room ≤ 4096) where
   pub last-piece : countOf ws ≤ k → (host : Sdmmc) → callsText room (k + 1) host (callsLeft ws k place) ≡ []

@@ -116,7 +116,7 @@ fn trace_exact(
 }
 
 // A place so many words on, as far as the words go.
-fn behind(words: &[u32], place: usize, count: usize) -> usize
+pub fn behind(words: &[u32], place: usize, count: usize) -> usize
     ensures { λ r. ⌜ r ≡ min (place + count) (length (now (words .entry))) ⌝ }
 {
     if words.len() <= place {
@@ -210,7 +210,7 @@ fn put_head(out: &mut [u8], made: Made) -> usize
 }
 
 // So many calls, none where there is no host.
-fn served(answer: Answer, calls: u16) -> u16
+pub fn served(answer: Answer, calls: u32) -> u32
     ensures { λ r. ⌜ r ≡ callsServed answer calls ⌝ }
 {
     match answer {
@@ -233,9 +233,10 @@ fn open_good(words: &[u32], out: &mut [u8]) -> Opening
     let host = made.host;
     let calls = layout::word(words, 6);
     let at = put_head(out, made);
+    let count = served(answer, calls);
     Opening {
         host: host,
-        calls: served(answer, calls as u16),
+        calls: count as u16,
         words: words.len(),
         script_at: layout::contents(words),
         at: at,

@@ -1,8 +1,10 @@
 // One command to the card.
-ghost use mathlib.Core.List.{List};
-ghost use mathlib.Core.Bool.{false};
+ghost use mathlib.Core.Path.{_≡_};
+ghost use mathlib.Core.List.{List, [], _∷_};
+ghost use mathlib.Core.Bool.{false, cond};
 ghost use Prim.Native.Nat.{ℕ, _+_, _^_, _<_, _≤_};
-ghost use lib.ListN.{length};
+ghost use lib.Dec.{ltb};
+ghost use lib.ListN.{length, getD};
 ghost use Rattle.tape.specs.Plan.{finally, giving, refusing};
 ghost use Rattle.tape.specs.Run.{at, Behind, Did, Gave, Settled};
 ghost use Rattle.tape.specs.Steps.{setClken};
@@ -51,20 +53,21 @@ fn wait_completion(p: Progress, rest: &[u32], start: usize, limit: u32, form: Fo
     requires { ⌜ (start ≤ p .used) × (start + length (now rest) < 2 ^ 64) ⌝ }
     ensures { λ r. ⌜ ((s l : List ℕ) → Behind start (now (rest .entry)) s → Gave s ℕ 0 (waitCompletion limit form) (at p l) (r .word) (at (r .progress) l)) ⌝ }
 {
-    let mask = form.completion;
-    let mut q = p;
-    let mut i: u32 = 0;
-    while i < limit {
-        let status = poll_completion(q, rest, start);
-        let next = status.progress;
-        if next.over(status.word & mask != 0) {
-            return status;
-        }
-        q = next;
-        i = i + 1;
+    let pace = p.pace;
+    let Pace::Going = pace else {
+        return Word {
+            progress: p,
+            word: 0,
+        };
+    };
+    let left = script::rest(rest, p.used - start);
+    let waiting = script::quiet(left, limit, form.completion, Sta::TIMED_OUT);
+    let polled = p.moved(waiting);
+    if waiting < limit as usize {
+        return poll_completion(polled, rest, start);
     }
     Word {
-        progress: progress::refuse(q, Error::SoftwareTimeout),
+        progress: progress::refuse(polled, Error::SoftwareTimeout),
         word: 0,
     }
 }
@@ -86,17 +89,32 @@ fn check_echo(p: Progress, rest: &[u32], start: usize, index: u8, form: Form) ->
     }
 }
 
-// The four response words.
+// Four words from a place on, zeros where there are fewer.
+fn four_at(words: &[u32], place: usize) -> [u32; 4]
+    ensures { λ r. ⌜ r ≡ cond (ltb (place + 3) (length (now (words .entry)))) (getD (now (words .entry)) place 0 ∷ getD (now (words .entry)) (place + 1) 0 ∷ getD (now (words .entry)) (place + 2) 0 ∷ getD (now (words .entry)) (place + 3) 0 ∷ []) zeros ⌝ }
+{
+    if words.len() < 4 {
+        return [0; 4];
+    }
+    if words.len() - 4 < place {
+        return [0; 4];
+    }
+    [
+        words[place],
+        words[place + 1],
+        words[place + 2],
+        words[place + 3],
+    ]
+}
+
+// The four response words, taken in one go.
 fn take_words(p: Progress, rest: &[u32], start: usize) -> Words
     requires { ⌜ (start ≤ p .used) × (start + length (now rest) < 2 ^ 64) ⌝ }
     ensures { λ r. ⌜ ((s l : List ℕ) → Behind start (now (rest .entry)) s → Gave s (List ℕ) zeros responseWords (at p l) (r .words) (at (r .progress) l)) ⌝ }
 {
-    let first = script::read_word(p, rest, start);
-    let second = script::read_word(first.progress, rest, start);
-    let third = script::read_word(second.progress, rest, start);
-    let fourth = script::read_word(third.progress, rest, start);
-    let words = [first.word, second.word, third.word, fourth.word];
-    response::give_words(fourth.progress, words)
+    let words = four_at(rest, p.used - start);
+    let taken = script::take_data(p, rest, start, 4);
+    response::give_words(taken.progress, words)
 }
 
 // What the first word says of the card.

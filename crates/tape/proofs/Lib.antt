@@ -3,3 +3,4 @@ pub mod Loops
 pub mod Room
 pub mod Words
 pub mod Values
+pub mod Polls

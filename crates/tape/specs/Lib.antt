@@ -1,4 +1,5 @@
 pub mod Plan
+pub mod Polls
 pub mod Rows
 pub mod Run
 pub mod Steps

@@ -2,7 +2,7 @@
 ghost use mathlib.Core.Path.{_≡_};
 ghost use mathlib.Core.List.{List};
 ghost use mathlib.Core.Bool.{Bool, false};
-ghost use Prim.Native.Nat.{ℕ};
+ghost use Prim.Native.Nat.{ℕ, _+_, _^_, _<_};
 ghost use Rattle.tape.specs.Plan.{give, hold, fail, ensure};
 ghost use Rattle.tape.specs.Run.{at, noted, overAt, Did, Gave};
 use crate::rows::Row;
@@ -22,11 +22,12 @@ pub enum Pace {
     Stopped(Halt),
 }
 
-// What the host holds of the line to the card, as the last step left it.
+// What the host holds of the line to the card, as the last step left it. The two words stand before the two small fields, so
+// that there is no gap between: each step copies it.
 pub struct Line {
     pub clkcr: u32,
-    pub gated: bool,
     pub clock: Hertz,
+    pub gated: bool,
     pub signalling: Signalling,
 }
 
@@ -93,6 +94,21 @@ impl Progress {
         Progress {
             pace: Pace::Stopped(halt),
             used: self.used,
+            rows: self.rows,
+            line: line,
+        }
+    }
+
+    // The same, so many words further.
+    pub fn moved(self, words: usize) -> Progress
+        requires { ⌜ self .used + words < 2 ^ 64 ⌝ }
+        ensures { λ r. ⌜ r ≡ record { pace = self .pace; used = self .used + words; rows = self .rows; line = self .line } ⌝ }
+    {
+        let pace = self.pace;
+        let line = self.line;
+        Progress {
+            pace: pace,
+            used: self.used + words,
             rows: self.rows,
             line: line,
         }

@@ -1,15 +1,19 @@
 // The script of readings.
 ghost use mathlib.Core.Path.{_≡_};
+ghost use mathlib.Core.Bool.{not, _&&_};
 ghost use mathlib.Core.List.{List, []};
-ghost use Prim.Native.Nat.{ℕ, _+_, _-_, _^_, _<_, _≤_};
+ghost use Prim.Native.Nat.{ℕ, _+_, _^_, _<_, _≤_, min};
 ghost use lib.ListN.{length, take, drop};
+ghost use Rattle.types.specs.Bits.{clear};
 ghost use Rattle.tape.specs.Plan.{give};
+ghost use Rattle.tape.specs.Polls.{leading};
 ghost use Rattle.tape.specs.Run.{at, Behind, Gave};
 ghost use Rattle.tape.specs.Steps.{word, dataWords};
 use crate::progress::Halt;
 use crate::progress::Pace;
 use crate::progress::Progress;
 use crate::progress::Word;
+use reader::Found;
 
 // What a reading asks for: the controller's status, the index of the command that was answered, a response word, the
 // state of the DMA, the count of bytes left, or a data word.
@@ -88,14 +92,13 @@ pub fn read_word(p: Progress, rest: &[u32], start: usize) -> Word
         };
     };
     let used = p.used;
-    let at = used - start;
-    if rest.len() <= at {
+    let found = reader::word(rest, used - start);
+    let Found::Word(word) = found else {
         return Word {
             progress: p.stopped(Halt::ScriptEnded),
             word: 0,
         };
-    }
-    let word = rest[at];
+    };
     Word {
         progress: Progress {
             pace: Pace::Going,
@@ -107,11 +110,51 @@ pub fn read_word(p: Progress, rest: &[u32], start: usize) -> Word
     }
 }
 
-// How many words are left from this place on.
-fn left(rest: &[u32], at: usize) -> usize
-    ensures { λ r. ⌜ r ≡ length (now (rest .entry)) - at ⌝ }
+// At most so many of the words.
+fn most(words: &[u32], limit: u32) -> usize
+    ensures { λ r. ⌜ r ≡ min limit (length (now (words .entry))) ⌝ }
 {
-    if at <= rest.len() { rest.len() - at } else { 0 }
+    if words.len() < limit as usize {
+        words.len()
+    } else {
+        limit as usize
+    }
+}
+
+// How many of the words in front, at most so many, have a bit of the mask: polls that find the controller busy. A loop over
+// plain words, since a card may keep its host waiting for a million of them.
+pub fn busy(words: &[u32], limit: u32, mask: u32) -> usize
+    ensures { λ r. ⌜ r ≡ leading limit (λ w. not (clear mask w)) (now (words .entry)) ⌝ }
+{
+    let n = most(words, limit);
+    let mut i = 0;
+    while i < n {
+        let word = words[i];
+        if word & mask == 0 {
+            return i;
+        }
+        i = i + 1;
+    }
+    i
+}
+
+// How many of the words in front, at most so many, have no bit of either mask: polls that find nothing done and nothing wrong.
+pub fn quiet(words: &[u32], limit: u32, done: u32, wrong: u32) -> usize
+    ensures { λ r. ⌜ r ≡ leading limit (λ w. clear done w && clear wrong w) (now (words .entry)) ⌝ }
+{
+    let n = most(words, limit);
+    let mut i = 0;
+    while i < n {
+        let word = words[i];
+        if word & done != 0 {
+            return i;
+        }
+        if word & wrong != 0 {
+            return i;
+        }
+        i = i + 1;
+    }
+    i
 }
 
 // Takes so many data words of a script of which `rest` is what lies behind its first `start` words: nothing is copied,
@@ -130,7 +173,7 @@ pub fn take_data(p: Progress, rest: &[u32], start: usize, count: usize) -> Data
         };
     };
     let used = p.used;
-    let more = left(rest, used - start);
+    let more = reader::left_from(rest, used - start);
     if more < count {
         return Data {
             progress: Progress {

@@ -32,20 +32,18 @@ pub fn wait_idle(p: Progress, rest: &[u32], limit: u32, data: bool) -> Progress
     requires { ⌜ p .used + length (now rest) < 2 ^ 64 ⌝ }
     ensures { λ r. ⌜ ((s l : List ℕ) → Behind (p .used) (now (rest .entry)) s → Did s (waitIdle limit «data») (at p l) (at r l)) ⌝ }
 {
+    let pace = p.pace;
     let start = p.used;
-    let mask = idle_mask(data);
-    let mut q = p;
-    let mut i: u32 = 0;
-    while i < limit {
-        let status = script::read_word(q, rest, start);
-        let next = status.progress;
-        if next.over(status.word & mask == 0) {
-            return next;
-        }
-        q = next;
-        i = i + 1;
+    let Pace::Going = pace else {
+        return p;
+    };
+    let busy = script::busy(rest, limit, idle_mask(data));
+    let polled = p.moved(busy);
+    if busy < limit as usize {
+        let status = script::read_word(polled, rest, start);
+        return status.progress;
     }
-    progress::refuse(q, Error::SoftwareTimeout)
+    progress::refuse(polled, Error::SoftwareTimeout)
 }
 
 // The reset rows.

@@ -69,7 +69,7 @@ last-digit : (base w : ℕ) → 0 < base → base ≤ 16 → w < 2 ^ 32 → with
 unfolding withDigit
 last-digit base w some few h =
     let d = mod-lt w some in
-    rw (valued (w % base) (omega arith), lt-leb base (w % base) d, div-add-mod' w base, lt-ltb w LIMIT h)
+    rw (valued (w % base) (omega arith), lt-leb base (w % base) d, div-add-mod' w base, lt-ltb w LIMIT (omega (arith, h)))
 
 -- bytes one after the other, before the text's end
 abbrev over : ℕ → ℕ → State → List ℕ → State

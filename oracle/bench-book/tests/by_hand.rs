@@ -2,43 +2,11 @@
 
 use oracle_bench_book::{book, trace, MOST_ROOM};
 use oracle_driver::right::Host;
+use oracle_driver::script::{data, initialisation, short};
 
-/// A command that is idle and complete at once, with its echo and first word.
-fn short(index: u32, word: u32) -> Vec<u32> {
-    vec![0, 0x40, index, word, 0, 0, 0]
-}
-
-/// The same without an echo: R2 and R3.
-fn long(words: [u32; 4]) -> Vec<u32> {
-    [vec![0, 0x40], words.to_vec()].concat()
-}
-
-/// The idle wait of a data phase, its command and the poll that completes.
-fn data(index: u32, words: &[u32]) -> Vec<u32> {
-    [vec![0], short(index, 0), vec![0, 0, 0x100, 0, 0], words.to_vec()].concat()
-}
-
-/// A card of high capacity with 2,048 blocks, one line, version 0.
+/// A card of 2,048 blocks.
 fn good_card() -> Vec<u32> {
-    [
-        vec![0],
-        vec![0, 0x80],
-        short(8, 0x1aa),
-        short(55, 0x20),
-        long([0xc030_0000, 0, 0, 0]),
-        long([1, 2, 3, 4]),
-        short(3, 0x1234_0000),
-        long([0x4000_0032, 0x0009_0000, 0x0001_0000, 0]),
-        short(7, 0),
-        short(13, 0x900),
-        short(55, 0x20),
-        data(51, &[0x0000_0500, 0]),
-        short(13, 0x900),
-        short(55, 0x20),
-        short(6, 0),
-        vec![0],
-    ]
-    .concat()
+    initialisation(1)
 }
 
 /// Source 8 MHz, all limits 1, one line.

@@ -140,7 +140,21 @@ impl host::Host for Host {
 
 type Given = (Option<[u32; 16]>, Vec<u8>);
 
+/// Blocks for a bare read to fill.
+pub fn blocks(count: usize) -> Vec<DataBlock> {
+    vec![DataBlock([0; 512]); count]
+}
+
 impl Host {
+    /// For measuring: the driver's own call and nothing around it, on whichever bench is on. True where it is accepted.
+    pub fn bare(&mut self, call: Call, blocks: &mut [DataBlock]) -> bool {
+        match call {
+            Call::Initialise { frequency } => self.driver.blocking_init_card(Hertz(frequency)).is_ok(),
+            Call::Read { index, .. } => self.driver.blocking_read_blocks(index, blocks).is_ok(),
+            Call::Status => self.driver.blocking_read_sd_status().is_ok(),
+        }
+    }
+
     fn run(&mut self, call: Call) -> Result<Given, Error> {
         match call {
             Call::Initialise { frequency } => {

@@ -16,6 +16,7 @@ mod macros;
 
 pub mod bench;
 pub mod host;
+pub mod script;
 pub mod wrong;
 
 mod dma;

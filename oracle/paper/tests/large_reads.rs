@@ -1,6 +1,7 @@
 //! Reads larger than a book allows, up to and over 511 blocks.
 
 use oracle_driver::bench::Feed;
+use oracle_driver::script::{data, initialisation, short};
 use oracle_driver::{right, Call, Host, Outcome, Settings};
 use oracle_model::rng::Rng;
 use oracle_paper as paper;
@@ -15,38 +16,9 @@ const SETTINGS: Settings = Settings {
     wide: true,
 };
 
-fn short(index: u32, word: u32) -> Vec<u32> {
-    vec![0, 0x40, index, word, 0, 0, 0]
-}
-
-fn long(words: [u32; 4]) -> Vec<u32> {
-    [vec![0, 0x40], words.to_vec()].concat()
-}
-
-fn data(index: u32, words: &[u32]) -> Vec<u32> {
-    [vec![0], short(index, 0), vec![0, 0, 0x100, 0, 0], words.to_vec()].concat()
-}
-
-/// A card of high capacity with 1,024 blocks.
+/// A card of 1,024 blocks.
 fn card() -> Vec<u32> {
-    [
-        vec![0, 0, 0x80],
-        short(8, 0x1aa),
-        short(55, 0x20),
-        long([0xc030_0000, 0, 0, 0]),
-        long([1, 2, 3, 4]),
-        short(3, 0x1234_0000),
-        long([0x4000_0032, 0x0009_0000, 0, 0]),
-        short(7, 0),
-        short(13, 0x900),
-        short(55, 0x20),
-        data(51, &[0x0000_0500, 0]),
-        short(13, 0x900),
-        short(55, 0x20),
-        short(6, 0),
-        vec![0],
-    ]
-    .concat()
+    initialisation(0)
 }
 
 fn run<H: Host>(index: u32, blocks: usize, script: &[u32]) -> Outcome {

@@ -1,44 +1,98 @@
-use Prim.Native.Nat.{ℕ}
+use Prim.Native.Nat.{ℕ, _+_, _-_, _≤_, _<_}
+use mathlib.Core.Bool.{Bool, true, false, cond}
+use mathlib.Core.List.{List, [], _∷_}
+use mathlib.Core.Path.{_≡_, refl, sym, ap, _∙_}
 use native.Mathlib.Omega.{arith}
-use Rattle.tape.specs.declared.script.Reading.the-variants as Reading
-use Rattle.tape.specs.Run.{at, Gave}
-use Rattle.tape.specs.Steps.{word}
-use Rattle.bus.specs.Command.{responseWords}
-use Rattle.tape.proofs.Laws.{bind, read-on}
+use lib.Dec.{ltb}
+use lib.ListN.{length, getD, length-drop}
+use borrow.Author.Tests.{lt-ltb, le-ltb, ltb-true, ltb-false}
+use Rattle.tape.specs.declared.progress.Line.{Line}
+use Rattle.tape.specs.declared.progress.Pace.{Pace}
+use Rattle.tape.specs.declared.progress.Pace.the-variants.{Going, Stopped}
+use Rattle.tape.specs.declared.progress.Progress.{Progress}
+use Rattle.tape.specs.Plan.{give, handle}
+use Rattle.tape.specs.Run.{State, at, After, run, doesAt, does, Behind, Gave}
+use Rattle.tape.specs.Steps.{word, dataFrom, dataWords}
+use Rattle.tape.proofs.Polls.{at-place, in-place}
+use Rattle.bus.specs.Command.{zeros, responseWords}
 use borrow.Author.Needs.{needs}
 use Rattle.bus.proofs.command.take_words.Statement.{statement}
 use Rattle.bus.proofs.command.take_words.Tie as tie
 
-read-word-requires-2 : tie.Need-read-word-requires-2
-read-word-requires-2 c κs = omega (arith, read-on (c .read-word .ensures Reading.Status))
+-- Four words in one go are four words one after the other, also where fewer are left.
+module _ (s : List ℕ) (u n : ℕ) (h : Line) (l : List ℕ) where
+  four : List ℕ
+  four = getD s u 0 ∷ getD s (u + 1) 0 ∷ getD s (u + 1 + 1) 0 ∷ getD s (u + 1 + 1 + 1) 0 ∷ []
 
-read-word-requires-3 : tie.Need-read-word-requires-3
-read-word-requires-3 c κs = omega (arith, read-on (c .before .read-word .ensures Reading.Status), read-on (c .read-word2 .ensures Reading.Status))
+  in-one-go : (words : List ℕ) → words ≡ cond (ltb (u + 1 + 1 + 1) (length s)) four zeros
+      → does s zeros (give words) (run s [] (dataWords 4) u n h l .state) ≡ run s zeros responseWords u n h l
+  unfolding doesAt run handle word dataFrom responseWords four
+  in-one-go words are =
+      by (ltb u (length s)) refl (ltb (u + 1) (length s)) refl (ltb (u + 1 + 1) (length s)) refl (ltb (u + 1 + 1 + 1) (length s)) refl
+    where
+      by : (a : Bool) → ltb u (length s) ≡ a → (b : Bool) → ltb (u + 1) (length s) ≡ b → (c : Bool) → ltb (u + 1 + 1) (length s) ≡ c
+          → (d : Bool) → ltb (u + 1 + 1 + 1) (length s) ≡ d
+          → does s zeros (give words) (run s [] (dataWords 4) u n h l .state) ≡ run s zeros responseWords u n h l
+      by false e b e₁ c e₂ d e₃ = rw e
+      by true e false e₁ c e₂ d e₃ = rw (e, e₁)
+      by true e true e₁ false e₂ d e₃ = rw (e, e₁, e₂)
+      by true e true e₁ true e₂ false e₃ = rw (e, e₁, e₂, e₃)
+      by true e true e₁ true e₂ true e₃ = rw (e, e₁, e₂, e₃, rw e₃ at are)
 
-read-word-requires-4 : tie.Need-read-word-requires-4
-read-word-requires-4 c κs =
-    omega (
-      arith,
-      read-on (c .before .before .read-word .ensures Reading.Status),
-      read-on (c .before .read-word2 .ensures Reading.Status),
-      read-on (c .read-word3 .ensures Reading.Status),
-    )
+-- the words behind the first m of a script, by their places in it
+module _ {m u : ℕ} {rest s : List ℕ} (part : Behind m rest s) (h : m ≤ u) where
+  placed : (i : ℕ) → getD rest (u - m + i) 0 ≡ getD s (u + i) 0
+  placed i =
+      let place : m + (u - m + i) ≡ u + i = omega arith in
+      sym (at-place part (u - m + i)) ∙ ap (λ (k : ℕ). getD s k 0) place
+
+  first-placed : getD rest (u - m) 0 ≡ getD s u 0
+  first-placed =
+      let place : m + (u - m) ≡ u = omega arith in
+      sym (at-place part (u - m)) ∙ ap (λ (k : ℕ). getD s k 0) place
+
+  there : ltb (u - m + 3) (length rest) ≡ ltb (u + 3) (length s)
+  there = by (ltb (u + 3) (length s)) refl
+    where
+      long : length rest ≡ length s - m
+      long = ap length (part .part) ∙ length-drop m s
+
+      by : (b : Bool) → ltb (u + 3) (length s) ≡ b → ltb (u - m + 3) (length rest) ≡ b
+      by true e = let below = ltb-true (u + 3) (length s) e in lt-ltb (u - m + 3) (length rest) (omega (arith, below, long, h))
+      by false e = let over = ltb-false (u + 3) (length s) e in le-ltb (u - m + 3) (length rest) (omega (arith, over, long, h))
+
+  four-placed : (k n : ℕ) (h : Line) (l : List ℕ) → k ≡ u - m
+      → cond (ltb (k + 3) (length rest)) (getD rest k 0 ∷ getD rest (k + 1) 0 ∷ getD rest (k + 2) 0 ∷ getD rest (k + 3) 0 ∷ []) zeros
+      ≡ cond (ltb (u + 1 + 1 + 1) (length s)) (four s u n h l) zeros
+  unfolding four
+  four-placed k n h l e =
+      let two : u + 1 + 1 ≡ u + 2 = omega arith in
+      let three : u + 1 + 1 + 1 ≡ u + 3 = omega arith in
+      rw (e, there, first-placed, placed 1, placed 2, placed 3, three, two)
+
+-- what was taken, and what is given of it
+joined : {s l : List ℕ} {p q r : Progress} {words taken v : List ℕ}
+    → words ≡ cond (ltb (p .used + 1 + 1 + 1) (length s)) (four s (p .used) (p .rows) (p .line) l) zeros
+    → Gave s (List ℕ) [] (dataWords 4) (at p l) taken (at q l) → Gave s (List ℕ) zeros (give words) (at q l) v (at r l)
+    → Gave s (List ℕ) zeros responseWords (at p l) v (at r l)
+unfolding doesAt run
+joined {s} {l} {p} {q} {r} {words} {taken} {v} are e g =
+    record { same = g .same ∙ ap (does s zeros (give words)) (ap (λ (x : After (List ℕ)). x .state) (e .same)) ∙ by (p .pace) }
+  where
+    by : (a : Pace) → does s zeros (give words) (doesAt s [] a (dataWords 4) (at p l) .state) ≡ doesAt s zeros a responseWords (at p l)
+    by Going = in-one-go s (p .used) (p .rows) (p .line) l words are
+    by (Stopped x) = refl
 
 returns : tie.Need-returns
-unfolding responseWords
 returns c =
-    let fourth = c .before in
-    let third = fourth .before in
-    let second = third .before in
+    let taken = c .before in
+    let words = taken .before in
+    let start = words .before .before .before in
+    let p = start .args .p in
     λ s l part.
-    let next : Gave s ℕ 0 (word (Reading.Response 1)) (at (second .before .read-word .result .progress) l) (second .read-word2 .result .word) (at (second .read-word2 .result .progress) l) = second .read-word2 .ensures (Reading.Response 1) s l part in
-    bind _ (second .before .read-word .ensures (Reading.Response 0) s l part)
-    (bind _ next
-    (bind _ (third .read-word3 .ensures (Reading.Response 2) s l part)
-    (bind _ (fourth .read-word4 .ensures (Reading.Response 3) s l part) (c .give-words .ensures s l))))
+    joined (words .four-at .ensures ∙ four-placed part (start .pre .0) _ (p .rows) (p .line) l refl) (taken .take-data .ensures s l part) (c .give-words .ensures s l)
 
 pub take-words-spec : {M : Type 1} → statement M
 take-words-spec =
     tie.close
-    (tie.spec (λ c κs. search needs) read-word-requires-2 read-word-requires-3 read-word-requires-4
-    (λ c κs. search needs) returns)
+    (tie.spec (λ c. search needs) (λ c κs. search needs) (λ c κs. search needs) (λ c κs. search needs) returns)

@@ -5,6 +5,7 @@ use mathlib.Core.List.{List}
 use mathlib.Core.Path.{_≡_, ap, sym, _∙_}
 use Prim.Native.Nat.{ℕ, _≤_, _<_, _-_, _+_}
 use native.Mathlib.Omega.{arith}
+use Rattle.reader.proofs.Tells.{inside, is-word, outside}
 use Rattle.tape.specs.Run.{Behind, run}
 use Rattle.tape.specs.Steps.{word}
 use Rattle.tape.proofs.Laws.{from-going, from-stopped}
@@ -17,11 +18,11 @@ module _ (s r : List ℕ) (n u : ℕ) (left : Behind n r s) (h : n ≤ u) where
   len : length r ≡ length s - n
   len = ap length (left .part) ∙ length-drop n s
 
-  outside : length r ≤ u - n → length s ≤ u
-  outside e = omega (arith, len)
+  behind-end : length r ≤ u - n → length s ≤ u
+  behind-end e = omega (arith, len)
 
-  inside : u - n < length r → u < length s
-  inside e = omega (arith, len)
+  in-script : u - n < length r → u < length s
+  in-script e = omega (arith, len)
 
   at-place : getD s u 0 ≡ getD r (u - n) 0
   at-place =
@@ -34,23 +35,34 @@ returns c = λ kind s l part. from-stopped (c .enum-told2 .given .1)
 returns-2 : tie.Need-returns-2
 unfolding run word
 returns-2 c =
-    let test = c .before in
-    let going = test .before in
+    let end = c .before in
+    let found = end .before .before in
+    let going = found .before in
     let after = going .before .before .before .before .pre .0 in
+    let past = outside _ _ (sym (end .enum-told3 .given .1) ∙ found .word .ensures) in
     λ kind s l part. from-going (going .enum-told .given .1)
-    (rw (le-ltb _ _ (outside s _ _ _ part after (test .if1 .taken)), c .stopped .ensures))
+    (rw (le-ltb _ _ (behind-end s _ _ _ part after past), c .stopped .ensures))
+
+-- a word was found, so it lies inside the script, and one word more can be counted
+add-t9 : tie.Need-add-t9
+add-t9 c =
+    let found = c .before .before .before in
+    let start = found .before .before .before .before .before in
+    let here = inside _ _ _ (sym (c .before .found .given .1) ∙ found .word .ensures) in
+    omega (arith, here, start .pre .0, start .pre .1)
 
 returns-3 : tie.Need-returns-3
 unfolding run word
 returns-3 c =
-    let test = c .before in
-    let going = test .before in
+    let found = c .before .before .before in
+    let going = found .before in
     let after = going .before .before .before .before .pre .0 in
+    let same = sym (c .before .found .given .1) ∙ found .word .ensures in
     λ kind s l part. from-going (going .enum-told .given .1)
-    (rw (lt-ltb _ _ (inside s _ _ _ part after (test .if1 .left)), at-place s _ _ _ part after))
+    (rw (lt-ltb _ _ (in-script s _ _ _ part after (inside _ _ _ same)), at-place s _ _ _ part after, is-word _ _ _ same))
 
 pub read-word-spec : {M : Type 1} → statement M
 read-word-spec =
     tie.close
     (tie.spec (λ c. search needs) (λ c. search needs) returns (λ c. search needs) (λ c κs. search needs)
-    returns-2 (λ c. search needs) (λ c. search needs) (λ c. search needs) returns-3)
+    (λ c. search needs) (λ c. search needs) (λ c κs. search needs) returns-2 add-t9 returns-3)

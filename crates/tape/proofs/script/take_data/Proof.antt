@@ -1,3 +1,4 @@
+use denote.Ref.{now}
 use lib.Seq.{drop-cons}
 use lib.ListN.{length, getD, take, drop, length-drop}
 use mathlib.Core.List.{List, [], _∷_}
@@ -57,8 +58,8 @@ module _ (s : List ℕ) where
           rw (le-ltb u (length s) (omega arith), all)
 
 -- what is left of r is what is left of s
-same-left : (s r : List ℕ) (n u : ℕ) → Behind n r s → n ≤ u → length r - (u - n) ≡ length s - u
-same-left s r n u part h = omega (arith, ap length (part .part) ∙ length-drop n s)
+same-left : (s r : List ℕ) (n u more : ℕ) → Behind n r s → n ≤ u → more ≡ length r - (u - n) → more ≡ length s - u
+same-left s r n u more part h e = omega (arith, ap length (part .part) ∙ length-drop n s)
 
 returns : tie.Need-returns
 returns c = λ s l part. from-stopped (c .enum-told2 .given .1)
@@ -68,8 +69,9 @@ returns-2 c =
     let found = c .before in
     let going = found .before in
     let start = going .before .before .before .before in
+    let a = start .args in
     λ s l part.
-    let left = found .left .ensures ∙ same-left s _ _ _ part (start .pre .0) in
+    let left = same-left s (now (a .rest)) (a .start) (a .p .used) _ part (start .pre .0) (found .left-from .ensures) in
     from-going (going .enum-told .given .1) (rw left (sym (ended s 0 _ _ _ _ l (omega (arith, left)))))
 
 returns-3 : tie.Need-returns-3
@@ -77,8 +79,9 @@ returns-3 c =
     let found = c .before in
     let going = found .before in
     let start = going .before .before .before .before in
+    let a = start .args in
     λ s l part.
-    let left = found .left .ensures ∙ same-left s _ _ _ part (start .pre .0) in
+    let left = same-left s (now (a .rest)) (a .start) (a .p .used) _ part (start .pre .0) (found .left-from .ensures) in
     from-going (going .enum-told .given .1) (sym (there s 0 _ _ _ _ l (omega (arith, left))))
 
 pub take-data-spec : {M : Type 1} → statement M

@@ -1,10 +1,10 @@
-use Prim.Native.Nat.{_*_, _≤_}
+use Prim.Native.Nat.{_+_, _*_, _<_, _≤_}
 use native.Mathlib.Nat.{mul-le-mul-left}
 use native.Mathlib.Omega.{arith}
 use mathlib.Core.Path.{_≡_, sym}
 use borrow.Author.Needs.{needs}
 use borrow.Author.Tests.{le-leb, lt-leb, lt-ltb, le-ltb}
-use Rattle.wordtext.specs.Token.{withDigit}
+use Rattle.wordtext.specs.Token.{LIMIT, withDigit}
 use Rattle.wordtext.proofs.token.with_digit.Statement.{statement}
 use Rattle.wordtext.proofs.token.with_digit.Tie as tie
 
@@ -28,13 +28,17 @@ returns-2 : tie.Need-returns-2
 unfolding withDigit
 returns-2 c =
     let first = c .before in
-    rw (sym (first .before .digit .ensures), lt-leb _ _ (first .if1 .left), lt-ltb _ _ (c .if2 .taken))
+    let a = first .before .before .args in
+    let small : a .value * a .base + first .before .digit .result < LIMIT = omega (arith, c .if2 .taken) in
+    rw (sym (first .before .digit .ensures), lt-leb _ _ (first .if1 .left), lt-ltb _ _ small)
 
 returns-3 : tie.Need-returns-3
 unfolding withDigit
 returns-3 c =
     let first = c .before in
-    rw (sym (first .before .digit .ensures), lt-leb _ _ (first .if1 .left), le-ltb _ _ (c .if2 .left))
+    let a = first .before .before .args in
+    let large : LIMIT ≤ a .value * a .base + first .before .digit .result = omega (arith, c .if2 .left) in
+    rw (sym (first .before .digit .ensures), lt-leb _ _ (first .if1 .left), le-ltb _ _ large)
 
 pub with-digit-spec : {M : Type 1} → statement M
 with-digit-spec =

@@ -1,0 +1,4 @@
+mod Answers
+mod Apart
+mod Made
+pub mod Tells

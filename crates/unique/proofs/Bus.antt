@@ -1,0 +1,77 @@
+-- A line for each public function of `bus`.
+use Prim.Native.Nat.{ℕ}
+use mathlib.Core.List.{List, []}
+use mathlib.Core.Path.{_≡_}
+use contract.Lifetimes.{Lfts}
+use borrow.Fn.Kinds.{Dens}
+use Rattle.tape.specs.declared.progress.Halt.{Halt}
+use Rattle.tape.specs.declared.progress.Pace.the-variants.{Stopped}
+use Rattle.tape.specs.Run.{After}
+use Rattle.tape.proofs.Laws.{from-stopped}
+use Rattle.bus.specs.declared.response.Words.{Words}
+use Rattle.bus.proofs.clock
+use Rattle.bus.proofs.command
+use Rattle.bus.proofs.poll
+use Rattle.bus.proofs.ready
+use Rattle.bus.proofs.response
+use Rattle.bus.proofs.transfer
+use Rattle.unique.specs.Unique.{Allows, Unique, UniqueIn}
+use Rattle.unique.proofs.Determined.{determined, part-determined}
+use Rattle.unique.proofs.Steps.{dataIn, data-same, listed, on, on-any, toFlag, toProgress, toWord}
+
+abbrev toWords : After (List ℕ) → Words
+toWords x = record { progress = x .state .progress; words = x .value }
+
+clock-configure-clock : Unique clock.configure_clock.Kinds.ps clock.configure_clock.Kinds.r clock.configure_clock.Reads.Learnt
+clock-configure-clock = determined _ λ _ _ _ p i. listed toProgress (p .same i)
+
+clock-clock-delay : Unique clock.clock_delay.Kinds.ps clock.clock_delay.Kinds.r clock.clock_delay.Reads.Learnt
+clock-clock-delay = determined _ λ _ _ _ p i. listed toProgress (p [] .same i)
+
+command-command-inner : Unique command.command_inner.Kinds.ps command.command_inner.Kinds.r command.command_inner.Reads.Learnt
+command-command-inner = determined _ λ _ _ _ p i. listed toWords (on p i)
+
+command-command : Unique command.command.Kinds.ps command.command.Kinds.r command.command.Reads.Learnt
+command-command = determined _ λ _ _ _ p i. listed toWords (on p i)
+
+command-send : Unique command.send.Kinds.ps command.send.Kinds.r command.send.Reads.Learnt
+command-send = determined _ λ _ _ _ p i. listed toWords (p .same i)
+
+command-app-command : Unique command.app_command.Kinds.ps command.app_command.Kinds.r command.app_command.Reads.Learnt
+command-app-command = determined _ λ _ _ _ p i. listed toProgress (p .same i)
+
+poll-data-complete : Unique poll.data_complete.Kinds.ps poll.data_complete.Kinds.r poll.data_complete.Reads.Learnt
+poll-data-complete = determined _ λ _ _ _ p i. toFlag (on-any p i)
+
+poll-wait-data : Unique poll.wait_data.Kinds.ps poll.wait_data.Kinds.r poll.wait_data.Reads.Learnt
+poll-wait-data = determined _ λ _ _ _ p i. toProgress (on-any p i)
+
+ready-retry-delay : Unique ready.retry_delay.Kinds.ps ready.retry_delay.Kinds.r ready.retry_delay.Reads.Learnt
+ready-retry-delay = determined _ λ _ _ _ p i. listed toProgress (p [] .same i)
+
+ready-read-status : Unique ready.read_status.Kinds.ps ready.read_status.Kinds.r ready.read_status.Reads.Learnt
+ready-read-status = determined _ λ _ _ _ p i. listed toWord (p .same i)
+
+ready-wait-ready : Unique ready.wait_ready.Kinds.ps ready.wait_ready.Kinds.r ready.wait_ready.Reads.Learnt
+ready-wait-ready = determined _ λ _ _ _ p i. listed toProgress (p .same i)
+
+response-response-form : Unique response.Response.form.Kinds.ps response.Response.form.Kinds.r response.Response.form.Reads.Learnt
+response-response-form = determined _ λ _ _ _ p. p
+
+response-give-words : Unique response.give_words.Kinds.ps response.give_words.Kinds.r response.give_words.Reads.Learnt
+response-give-words = determined _ λ _ _ _ p i. toWords (p [] [] .same i)
+
+transfer-start-data : Unique transfer.start_data.Kinds.ps transfer.start_data.Kinds.r transfer.start_data.Reads.Learnt
+transfer-start-data = determined _ λ _ _ _ p i. listed toProgress (p .same i)
+
+-- An exception: what it gives are data words of the script. What they are is promised, and not where they lie.
+
+transfer-blocking-data : UniqueIn transfer.blocking_data.Kinds.ps transfer.blocking_data.Kinds.r transfer.blocking_data.Reads.Learnt
+    (λ _ a x. dataIn (x .0) (a .1 .0 .now) (x .1 .1 .1 .0))
+transfer-blocking-data = part-determined _ λ _ _ x p. data-same (x .0) p
+
+-- so a call that has stopped may give its no words at every place k
+blocking-no-data : (κs : Lfts 2) (a : Dens κs transfer.blocking_data.Kinds.ps) (h : Halt) (k : ℕ) → a .0 .pace ≡ Stopped h
+    → Allows transfer.blocking_data.Kinds.ps transfer.blocking_data.Kinds.r transfer.blocking_data.Reads.Learnt κs a
+    (record { progress = a .0; place = k; count = 0 }, (tt, (tt, (a .1 .1 .0 .now, (tt, (tt, (tt, (tt, tt))))))))
+blocking-no-data κs a h k q = from-stopped q

@@ -1,0 +1,16 @@
+pub mod Bench
+pub mod Book
+pub mod Boundary
+pub mod Bus
+pub mod Desk
+pub mod Determined
+pub mod Host
+pub mod Init
+pub mod Meter
+pub mod Reader
+pub mod Report
+pub mod Steps
+pub mod Tape
+pub mod Text
+pub mod Types
+pub mod Wordtext

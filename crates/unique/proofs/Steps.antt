@@ -1,0 +1,60 @@
+-- Steps of a call. Their contracts say what they do on every script, of which one is enough.
+use Prim.Native.Nat.{ℕ, zero, suc}
+use mathlib.Core.Bool.{Bool}
+use mathlib.Core.List.{List, [], _∷_}
+use mathlib.Core.Path.{_≡_, refl}
+use lib.ListN.{take, drop}
+use Rattle.tape.specs.declared.progress.Flag.{Flag}
+use Rattle.tape.specs.declared.progress.Progress.{Progress}
+use Rattle.tape.specs.declared.progress.Word.{Word}
+use Rattle.tape.specs.declared.script.Data.{Data}
+use Rattle.tape.specs.Plan.{Plan}
+use Rattle.tape.specs.Run.{State, at, After, does, Behind, Gave}
+
+-- some script of which r lies behind its first n words
+pub behind : ℕ → List ℕ → List ℕ
+behind zero r = r
+behind (suc n) r = 0 ∷ behind n r
+
+is-behind : (n : ℕ) (r : List ℕ) → Behind n r (behind n r)
+unfolding behind
+is-behind zero r = record { part = refl }
+is-behind (suc n) r = record { part = is-behind n r .part }
+
+-- a step that reads and writes
+pub on : {n : ℕ} {r : List ℕ} {A : Type 0} {d : A} {p : Plan A} {w : State} {v : A} {w′ : State}
+    → ((s : List ℕ) → Behind n r s → Gave s A d p w v w′) → record { value = v; state = w′ } ≡ does (behind n r) d p w
+on {n} {r} e = e (behind n r) (is-behind n r) .same
+
+-- a step that only reads leaves every row list as it is
+pub on-any : {n : ℕ} {r : List ℕ} {A : Type 0} {d : A} {p : Plan A} {a b : Progress} {v : A}
+    → ((s l : List ℕ) → Behind n r s → Gave s A d p (at a l) v (at b l))
+    → record { value = v; state = at b [] } ≡ does (behind n r) d p (at a [])
+on-any {n} {r} e = e (behind n r) [] (is-behind n r) .same
+
+-- A step's result, and what it left in the row list, from what its plan comes to.
+
+abbrev pub toProgress : {A : Type 0} → After A → Progress
+toProgress x = x .state .progress
+
+abbrev pub toWord : After ℕ → Word
+toWord x = record { progress = x .state .progress; word = x .value }
+
+abbrev pub toFlag : After Bool → Flag
+toFlag x = record { progress = x .state .progress; flag = x .value }
+
+abbrev pub listed : {A Z : Type 0} → (After A → Z) → After A → List ℕ × Z
+listed result x = (x .state .list, result x)
+
+-- the data words that a step gives, on a script, with its progress and the row list
+abbrev pub dataIn : Data → List ℕ → List ℕ → After (List ℕ)
+dataIn r s l = record { value = take (r .count) (drop (r .place) s); state = at (r .progress) l }
+
+-- the same where r lies behind the first n words
+abbrev pub dataBehind : (n : ℕ) (r : List ℕ) → Data → (s l : List ℕ) → Behind n r s → After (List ℕ)
+dataBehind n r x s l part = dataIn x s l
+
+-- they are what its plan gives
+pub data-same : {s l : List ℕ} {p : Plan (List ℕ)} {w : State} (r : Data)
+    → Gave s (List ℕ) [] p w (take (r .count) (drop (r .place) s)) (at (r .progress) l) → dataIn r s l ≡ does s [] p w
+data-same r e = e .same

@@ -1,0 +1,39 @@
+//! Scripts of a good card, written out: every wait but those that are asked for ends at its first reading.
+
+/// A command that is idle and complete at once, with its echo and first word.
+pub fn short(index: u32, word: u32) -> Vec<u32> {
+    vec![0, 0x40, index, word, 0, 0, 0]
+}
+
+/// The same without an echo: R2 and R3.
+pub fn long(words: [u32; 4]) -> Vec<u32> {
+    [vec![0, 0x40], words.to_vec()].concat()
+}
+
+/// The idle wait of a data phase, its command, the poll that completes and the words.
+pub fn data(index: u32, words: &[u32]) -> Vec<u32> {
+    [vec![0], short(index, 0), vec![0, 0, 0x100, 0, 0], words.to_vec()].concat()
+}
+
+/// The initialisation of a card of high capacity, version 0, which has both bus widths and no switch: its CSD's size field
+/// says how many times 1,024 blocks there are, less one.
+pub fn initialisation(size: u32) -> Vec<u32> {
+    [
+        vec![0, 0, 0x80],
+        short(8, 0x1aa),
+        short(55, 0x20),
+        long([0xc030_0000, 0, 0, 0]),
+        long([1, 2, 3, 4]),
+        short(3, 0x1234_0000),
+        long([0x4000_0032, 0x0009_0000, size << 16, 0]),
+        short(7, 0),
+        short(13, 0x900),
+        short(55, 0x20),
+        data(51, &[0x0000_0500, 0]),
+        short(13, 0x900),
+        short(55, 0x20),
+        short(6, 0),
+        vec![0],
+    ]
+    .concat()
+}

@@ -1,0 +1,75 @@
+//! The proved host, linked in: `crates/meter`.
+
+use oracle_driver::{Call, Settings};
+
+extern "C" {
+    fn boresacu_meter_calls(
+        words: *const u32,
+        words_len: usize,
+        rows: *mut u32,
+        rows_len: usize,
+        buffer: *mut u8,
+        buffer_len: usize,
+    ) -> u64;
+    fn boresacu_meter_book(bytes: *const u8, bytes_len: usize, out: *mut u8, out_len: usize) -> usize;
+}
+
+/// What the last call of a list came to.
+#[derive(Clone, Copy, Debug, Eq, PartialEq)]
+pub struct Told {
+    pub answer: u8,
+    pub rows: usize,
+    pub words: usize,
+}
+
+/// Makes the host of a list and serves its calls, in this row list and buffer; a read fills all of the buffer.
+pub fn calls(list: &[u32], rows: &mut [u32], buffer: &mut [u8]) -> Told {
+    // SAFETY: each pointer comes with its length, and the last two slices are lent for the call alone.
+    let told = unsafe {
+        boresacu_meter_calls(
+            list.as_ptr(),
+            list.len(),
+            rows.as_mut_ptr(),
+            rows.len(),
+            buffer.as_mut_ptr(),
+            buffer.len(),
+        )
+    };
+    Told {
+        answer: (told >> 56) as u8,
+        rows: (told >> 32 & 0xff_ffff) as usize,
+        words: (told & 0xffff_ffff) as usize,
+    }
+}
+
+/// What is printed of a file's bytes as a book: the part of `out` that it fills.
+pub fn book<'a>(bytes: &[u8], out: &'a mut [u8]) -> &'a [u8] {
+    // SAFETY: as above.
+    let length = unsafe { boresacu_meter_book(bytes.as_ptr(), bytes.len(), out.as_mut_ptr(), out.len()) };
+    &out[..length]
+}
+
+/// Words laid out as a book's, however many.
+pub fn list(settings: &Settings, calls: &[(Call, &[u32])]) -> Vec<u32> {
+    let mut words = vec![
+        settings.source,
+        settings.poll_limit,
+        u32::from(settings.ready_attempts),
+        settings.data_timeout,
+        settings.software_timeout,
+        u32::from(settings.bypass) + 2 * u32::from(settings.wide),
+        calls.len() as u32,
+    ];
+    for (call, script) in calls {
+        let (kind, a, b) = match *call {
+            Call::Initialise { frequency } => (1, frequency, 0),
+            Call::Read { index, blocks } => (2, index, blocks as u32),
+            Call::Status => (3, 0, 0),
+        };
+        words.extend([kind, a, b, script.len() as u32]);
+    }
+    for (_, script) in calls {
+        words.extend_from_slice(script);
+    }
+    words
+}
