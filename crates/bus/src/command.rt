@@ -164,9 +164,17 @@ pub fn command_inner(
     requires { ⌜ p .used + length (now rest) < 2 ^ 64 ⌝ }
     ensures { λ r. ⌜ ((s : List ℕ) → Behind (p .used) (now (rest .entry)) s → Gave s (List ℕ) zeros (commandInner limit index argument response) (at p (now (rows .entry))) (r .words) (at (r .progress) (now (rows .exit)))) ⌝ }
 {
+    let pace = p.pace;
+    let Pace::Going = pace else {
+        return Words {
+            progress: p,
+            words: [0; 4],
+        };
+    };
     let start = p.used;
     let form = response.form();
-    let idle = steps::wait_idle(p, rest, limit, false);
+    let going = p.resumed(); // as it was, but no step of the command has a refusal to carry along
+    let idle = steps::wait_idle(going, rest, limit, false);
     let issued = issue(idle, rows, index, argument, form);
     complete(issued, rest, start, limit, index, form)
 }

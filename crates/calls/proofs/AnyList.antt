@@ -28,9 +28,9 @@ use Rattle.bus.specs.Ready.{waitReady}
 use Rattle.init.specs.declared.settings.Settings.{Settings}
 use Rattle.init.specs.Initialise as I
 use Rattle.init.specs.Initialise.{sourceOf, limitOf, noCard}
-use Rattle.host.proofs.InitRefusals.{found-zero}
-use Rattle.host.proofs.Untouched.{read-16, status-16}
-use Rattle.host.proofs.Leaves.{Leaves, initialise-leaves, read-leaves, status-leaves}
+use Rattle.refusals.proofs.InitRefusals.{found-zero}
+use Rattle.refusals.proofs.Untouched.{read-16, status-16}
+use Rattle.refusals.proofs.Leaves.{Leaves, initialise-leaves, read-leaves, status-leaves}
 use Rattle.host.specs.declared.host.Held.{Held}
 use Rattle.host.specs.declared.host.Sdmmc.{Sdmmc}
 use Rattle.host.specs.Calls.{Came, freshLine, hostOf, heldOf, holding, dropped, kept, ends, untouched, withStatus, initialised, initFrom}

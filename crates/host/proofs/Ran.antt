@@ -54,6 +54,22 @@ ends-taken host refused accepted words (Stopped (Refused x)) w e = sym e
 ends-taken host refused accepted words (Stopped ScriptEnded) w e = sym e
 ends-taken host refused accepted words (Stopped TraceFull) w e = sym e
 
+-- of the two next hosts that are named, only one is asked for
+pub none-refused : (host refused refused′ accepted : Sdmmc) (words : List ℕ) (q : Pace) (w : State) → q ≡ Going
+    → ends host refused accepted words q w ≡ ends host refused′ accepted words q w
+unfolding ends
+none-refused host refused refused′ accepted words q w going = rw going
+
+pub none-accepted : (host refused accepted accepted′ : Sdmmc) (words : List ℕ) (q : Pace) (h : Halt) (w : State) → q ≡ Stopped h
+    → ends host refused accepted words q w ≡ ends host refused accepted′ words q w
+unfolding ends
+none-accepted host refused accepted accepted′ words q h w stopped = rw stopped (by h)
+  where
+    by : (h : Halt) → ends host refused accepted words (Stopped h) w ≡ ends host refused accepted′ words (Stopped h) w
+    by (Refused e) = refl
+    by ScriptEnded = refl
+    by TraceFull = refl
+
 pub kept-none : (q : Pace) → _≡_ {A = List ℕ} [] (keptAt [] [] q)
 unfolding keptAt
 kept-none Going = refl

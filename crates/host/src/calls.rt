@@ -8,7 +8,7 @@ ghost use lib.ListN.{length};
 ghost use Rattle.types.specs.declared.card.AddressAnswer.the-variants as Address;
 ghost use Rattle.types.specs.declared.clock.ClockAnswer.the-variants as Clocked;
 ghost use Rattle.tape.specs.Run.{at};
-ghost use Rattle.host.specs.Calls.{calledOf, kept, ends, initFrom, initialised, readTransfer, readData, readFrom, readKnown, readCame, bufferOf, withStatus, statusData, statusFrom, statusCame};
+ghost use Rattle.host.specs.Calls.{calledOf, hostOf, kept, dropped, ends, initFrom, initialised, readTransfer, readData, readFrom, readKnown, readCame, bufferOf, withStatus, statusData, statusFrom, statusCame};
 use crate::blocks;
 use crate::host;
 use crate::host::Called;
@@ -36,21 +36,9 @@ use types::words;
 fn with_status(card: Card, status: [u32; 16]) -> Card
     ensures { λ r. ⌜ r ≡ withStatus card status ⌝ }
 {
-    let card_type = card.card_type;
-    let cid = card.cid;
-    let csd = card.csd;
-    let scr = card.scr;
-    let block_count = card.block_count;
-    Card {
-        card_type: card_type,
-        ocr: card.ocr,
-        rca: card.rca,
-        cid: cid,
-        csd: csd,
-        scr: scr,
-        status: status,
-        block_count: block_count,
-    }
+    let mut read = card;
+    read.status = status;
+    read
 }
 
 // CMD17 for one block, CMD18 for more.
@@ -74,6 +62,21 @@ fn read_transfer(address: u32, blocks: u16) -> Transfer
 }
 
 impl Sdmmc {
+    // How a call ends that began with the card itself: with this record if it was accepted, with none if it was refused. A
+    // host is copied, so only the one that is next is made.
+    fn ends_with(self, p: Progress, known: bool, card: Card) -> Called
+        ensures { λ r. ⌜ ((words l : List ℕ) → r ≡ calledOf (ends self (dropped self (at p l)) (hostOf (self .settings) (p .line) known card) words (p .pace) (at p l))) ⌝ }
+    {
+        let line = p.line;
+        let pace = p.pace;
+        let Pace::Going = pace else {
+            let none = self.with(line, false, identify::no_card());
+            return self.ends(p, none, self);
+        };
+        let next = self.with(line, known, card);
+        self.ends(p, self, next)
+    }
+
     // An initialisation with this clock of identification.
     fn init_from(self, script: &[u32], rows: &mut [u32], frequency: Hertz, initial: Clock) -> Called
         ensures answered { λ r. ⌜ r ≡ calledOf (initFrom self (frequency .0) (Clocked.Set initial) (now (script .entry)) (now (rows .entry))) ⌝ }
@@ -83,12 +86,8 @@ impl Sdmmc {
         let clock = initial.frequency;
         let begun = host::start(host::fresh_line(clock));
         let done = card::initialise(begun, script, rows, settings, initial, frequency);
-        let progress = done.progress;
-        let line = progress.line;
         let found = done.card;
-        let refused = self.with(line, false, identify::no_card());
-        let accepted = self.with(line, true, found);
-        self.ends(progress, refused, accepted)
+        self.ends_with(done.progress, true, found)
     }
 
     // Initialises the card: its record, and the clock and signalling for it.
@@ -137,12 +136,8 @@ impl Sdmmc {
             words: 16,
         };
         let read = transfer::blocking_data(p, script, rows, source, config, asked, card.rca);
-        let progress = read.progress;
-        let line = progress.line;
         let status = words::sd_status(lent::sixteen(script, read.place, read.count));
-        let refused = self.with(line, false, identify::no_card());
-        let accepted = self.with(line, true, with_status(card, status));
-        self.ends(progress, refused, accepted)
+        self.ends_with(read.progress, true, with_status(card, status))
     }
 
     // A status call on a host that has a card.
@@ -193,13 +188,9 @@ impl Sdmmc {
         let card = self.card;
         let asked = read_transfer(address, blocks);
         let read = transfer::blocking_data(p, script, rows, source, config, asked, card.rca);
-        let progress = read.progress;
-        let line = progress.line;
         let words = blocks::part(script, read.place, read.count);
         blocks::fill_blocks(buffer, words);
-        let refused = self.with(line, false, identify::no_card());
-        let accepted = self.with(line, self.known, card);
-        self.ends(progress, refused, accepted)
+        self.ends_with(read.progress, self.known, card)
     }
 
     // A read from an address that was judged, of so many blocks.

@@ -87,21 +87,9 @@ fn read_scr(
 fn with_scr(card: Card, scr: Scr) -> Card
     ensures { λ r. ⌜ r ≡ withScr card (scr .0) ⌝ }
 {
-    let card_type = card.card_type;
-    let cid = card.cid;
-    let csd = card.csd;
-    let status = card.status;
-    let block_count = card.block_count;
-    Card {
-        card_type: card_type,
-        ocr: card.ocr,
-        rca: card.rca,
-        cid: cid,
-        csd: csd,
-        scr: scr,
-        status: status,
-        block_count: block_count,
-    }
+    let mut found = card;
+    found.scr = scr;
+    found
 }
 
 // What follows identification: the SCR, the bus width, the clock, the signalling.

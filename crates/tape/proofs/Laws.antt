@@ -18,8 +18,9 @@ use Rattle.tape.specs.declared.progress.Progress.{Progress}
 use Rattle.tape.specs.Plan.{Nothing, Cause, failed, ended, Plan, give, refuse, read, write, look, hold, handle, _then_}
 use Rattle.tape.specs.Plan.{refusing, guard}
 use Rattle.tape.specs.Rows.{rowAt, roomOf}
-use Rattle.tape.specs.Run.{State, at, After, stopped, noted, keptAt, run, runFrom, doesAt, does, nextAt, next}
+use Rattle.tape.specs.Run.{State, at, After, stopped, noted, keptAt, overAt, run, runFrom, doesAt, does, nextAt, next}
 use Rattle.tape.specs.Run.{Behind, Gave, Did, Settled}
+use Rattle.tape.proofs.Behind.{some-script}
 
 -- a test before a function is a test inside it
 by-test : {X Y : Type 0} (g : X → Y) (b : Bool) {x y : X} {z z′ : Y} → z ≡ g x → z′ ≡ g y → cond b z z′ ≡ g (cond b x y)
@@ -148,19 +149,14 @@ dry {A} {d} {p} {w} {v} {w′} e = ap (λ (x : After A). x .state .progress .use
     by Going = run-dry d p (w .progress .used) (w .progress .rows) (w .progress .line) (w .list)
     by (Stopped x) = refl
 
--- some script of which r lies behind its first n words
-behind : ℕ → List ℕ → List ℕ
-behind zero r = r
-behind (suc n) r = 0 ∷ behind n r
+-- a call that is going, and is said to go on
+pub still-going : {p r : Progress} → p .pace ≡ Going → r ≡ record { pace = Going; used = p .used; rows = p .rows; line = p .line } → r ≡ p
+still-going {p} going e = e ∙ ap (λ (x : Pace). record { pace = x; used = p .used; rows = p .rows; line = p .line }) (sym going)
 
-is-behind : (n : ℕ) (r : List ℕ) → Behind n r (behind n r)
-unfolding behind
-is-behind zero r = record { part = refl }
-is-behind (suc n) r = record { part = is-behind n r .part }
-
--- what holds of every script of which r lies behind the first n words holds: there is one
-pub some-script : {P : Type 0} (n : ℕ) (r : List ℕ) → ((s : List ℕ) → Behind n r s → P) → P
-some-script n r e = e (behind n r) (is-behind n r)
+pub not-over : (a : Pace) (b : Bool) → overAt a b ≡ false → a ≡ Going
+unfolding overAt
+not-over Going b e = refl
+not-over (Stopped x) b e = cc
 
 -- a step that reads what lies behind the first n words says what it does on every such script
 pub read-on : {n : ℕ} {r : List ℕ} {A : Type 0} {d : A} {p : Plan A} {a b : Progress} {v : A}

@@ -1,3 +1,4 @@
+pub mod Behind
 pub mod Laws
 pub mod Loops
 pub mod Room

@@ -11,7 +11,8 @@ use Rattle.tape.specs.declared.progress.Pace.the-variants.{Going, Stoppe
 use Rattle.tape.specs.declared.progress.Progress.{Progress}
 use Rattle.tape.specs.Plan.{Plan, give, fail, until}
 use Rattle.tape.specs.Run.{State, at, keptAt, overAt, run, Behind, Gave}
-use Rattle.tape.proofs.Laws.{from-going, from-stopped, grows, kept, bind, some-script}
+use Rattle.tape.proofs.Behind.{some-script}
+use Rattle.tape.proofs.Laws.{from-going, from-stopped, grows, kept, bind}
 
 -- After i turns w has become w′, and what is left to do is what was to do: whatever ends the turns that are left ends
 -- them all.

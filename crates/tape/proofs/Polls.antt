@@ -6,7 +6,7 @@ use mathlib.Core.List.{List, [], _∷_}
 use native.Mathlib.Nat.{sub-zero, zero-add, add-zero}
 use native.Mathlib.Omega.{arith}
 use lib.ListN.{length, getD, drop, length-drop}
-use lib.Seq.{drop-cons, getD-drop}
+use lib.Seq.{drop-cons}
 use lib.Dec.{ltb}
 use borrow.Author.Tests.{lt-ltb, ltb-true}
 use Rattle.tape.specs.declared.progress.Pace.{Pace}
@@ -17,6 +17,7 @@ use Rattle.tape.specs.Plan.{Plan}
 use Rattle.tape.specs.Polls.{leading}
 use Rattle.tape.specs.Run.{State, at, After, overAt, run, doesAt, Behind, Gave}
 use Rattle.tape.specs.Steps.{word}
+use Rattle.tape.proofs.Behind.{at-place, in-place}
 use Rattle.tape.proofs.Laws.{from-going}
 use Rattle.tape.proofs.Loops.{Turned, no-turn, next-turn}
 
@@ -133,17 +134,6 @@ read-over kind enough {s} {l} {q} {v} {w} going is e =
     by (Stopped x) g b t = cc
     by Going g true t = rw (t, is (ltb-true _ _ t))
     by Going g false t = rw t
-
--- The words behind the first n of a script, by their places in it.
-module _ {n : ℕ} {rest s : List ℕ} (part : Behind n rest s) where
-  pub at-place : (i : ℕ) → getD s (n + i) 0 ≡ getD rest i 0
-  at-place i = sym (getD-drop n s i 0) ∙ sym (ap (λ (x : List ℕ). getD x i 0) (part .part))
-
-  pub in-place : (i : ℕ) → i < length rest → n + i < length s
-  in-place i h = omega (arith, h, ap length (part .part), length-drop n s)
-
-  pub out-of-place : (i : ℕ) → n + i < length s → i < length rest
-  out-of-place i h = omega (arith, h, ap length (part .part), length-drop n s)
 
 -- readings of one word, as many as lead
 pub read-turns : (kind : Reading) (like enough : ℕ → Bool) (limit : ℕ) {rest s l : List ℕ} {p : Progress} → p .pace ≡ Going → Behind (p .used) rest s

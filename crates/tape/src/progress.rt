@@ -57,18 +57,11 @@ impl Line {
     pub fn noted(self, register: u32, value: u32) -> Line
         ensures { λ r. ⌜ r ≡ noted (record { register = register; value = value }) self ⌝ }
     {
-        let clock = self.clock;
-        let signalling = self.signalling;
+        let mut line = self;
         if register == Row::CLKCR {
-            Line {
-                clkcr: value,
-                gated: self.gated,
-                clock: clock,
-                signalling: signalling,
-            }
-        } else {
-            self
+            line.clkcr = value;
         }
+        line
     }
 }
 

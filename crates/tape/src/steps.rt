@@ -101,29 +101,18 @@ pub fn close(p: Progress, rows: &mut [u32]) -> Progress
 pub fn hold_gated(p: Progress, gated: bool) -> Progress
     ensures { λ r. ⌜ ((s l : List ℕ) → Did s (holdGated gated) (at p l) (at r l)) ⌝ }
 {
-    let line = p.line;
-    let clock = line.clock;
-    let signalling = line.signalling;
-    p.holding(Line {
-        clkcr: line.clkcr,
-        gated: gated,
-        clock: clock,
-        signalling: signalling,
-    })
+    let mut line = p.line;
+    line.gated = gated;
+    p.holding(line)
 }
 
 // The card clock's frequency from here on.
 pub fn hold_clock(p: Progress, clock: Hertz) -> Progress
     ensures { λ r. ⌜ ((s l : List ℕ) → Did s (holdClock clock) (at p l) (at r l)) ⌝ }
 {
-    let line = p.line;
-    let signalling = line.signalling;
-    p.holding(Line {
-        clkcr: line.clkcr,
-        gated: line.gated,
-        clock: clock,
-        signalling: signalling,
-    })
+    let mut line = p.line;
+    line.clock = clock;
+    p.holding(line)
 }
 
 // The signalling from here on.

@@ -1,8 +1,8 @@
 -- Steps of a call. Their contracts say what they do on every script, of which one is enough.
-use Prim.Native.Nat.{ℕ, zero, suc}
+use Prim.Native.Nat.{ℕ}
 use mathlib.Core.Bool.{Bool}
-use mathlib.Core.List.{List, [], _∷_}
-use mathlib.Core.Path.{_≡_, refl}
+use mathlib.Core.List.{List, []}
+use mathlib.Core.Path.{_≡_}
 use lib.ListN.{take, drop}
 use Rattle.tape.specs.declared.progress.Flag.{Flag}
 use Rattle.tape.specs.declared.progress.Progress.{Progress}
@@ -10,16 +10,7 @@ use Rattle.tape.specs.declared.progress.Word.{Word}
 use Rattle.tape.specs.declared.script.Data.{Data}
 use Rattle.tape.specs.Plan.{Plan}
 use Rattle.tape.specs.Run.{State, at, After, does, Behind, Gave}
-
--- some script of which r lies behind its first n words
-pub behind : ℕ → List ℕ → List ℕ
-behind zero r = r
-behind (suc n) r = 0 ∷ behind n r
-
-is-behind : (n : ℕ) (r : List ℕ) → Behind n r (behind n r)
-unfolding behind
-is-behind zero r = record { part = refl }
-is-behind (suc n) r = record { part = is-behind n r .part }
+use Rattle.tape.proofs.Behind.{behind, is-behind}
 
 -- a step that reads and writes
 pub on : {n : ℕ} {r : List ℕ} {A : Type 0} {d : A} {p : Plan A} {w : State} {v : A} {w′ : State}

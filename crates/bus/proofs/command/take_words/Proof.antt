@@ -4,7 +4,7 @@ use mathlib.Core.List.{List, [], _∷_}
 use mathlib.Core.Path.{_≡_, refl, sym, ap, _∙_}
 use native.Mathlib.Omega.{arith}
 use lib.Dec.{ltb}
-use lib.ListN.{length, getD, length-drop}
+use lib.ListN.{length, getD}
 use borrow.Author.Tests.{lt-ltb, le-ltb, ltb-true, ltb-false}
 use Rattle.tape.specs.declared.progress.Line.{Line}
 use Rattle.tape.specs.declared.progress.Pace.{Pace}
@@ -13,7 +13,7 @@ use Rattle.tape.specs.declared.progress.Progress.{Progress}
 use Rattle.tape.specs.Plan.{give, handle}
 use Rattle.tape.specs.Run.{State, at, After, run, doesAt, does, Behind, Gave}
 use Rattle.tape.specs.Steps.{word, dataFrom, dataWords}
-use Rattle.tape.proofs.Polls.{at-place, in-place}
+use Rattle.tape.proofs.Behind.{long, at-place, at-used}
 use Rattle.bus.specs.Command.{zeros, responseWords}
 use borrow.Author.Needs.{needs}
 use Rattle.bus.proofs.command.take_words.Statement.{statement}
@@ -39,27 +39,19 @@ module _ (s : List ℕ) (u n : ℕ) (h : Line) (l : List ℕ) where
       by true e true e₁ true e₂ false e₃ = rw (e, e₁, e₂, e₃)
       by true e true e₁ true e₂ true e₃ = rw (e, e₁, e₂, e₃, rw e₃ at are)
 
--- the words behind the first m of a script, by their places in it
-module _ {m u : ℕ} {rest s : List ℕ} (part : Behind m rest s) (h : m ≤ u) where
+-- the words behind the first m of a script, from the place of a call in it
+module _ {m u : ℕ} {rest s : List ℕ} (part : Behind m rest s) (after : m ≤ u) where
   placed : (i : ℕ) → getD rest (u - m + i) 0 ≡ getD s (u + i) 0
   placed i =
       let place : m + (u - m + i) ≡ u + i = omega arith in
       sym (at-place part (u - m + i)) ∙ ap (λ (k : ℕ). getD s k 0) place
 
-  first-placed : getD rest (u - m) 0 ≡ getD s u 0
-  first-placed =
-      let place : m + (u - m) ≡ u = omega arith in
-      sym (at-place part (u - m)) ∙ ap (λ (k : ℕ). getD s k 0) place
-
   there : ltb (u - m + 3) (length rest) ≡ ltb (u + 3) (length s)
   there = by (ltb (u + 3) (length s)) refl
     where
-      long : length rest ≡ length s - m
-      long = ap length (part .part) ∙ length-drop m s
-
       by : (b : Bool) → ltb (u + 3) (length s) ≡ b → ltb (u - m + 3) (length rest) ≡ b
-      by true e = let below = ltb-true (u + 3) (length s) e in lt-ltb (u - m + 3) (length rest) (omega (arith, below, long, h))
-      by false e = let over = ltb-false (u + 3) (length s) e in le-ltb (u - m + 3) (length rest) (omega (arith, over, long, h))
+      by true e = let below = ltb-true (u + 3) (length s) e in lt-ltb (u - m + 3) (length rest) (omega (arith, below, long part, after))
+      by false e = let over = ltb-false (u + 3) (length s) e in le-ltb (u - m + 3) (length rest) (omega (arith, over, long part, after))
 
   four-placed : (k n : ℕ) (h : Line) (l : List ℕ) → k ≡ u - m
       → cond (ltb (k + 3) (length rest)) (getD rest k 0 ∷ getD rest (k + 1) 0 ∷ getD rest (k + 2) 0 ∷ getD rest (k + 3) 0 ∷ []) zeros
@@ -68,7 +60,7 @@ module _ {m u : ℕ} {rest s : List ℕ} (part : Behind m rest s) (h : m ≤ u) 
   four-placed k n h l e =
       let two : u + 1 + 1 ≡ u + 2 = omega arith in
       let three : u + 1 + 1 + 1 ≡ u + 3 = omega arith in
-      rw (e, there, first-placed, placed 1, placed 2, placed 3, three, two)
+      rw (e, there, sym (at-used part after), placed 1, placed 2, placed 3, three, two)
 
 -- what was taken, and what is given of it
 joined : {s l : List ℕ} {p q r : Progress} {words taken v : List ℕ}

@@ -4,8 +4,7 @@ use mathlib.Core.List.{List}
 use mathlib.Core.Path.{_≡_, refl, sym, ap, _∙_}
 use native.Mathlib.Omega.{arith}
 use lib.Dec.{ltb}
-use lib.ListN.{length, getD, drop, length-drop}
-use lib.Seq.{drop-drop}
+use lib.ListN.{length, getD}
 use borrow.Author.Tests.{ltb-true}
 use Rattle.types.specs.declared.error.Error.the-variants as E
 use Rattle.types.specs.Bits.{clear}
@@ -17,9 +16,10 @@ use Rattle.tape.specs.Plan.{give, fail, handle, ensure, until, _then_}
 use Rattle.tape.specs.Polls.{leading}
 use Rattle.tape.specs.Run.{State, at, After, overAt, run, doesAt, Behind, Did, Gave}
 use Rattle.tape.specs.Steps.{word}
+use Rattle.tape.proofs.Behind.{long, at-place, in-place, out-of-place, further}
 use Rattle.tape.proofs.Laws.{bind, refusal, from-going, from-stopped}
 use Rattle.tape.proofs.Loops.{Turned, last-turn, out-of-turns}
-use Rattle.tape.proofs.Polls.{on, counted-within, leads-within, leads, leads-to, skipped, reads, at-place, in-place, out-of-place}
+use Rattle.tape.proofs.Polls.{on, counted-within, leads-within, leads, leads-to, skipped, reads}
 use Rattle.bus.specs.Command.{pollCompletion, waitCompletion}
 use borrow.Author.Needs.{needs}
 use Rattle.bus.proofs.command.wait_completion.Statement.{statement}
@@ -89,12 +89,6 @@ module _ (mask limit : ℕ) {left s : List ℕ} {p q : Progress} {n : ℕ} (goin
       → Gave s ℕ 0 (until limit (λ w. not (clear mask w)) pollCompletion) (at p l) 0 (at r l)
   spent out e = out-of-turns turns out (refusal e)
 
--- what is left of what is left
-further : {n u : ℕ} {r r′ s : List ℕ} → n ≤ u → Behind (u - n) r′ r → Behind n r s → Behind u r′ s
-further {n} {u} {r} {r′} {s} h inner outer =
-    let place : n + (u - n) ≡ u = omega arith in
-    record { part = inner .part ∙ ap (drop (u - n)) (outer .part) ∙ drop-drop (u - n) n s ∙ ap (λ (k : ℕ). drop k s) place }
-
 returns : tie.Need-returns
 unfolding waitCompletion
 returns c = λ s l part. from-stopped (c .enum-told2 .given .1)
@@ -103,7 +97,7 @@ moved-requires : tie.Need-moved-requires
 moved-requires c κs =
     let rest = c .before in
     let start = rest .before .before .before .before .before in
-    let part = ap length (rest .rest .ensures .0 .part) ∙ length-drop (start .args .p .used - start .args .start) (start .args .rest .now) in
+    let part = long (rest .rest .ensures .0) in
     omega (arith, counted-within _ (start .args .limit) (rest .rest .result .now) (c .quiet .ensures), part, start .pre, start .good)
 
 poll-completion-requires : tie.Need-poll-completion-requires
@@ -120,7 +114,7 @@ returns-2 c =
     let rest = quiet .before in
     let start = rest .before .before .before .before .before in
     λ s l part.
-    found _ (start .args .limit) (rest .before .before .enum-told .given .1) (further (start .pre .0) (rest .rest .ensures .0) part)
+    found _ (start .args .limit) (rest .before .before .enum-told .given .1) (further part (start .pre .0) (rest .rest .ensures .0))
     (quiet .quiet .ensures) (moved .moved .ensures) (c .before .if1 .taken) (c .poll-completion .ensures s l part)
 
 returns-3 : tie.Need-returns-3
@@ -131,7 +125,7 @@ returns-3 c =
     let rest = quiet .before in
     let start = rest .before .before .before .before .before in
     λ s l part.
-    spent _ (start .args .limit) (rest .before .before .enum-told .given .1) (further (start .pre .0) (rest .rest .ensures .0) part)
+    spent _ (start .args .limit) (rest .before .before .enum-told .given .1) (further part (start .pre .0) (rest .rest .ensures .0))
     (quiet .quiet .ensures) (moved .moved .ensures) (c .before .if1 .left) (c .refuse .ensures s l)
 
 pub wait-completion-spec : {M : Type 1} → statement M

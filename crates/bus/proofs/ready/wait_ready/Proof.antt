@@ -7,7 +7,7 @@ use native.Mathlib.Omega.{arith}
 use Rattle.tape.specs.declared.progress.Progress.{Progress}
 use Rattle.bus.specs.Ready.{tryReady, waitReady}
 use Rattle.tape.specs.Run.{at}
-use Rattle.tape.proofs.Laws.{refusal, forget}
+use Rattle.tape.proofs.Laws.{refusal, forget, not-over, still-going}
 use Rattle.tape.proofs.Loops.{Turned, no-turn, next-turn, last-turn, out-of-turns}
 use borrow.Author.Needs.{needs}
 use Rattle.bus.proofs.ready.wait_ready.Statement.{statement}
@@ -37,12 +37,13 @@ returns c =
 
 loop-again : tie.Need-loop-again Inv-loop μ-loop
 loop-again c =
-    let over = c .before in
+    let over = c .before .before in
     let tried = over .before .before .before .before in
     let loop = tried .before .before in
+    let on = sym (over .over .ensures) ∙ c .before .if1 .left in
     record {
       room = search needs;
-      turned = next-turn (loop .before .loop .inv .turned) (loop .loop-test .taken) (tried .try-ready .ensures) (sym (over .over .ensures) ∙ c .if1 .left);
+      turned = rw (still-going (not-over _ _ on) (c .resumed .ensures)) (next-turn (loop .before .loop .inv .turned) (loop .loop-test .taken) (tried .try-ready .ensures) on);
     }
 
 returns-2 : tie.Need-returns-2 Inv-loop μ-loop
@@ -55,6 +56,6 @@ pub wait-ready-spec : {M : Type 1} → statement M
 wait-ready-spec =
     tie.close
     (tie.spec Inv-loop μ-loop loop-holds (λ c κs. search needs) (λ c κs. search needs) (λ c. search needs)
-    returns
-    (λ c. omega (arith, c .before .before .before .before .before .before .before .before .before .before .before .good .1 .1 .1 .1 .0))
+    returns (λ c κs. search needs)
+    (λ c. omega (arith, c .before .before .before .before .before .before .before .before .before .before .before .before .good .1 .1 .1 .1 .0))
     (λ c. omega arith) loop-again (λ c κs. search needs) (λ c. search needs) returns-2)

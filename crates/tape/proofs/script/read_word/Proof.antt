@@ -1,33 +1,14 @@
 use borrow.Author.Tests.{le-ltb, lt-ltb}
-use lib.Seq.{getD-drop}
-use lib.ListN.{length, getD, length-drop}
-use mathlib.Core.List.{List}
-use mathlib.Core.Path.{_≡_, ap, sym, _∙_}
-use Prim.Native.Nat.{ℕ, _≤_, _<_, _-_, _+_}
+use mathlib.Core.Path.{sym, _∙_}
 use native.Mathlib.Omega.{arith}
 use Rattle.reader.proofs.Tells.{inside, is-word, outside}
-use Rattle.tape.specs.Run.{Behind, run}
+use Rattle.tape.specs.Run.{run}
 use Rattle.tape.specs.Steps.{word}
+use Rattle.tape.proofs.Behind.{at-used, in-used, past-used}
 use Rattle.tape.proofs.Laws.{from-going, from-stopped}
 use borrow.Author.Needs.{needs}
 use Rattle.tape.proofs.script.read_word.Statement.{statement}
 use Rattle.tape.proofs.script.read_word.Tie as tie
-
--- r lies behind the first n words of s, and u words have been taken of s
-module _ (s r : List ℕ) (n u : ℕ) (left : Behind n r s) (h : n ≤ u) where
-  len : length r ≡ length s - n
-  len = ap length (left .part) ∙ length-drop n s
-
-  behind-end : length r ≤ u - n → length s ≤ u
-  behind-end e = omega (arith, len)
-
-  in-script : u - n < length r → u < length s
-  in-script e = omega (arith, len)
-
-  at-place : getD s u 0 ≡ getD r (u - n) 0
-  at-place =
-      let place : n + (u - n) ≡ u = omega arith in
-      sym (ap (λ (k : ℕ). getD s k 0) place) ∙ sym (getD-drop n s (u - n) 0) ∙ sym (ap (λ (x : List ℕ). getD x (u - n) 0) (left .part))
 
 returns : tie.Need-returns
 returns c = λ kind s l part. from-stopped (c .enum-told2 .given .1)
@@ -41,7 +22,7 @@ returns-2 c =
     let after = going .before .before .before .before .pre .0 in
     let past = outside _ _ (sym (end .enum-told3 .given .1) ∙ found .word .ensures) in
     λ kind s l part. from-going (going .enum-told .given .1)
-    (rw (le-ltb _ _ (behind-end s _ _ _ part after past), c .stopped .ensures))
+    (rw (le-ltb _ _ (past-used part after past), c .stopped .ensures))
 
 -- a word was found, so it lies inside the script, and one word more can be counted
 add-t9 : tie.Need-add-t9
@@ -59,7 +40,7 @@ returns-3 c =
     let after = going .before .before .before .before .pre .0 in
     let same = sym (c .before .found .given .1) ∙ found .word .ensures in
     λ kind s l part. from-going (going .enum-told .given .1)
-    (rw (lt-ltb _ _ (in-script s _ _ _ part after (inside _ _ _ same)), at-place s _ _ _ part after, is-word _ _ _ same))
+    (rw (lt-ltb _ _ (in-used part after (inside _ _ _ same)), at-used part after, is-word _ _ _ same))
 
 pub read-word-spec : {M : Type 1} → statement M
 read-word-spec =

@@ -1,6 +1,5 @@
-use denote.Ref.{now}
 use lib.Seq.{drop-cons}
-use lib.ListN.{length, getD, take, drop, length-drop}
+use lib.ListN.{length, getD, take, drop}
 use mathlib.Core.List.{List, [], _∷_}
 use mathlib.Core.Path.{_≡_, ap, sym, _∙_}
 use Prim.Native.Nat.{ℕ, zero, suc, _≤_, _<_, _-_, _+_}
@@ -13,8 +12,9 @@ use Rattle.tape.specs.declared.progress.Halt.the-variants.{ScriptEnded}
 use Rattle.tape.specs.declared.progress.Line.{Line}
 use Rattle.tape.specs.declared.progress.Pace.the-variants.{Going, Stopped}
 use Rattle.tape.specs.Plan.{give, refuse, handle}
-use Rattle.tape.specs.Run.{After, after, next, nextAt, Behind, run}
+use Rattle.tape.specs.Run.{After, after, next, nextAt, run}
 use Rattle.tape.specs.Steps.{word, dataFrom}
+use Rattle.tape.proofs.Behind.{left-used}
 use Rattle.tape.proofs.Laws.{run-handle, from-going, from-stopped}
 use borrow.Author.Needs.{needs}
 use Rattle.tape.proofs.script.take_data.Statement.{statement}
@@ -57,10 +57,6 @@ module _ (s : List ℕ) where
           let all : u + (length s - u) ≡ u = omega arith in
           rw (le-ltb u (length s) (omega arith), all)
 
--- what is left of r is what is left of s
-same-left : (s r : List ℕ) (n u more : ℕ) → Behind n r s → n ≤ u → more ≡ length r - (u - n) → more ≡ length s - u
-same-left s r n u more part h e = omega (arith, ap length (part .part) ∙ length-drop n s)
-
 returns : tie.Need-returns
 returns c = λ s l part. from-stopped (c .enum-told2 .given .1)
 
@@ -69,9 +65,8 @@ returns-2 c =
     let found = c .before in
     let going = found .before in
     let start = going .before .before .before .before in
-    let a = start .args in
     λ s l part.
-    let left = same-left s (now (a .rest)) (a .start) (a .p .used) _ part (start .pre .0) (found .left-from .ensures) in
+    let left = found .left-from .ensures ∙ sym (left-used part (start .pre .0)) in
     from-going (going .enum-told .given .1) (rw left (sym (ended s 0 _ _ _ _ l (omega (arith, left)))))
 
 returns-3 : tie.Need-returns-3
@@ -79,9 +74,8 @@ returns-3 c =
     let found = c .before in
     let going = found .before in
     let start = going .before .before .before .before in
-    let a = start .args in
     λ s l part.
-    let left = same-left s (now (a .rest)) (a .start) (a .p .used) _ part (start .pre .0) (found .left-from .ensures) in
+    let left = found .left-from .ensures ∙ sym (left-used part (start .pre .0)) in
     from-going (going .enum-told .given .1) (sym (there s 0 _ _ _ _ l (omega (arith, left))))
 
 pub take-data-spec : {M : Type 1} → statement M

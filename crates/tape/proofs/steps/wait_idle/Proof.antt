@@ -13,9 +13,10 @@ use Rattle.tape.specs.Plan.{fail}
 use Rattle.tape.specs.Run.{at, Behind, Did, Gave}
 use Rattle.tape.specs.Polls.{leading}
 use Rattle.tape.specs.Steps.{word, idleMask, waitIdle}
+use Rattle.tape.proofs.Behind.{at-place, out-of-place}
 use Rattle.tape.proofs.Laws.{refusal, forget, from-stopped}
 use Rattle.tape.proofs.Loops.{Turned, last-turn, out-of-turns}
-use Rattle.tape.proofs.Polls.{on, counted-within, leads-to, read-turns, read-over, at-place, out-of-place}
+use Rattle.tape.proofs.Polls.{on, counted-within, leads-to, read-turns, read-over}
 use borrow.Author.Needs.{needs}
 use Rattle.tape.proofs.steps.wait_idle.Statement.{statement}
 use Rattle.tape.proofs.steps.wait_idle.Tie as tie

@@ -5,14 +5,14 @@ use lib.ListN.{take, drop}
 use Rattle.types.specs.Words.{counted, sdStatusOf}
 use Rattle.tape.specs.Run.{at}
 use Rattle.init.specs.Lent.{sixteenOf}
-use Rattle.host.specs.Calls.{Came, calledOf, dropped, holding, statusPlan, statusNext}
+use Rattle.host.specs.Calls.{Came, calledOf, statusPlan, statusNext}
 use Rattle.host.proofs.Ran.{data-done, ends-list}
 use borrow.Author.Needs.{needs}
 use Rattle.host.proofs.host.Sdmmc.status_data.Statement.{statement}
 use Rattle.host.proofs.host.Sdmmc.status_data.Tie as tie
 
 same-length : tie.Need-same-length
-same-length c = search (needs, c .before .before .before .before .before .before .before .before .before .before .rows .given)
+same-length c = search (needs, c .before .before .before .before .before .rows .given)
 
 -- the status of the first sixteen words is that of the words
 status-sixteen : (ws : List ℕ) → sdStatusOf (sixteenOf ws) ≡ sdStatusOf ws
@@ -21,19 +21,21 @@ status-sixteen ws = refl
 
 returns : tie.Need-returns
 returns c =
-    let read = c .before .before .before .before .before .before .before .before .before .before .before in
-    let start = c .before .before .before .before .before .before .before .before .before .before .before .before .before .before .before .before .before .before in
+    let sixteen = c .before .before .before in
+    let read = sixteen .before .before .before in
+    let start = read .before .before .before .before .before .before .before in
     let host = start .args .self in
     let left = at (read .blocking-data .result .progress) (read .blocking-data .last .1 .1 .0) in
     let ws = take (read .blocking-data .result .count) (drop (read .blocking-data .result .place) (start .args .script .now)) in
-    let words : c .before .before .before .before .before .before .sixteen .result ≡ sixteenOf ws = c .before .before .before .before .before .before .sixteen .ensures in
-    let status = c .before .before .before .before .before .sd-status .ensures ∙ ap sdStatusOf words ∙ status-sixteen ws in
-    let refused : c .before .before .before .with .result ≡ dropped host left = rw (c .before .before .before .before .no-card .ensures) at (c .before .before .before .with .ensures) in
-    let accepted : c .before .with2 .result ≡ holding host left (c .before .before .with-status .result) = c .before .with2 .ensures in
+    let words : sixteen .sixteen .result ≡ sixteenOf ws = sixteen .sixteen .ensures in
+    let status = c .before .before .sd-status .ensures ∙ ap sdStatusOf words ∙ status-sixteen ws in
     let done = data-done host (statusPlan host) (statusNext host) _ (start .pre) (read .blocking-data .ensures) in (
-      rw (refused, accepted, c .before .before .with-status .ensures, status) at (c .ends .ensures ws (left .list)) ∙ ap calledOf done,
+      rw (c .before .with-status .ensures, status) at (c .ends-with .ensures ws (left .list)) ∙ ap calledOf done,
       sym (ends-list host _ _ ws _ _) ∙ ap (λ (x : Came). x .list) done,
     )
 
 pub status-data-spec : {M : Type 1} → statement M
-status-data-spec = tie.close (tie.spec (λ c κs. search needs) (λ c κs. search needs) (λ c κs. search needs) (λ c κs. search needs) (λ c κs. search needs) (λ c κs. search needs) (λ c κs. search needs) (λ c κs. search needs) same-length returns)
+status-data-spec =
+    tie.close
+    (tie.spec (λ c κs. search needs) (λ c κs. search needs) (λ c κs. search needs) (λ c κs. search needs) (λ c κs. search needs)
+    same-length returns)

@@ -23,9 +23,9 @@ use Rattle.tape.specs.Plan.{Nothing, failed, Plan, refuse, guard, ensure}
 use Rattle.tape.specs.Run.{State, at, After, run, runFrom}
 use Rattle.tape.specs.declared.progress.Line.{Line}
 use Rattle.tape.specs.Steps.{resetController}
 use Rattle.host.proofs.Ran.{begun}
-use Rattle.host.proofs.Guards.{Guarded, guard-refused, Inside, inside-refused, here, first, later, Yields, yields-give, yields-refuse, yields-handle, yields-then, yields-guard}
-use Rattle.host.proofs.Reset.{ends-refused, ends-accepted, ResetAfter, reset-after}
+use Rattle.refusals.proofs.Guards.{Guarded, guard-refused, Inside, inside-refused, here, first, later, Yields, yields-give, yields-refuse, yields-handle, yields-then, yields-guard}
+use Rattle.refusals.proofs.Reset.{ends-refused, ends-accepted, ResetAfter, reset-after}
 use Rattle.bus.specs.declared.transfer.Transfer.{Transfer}
 use Rattle.bus.specs.declared.response.Response.the-variants.{R1, R2}
 use Rattle.bus.specs.Command.{command, appCommand}

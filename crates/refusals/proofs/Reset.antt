@@ -15,10 +15,10 @@ use Rattle.tape.specs.declared.progress.Pace.the-variants.{Going, Stopped}
 use Rattle.tape.specs.Run.{State, at}
 use Rattle.tape.specs.declared.progress.Line.{Line}
 use Rattle.tape.specs.Rows.{placeOf, roomOf, wordsOf}
-use Rattle.host.proofs.Guards.{Guarded, clkcrCleared, resetLaid, resetRows}
+use Rattle.refusals.proofs.Guards.{Guarded, clkcrCleared, resetLaid, resetRows}
 use Rattle.init.specs.Initialise.{noCard}
 use Rattle.host.specs.Calls.{Came, came, dropped, ends, hostOf}
 use Rattle.host.specs.declared.host.Sdmmc.{Sdmmc}
 
 -- How a call has ended, from its answer.
 

@@ -21,13 +21,13 @@ use Rattle.types.specs.Settings.{madeOf}
 use Rattle.tape.specs.declared.progress.Halt.the-variants.{Refused, ScriptEnded, TraceFull}
 use Rattle.tape.specs.Run.{at}
 use Rattle.tape.specs.declared.progress.Line.{Line}
-use Rattle.host.proofs.Guards.{first}
+use Rattle.refusals.proofs.Guards.{first}
 use Rattle.init.specs.declared.settings.Settings.{Settings}
 use Rattle.init.specs.Initialise.{sourceOf, noCard}
 use Rattle.host.specs.Calls.{untouched, initialised}
 use Rattle.host.specs.Calls.{readFrom, readKnown, readCame}
 use Rattle.host.specs.Calls.{statusCame, noHost, clockedHost, judgedHost, made}
 use Rattle.host.specs.declared.host.Sdmmc.{Sdmmc}
 
 -- Line 1. '18, 17 at making: no host.'
 

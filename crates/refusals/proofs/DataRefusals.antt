@@ -17,17 +17,17 @@ use Rattle.tape.specs.declared.progress.Pace.the-variants.{Going, Stopped}
 use Rattle.tape.specs.Plan.{Nothing, Plan}
 use Rattle.tape.specs.Run.{State, at, run, runFrom}
 use Rattle.tape.specs.declared.progress.Line.{Line}
-use Rattle.host.proofs.Guards.{guard-refused}
-use Rattle.host.proofs.Reset.{ends-refused, ends-accepted, ResetAfter, reset-after}
+use Rattle.refusals.proofs.Guards.{guard-refused}
+use Rattle.refusals.proofs.Reset.{ends-refused, ends-accepted, ResetAfter, reset-after}
 use Rattle.bus.specs.declared.transfer.Transfer.{Transfer}
 use Rattle.bus.specs.Command.{appCommand}
 use Rattle.bus.specs.Ready.{waitReady}
 use Rattle.bus.specs.Transfer.{blockingData, transferData}
 use Rattle.init.specs.Initialise.{sourceOf, limitOf}
 use Rattle.host.specs.Calls.{came, holding, dropped, kept, ends}
 use Rattle.host.specs.Calls.{transferred, approached, served, readNext, readPlan, readTransfer, readFrom, readKnown, readCame}
 use Rattle.host.specs.Calls.{statusNext, statusPlan, statusTransfer, statusCame, withStatus}
 use Rattle.host.specs.declared.host.Sdmmc.{Sdmmc}
 
 -- Lines 4 and 5: a read and a status call have an approach (ready wait, CMD55) and a data phase.
 

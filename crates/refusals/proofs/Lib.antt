@@ -1,0 +1,6 @@
+pub mod Guards
+pub mod Reset
+pub mod Untouched
+pub mod InitRefusals
+pub mod DataRefusals
+pub mod Leaves
