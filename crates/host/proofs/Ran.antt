@@ -11,8 +11,9 @@ use Rattle.tape.specs.declared.progress.Pace.the-variants.{Going, Stopped}
 use Rattle.tape.specs.declared.progress.Progress.{Progress}
 use Rattle.tape.specs.Plan.{Nothing, Plan}
 use Rattle.tape.specs.Run.{State, at, After, keptAt, run, runFrom, doesAt, Gave}
+use Rattle.host.specs.declared.host.Called.{Called}
 use Rattle.host.specs.declared.host.Sdmmc.{Sdmmc}
-use Rattle.host.specs.Calls.{ends, dropped, kept, transferred, approached, served}
+use Rattle.host.specs.Calls.{Came, calledOf, ends, dropped, kept, transferred, approached, served}
 
 -- a choice by a test that is known
 pub if-true : {A : Type 0} {b : Bool} {x : A} (y : A) → b ≡ true → x ≡ cond b x y
@@ -84,6 +85,15 @@ module _ (host : Sdmmc) (transfer : Plan (List ℕ)) (next : State → List ℕ 
   data-done g e =
       ap (λ (x : After (List ℕ)). ends host (dropped host (x .state)) (next (x .state) (x .value)) (x .value) (x .state .progress .pace) (x .state))
       (from-there g e)
+
+  -- so what the call is told, and its list, are what it comes to
+  pub data-told : {w w′ : State} {v : List ℕ} {r : Called} → w .progress .pace ≡ Going → Gave s (List ℕ) [] transfer w v w′
+      → r ≡ calledOf (ends host (dropped host w′) (next w′ v) v (w′ .progress .pace) w′)
+      → (r ≡ calledOf (transferred host transfer next s w)) × (w′ .list ≡ transferred host transfer next s w .list)
+  data-told {w} {w′} {v} g e told = (
+    told ∙ ap calledOf (data-done g e),
+    sym (ends-list host (dropped host w′) (next w′ v) v (w′ .progress .pace) w′) ∙ ap (λ (x : Came). x .list) (data-done g e),
+  )
 
   at-going : (w : State) {q : Pace} → q ≡ Going → transferred host transfer next s w ≡ approached host transfer next s q w
   unfolding approached

@@ -62,19 +62,13 @@ fn read_transfer(address: u32, blocks: u16) -> Transfer
 }
 
 impl Sdmmc {
-    // How a call ends that began with the card itself: with this record if it was accepted, with none if it was refused. A
-    // host is copied, so only the one that is next is made.
-    fn ends_with(self, p: Progress, known: bool, card: Card) -> Called
-        ensures { λ r. ⌜ ((words l : List ℕ) → r ≡ calledOf (ends self (dropped self (at p l)) (hostOf (self .settings) (p .line) known card) words (p .pace) (at p l))) ⌝ }
+    // How a call ends that began with the card itself and did not come through: a refusal leaves no record.
+    fn ends_without(self, p: Progress) -> Called
+        ensures { λ r. ⌜ ((words l : List ℕ) → r ≡ calledOf (ends self (dropped self (at p l)) self words (p .pace) (at p l))) ⌝ }
     {
         let line = p.line;
-        let pace = p.pace;
-        let Pace::Going = pace else {
-            let none = self.with(line, false, identify::no_card());
-            return self.ends(p, none, self);
-        };
-        let next = self.with(line, known, card);
-        self.ends(p, self, next)
+        let none = self.with(line, false, identify::no_card());
+        self.ends(p, none, self)
     }
 
     // An initialisation with this clock of identification.
@@ -86,8 +80,15 @@ impl Sdmmc {
         let clock = initial.frequency;
         let begun = host::start(host::fresh_line(clock));
         let done = card::initialise(begun, script, rows, settings, initial, frequency);
+        let progress = done.progress;
+        let line = progress.line;
+        let pace = progress.pace;
+        let Pace::Going = pace else {
+            return self.ends_without(progress);
+        };
         let found = done.card;
-        self.ends_with(done.progress, true, found)
+        let next = self.with(line, true, found);
+        self.ends(progress, self, next)
     }
 
     // Initialises the card: its record, and the clock and signalling for it.
@@ -136,8 +137,15 @@ impl Sdmmc {
             words: 16,
         };
         let read = transfer::blocking_data(p, script, rows, source, config, asked, card.rca);
+        let progress = read.progress;
+        let line = progress.line;
+        let pace = progress.pace;
+        let Pace::Going = pace else {
+            return self.ends_without(progress);
+        };
         let status = words::sd_status(lent::sixteen(script, read.place, read.count));
-        self.ends_with(read.progress, true, with_status(card, status))
+        let next = self.with(line, true, with_status(card, status));
+        self.ends(progress, self, next)
     }
 
     // A status call on a host that has a card.
@@ -190,7 +198,14 @@ impl Sdmmc {
         let read = transfer::blocking_data(p, script, rows, source, config, asked, card.rca);
         let words = blocks::part(script, read.place, read.count);
         blocks::fill_blocks(buffer, words);
-        self.ends_with(read.progress, self.known, card)
+        let progress = read.progress;
+        let line = progress.line;
+        let pace = progress.pace;
+        let Pace::Going = pace else {
+            return self.ends_without(progress);
+        };
+        let next = self.with(line, self.known, card);
+        self.ends(progress, self, next)
     }
 
     // A read from an address that was judged, of so many blocks.

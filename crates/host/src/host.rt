@@ -214,7 +214,8 @@ impl Sdmmc {
     }
 
     // How a call ends that came so far: with the next host if it was accepted, another if it was refused, and this one
-    // at the end of the script or of the list.
+    // at the end of the script or of the list. A host is copied, so a caller that knows which it is makes that one, and
+    // names this one for the other.
     pub fn ends(self, p: Progress, refused: Sdmmc, accepted: Sdmmc) -> Called
         ensures { λ r. ⌜ ((words l : List ℕ) → r ≡ calledOf (ends self refused accepted words (p .pace) (at p l))) ⌝ }
     {

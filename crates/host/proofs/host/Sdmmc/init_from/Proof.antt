@@ -1,30 +1,54 @@
-use mathlib.Core.List.{[]}
+use mathlib.Core.List.{[], List}
 use mathlib.Core.Path.{_≡_, ap, sym, _∙_}
+use Prim.Native.Nat.{ℕ}
 use Rattle.types.specs.declared.card.Card.{Card}
 use Rattle.tape.specs.Run.{at, After}
+use Rattle.host.specs.declared.host.Called.{Called}
+use Rattle.host.specs.declared.host.Sdmmc.{Sdmmc}
 use Rattle.host.specs.Calls.{Came, freshLine, dropped, holding, ends, calledOf, initFrom}
-use Rattle.host.proofs.Ran.{begun, from-start, ends-list}
+use Rattle.host.proofs.Ran.{begun, from-start, ends-list, none-accepted, none-refused}
 use borrow.Author.Needs.{needs}
 use Rattle.host.proofs.host.Sdmmc.init_from.Statement.{statement}
 use Rattle.host.proofs.host.Sdmmc.init_from.Tie as tie
 
-same-length : tie.Need-same-length
-same-length c = search (needs, c .before .before .before .rows .given)
+-- what an initialisation comes to, from what its plan came to
+abbrev came : Sdmmc → After Card → Came
+came host x = ends host (dropped host (x .state)) (holding host (x .state) (x .value)) [] (x .state .progress .pace) (x .state)
+
+told : (host : Sdmmc) {x y : After Card} {r : Called} → x ≡ y → r ≡ calledOf (came host x)
+    → (r ≡ calledOf (came host y)) × (x .state .list ≡ came host y .list)
+told host {x} ran e = (
+  e ∙ ap (λ (z : After Card). calledOf (came host z)) ran,
+  sym (ends-list host (dropped host (x .state)) (holding host (x .state) (x .value)) [] (x .state .progress .pace) (x .state)) ∙ ap (λ (z : After Card). came host z .list) ran,
+)
 
 returns : tie.Need-returns
 unfolding initFrom
 returns c =
-    let done = c .before .before .before .before in
+    let done = c .before .before .before .before .before .before .before in
     let begins = done .before .before in
     let start = begins .before .before .before .before .before .before in
     let host = start .args .self in
     let first : begins .start .result ≡ begun (freshLine (start .args .initial .frequency)) = begins .start .ensures ∙ ap begun (begins .before .fresh-line .ensures) in
-    let ran = from-start (rw first at (done .initialise .ensures)) in
     let left = at (done .initialise .result .progress) (done .initialise .last .1 .1 .0) in
-    let end : After Card → Came = λ x. ends host (dropped host (x .state)) (holding host (x .state) (x .value)) [] (x .state .progress .pace) (x .state) in (
-      c .ends-with .ensures [] (left .list) ∙ ap (λ (x : After Card). calledOf (end x)) ran,
-      sym (ends-list host _ _ [] _ _) ∙ ap (λ (x : After Card). end x .list) ran,
-    )
+    told host (from-start (rw first at (done .initialise .ensures)))
+    (c .ends-without .ensures [] (left .list) ∙ ap calledOf (none-accepted host _ _ _ [] _ _ left (c .before .enum-told2 .given .1)))
+
+returns-2 : tie.Need-returns-2
+unfolding initFrom
+returns-2 c =
+    let done = c .before .before .before .before .before .before .before .before .before in
+    let begins = done .before .before in
+    let start = begins .before .before .before .before .before .before in
+    let host = start .args .self in
+    let first : begins .start .result ≡ begun (freshLine (start .args .initial .frequency)) = begins .start .ensures ∙ ap begun (begins .before .fresh-line .ensures) in
+    let left = at (done .initialise .result .progress) (done .initialise .last .1 .1 .0) in
+    told host (from-start (rw first at (done .initialise .ensures)))
+    (rw (c .before .with .ensures) at (c .ends .ensures [] (left .list)) ∙ ap calledOf (none-refused host _ _ _ [] _ left (c .before .before .before .enum-told .given .1)))
 
 pub init-from-spec : {M : Type 1} → statement M
-init-from-spec = tie.close (tie.spec (λ c κs. search needs) (λ c κs. search needs) (λ c κs. search needs) (λ c κs. search needs) same-length returns)
+init-from-spec =
+    tie.close
+    (tie.spec (λ c κs. search needs) (λ c κs. search needs) (λ c κs. search needs) (λ c. search needs) (λ c. search needs)
+    (λ c κs. search needs) (λ c. search needs) returns
+    (λ c κs. search needs) (λ c κs. search needs) (λ c. search needs) returns-2)
