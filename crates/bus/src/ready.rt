@@ -98,7 +98,7 @@ pub fn wait_ready(
         if next.over(tried.flag) {
             return next;
         }
-        q = next.resumed();
+        q = next.resumed(); // as it was: it is going
         i = i + 1;
     }
     progress::refuse(q, Error::SoftwareTimeout)

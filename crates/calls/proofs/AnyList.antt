@@ -156,12 +156,17 @@ follows host (status s l) k = status-follows host s l
 
 -- What every call keeps: its settings; and the whole host where it is left out.
 
-abbrev listOf : Call → List ℕ
+abbrev pub listOf : Call → List ℕ
 listOf (initialise frequency s l) = l
 listOf (read index bytes s l) = l
 listOf (status s l) = l
 
-leaves : (host : Sdmmc) (c : Call) → Leaves host (listOf c) (comes host c)
+abbrev pub scriptOf : Call → List ℕ
+scriptOf (initialise frequency s l) = s
+scriptOf (read index bytes s l) = s
+scriptOf (status s l) = s
+
+pub leaves : (host : Sdmmc) (c : Call) → Leaves host (scriptOf c) (listOf c) (comes host c)
 unfolding comes
 leaves host (initialise frequency s l) = initialise-leaves host frequency s l
 leaves host (read index bytes s l) = read-leaves host index bytes s l

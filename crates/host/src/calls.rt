@@ -8,7 +8,7 @@ ghost use lib.ListN.{length};
 ghost use Rattle.types.specs.declared.card.AddressAnswer.the-variants as Address;
 ghost use Rattle.types.specs.declared.clock.ClockAnswer.the-variants as Clocked;
 ghost use Rattle.tape.specs.Run.{at};
-ghost use Rattle.host.specs.Calls.{calledOf, hostOf, kept, dropped, ends, initFrom, initialised, readTransfer, readData, readFrom, readKnown, readCame, bufferOf, withStatus, statusData, statusFrom, statusCame};
+ghost use Rattle.host.specs.Calls.{calledOf, kept, dropped, ends, initFrom, initialised, readTransfer, readData, readFrom, readKnown, readCame, bufferOf, withStatus, statusData, statusFrom, statusCame};
 use crate::blocks;
 use crate::host;
 use crate::host::Called;

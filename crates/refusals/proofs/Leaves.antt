@@ -1,5 +1,5 @@
 -- Document 01's table of refusals, line 6, and what every call leaves as it was.
-use Prim.Native.Nat.{ℕ, _+_, _*_, _-_, _/_, _%_, min}
+use Prim.Native.Nat.{ℕ, _+_, _*_, _-_, _/_, _%_, _≤_, min}
 use mathlib.Core.Bool.{false, _||_}
 use mathlib.Core.List.{List, []}
 use mathlib.Core.Path.{_≡_, refl, ap, sym, _∙_}
@@ -24,6 +24,7 @@ use Rattle.tape.specs.Run.{State, at, run, runFrom}
 use Rattle.tape.specs.declared.progress.Line.{Line}
 use Rattle.tape.proofs.Laws.{by-cases, from-going}
 use Rattle.tape.proofs.Room.{Kept, keeps}
+use Rattle.tape.proofs.Words.{within-script}
 use Rattle.host.proofs.Ran.{begun}
 use Rattle.bus.specs.Command.{appCommand}
 use Rattle.bus.specs.Ready.{waitReady}
@@ -37,49 +38,58 @@ use Rattle.host.specs.declared.host.Sdmmc.{Sdmmc}
 -- Line 6. '21, 22: rows so far, host as before', and what follows the table: 'The block buffer is written only when the whole
 -- call is accepted. ... List words past those rows keep their contents.' Of every call, whatever its argument. (`Kept`, of
 -- the tape: the list is as long as it was, the rows are no more than there is room for, and the words past them stand.) The
--- settings are those that the host was made with, so that its clock of identification is set (`identification-clock`).
-pub record Leaves (host : Sdmmc) (l : List ℕ) (x : Came) : Type 0 where
+-- settings are those that the host was made with, so that its clock of identification is set (`identification-clock`). No call
+-- uses more words than its script has.
+pub record Leaves (host : Sdmmc) (s l : List ℕ) (x : Came) : Type 0 where
   pub ended : x .answer ≡ Answered.ScriptEnded → x .host ≡ host
   pub full : x .answer ≡ Answered.TraceFull → x .host ≡ host
   pub taken : (x .answer ≡ Answered.Accepted → ⊥) → x .taken ≡ []
+  pub words : x .words ≤ length s
   pub rows : Kept 0 l (x .rows) (x .list)
   pub settings : x .host .settings ≡ host .settings
 
-untouched-leaves : (host : Sdmmc) (e : Error) (l : List ℕ) → Leaves host l (untouched host e l)
-untouched-leaves host e l =
+untouched-leaves : (host : Sdmmc) (e : Error) (s l : List ℕ) → Leaves host s l (untouched host e l)
+untouched-leaves host e s l =
     record {
       ended = λ r. refl;
       full = λ r. refl;
       taken = λ n. refl;
+      words = omega arith;
       rows = record { more = omega arith; within = λ h. h; long = refl; before = refl; past = refl };
       settings = refl;
     }
 
-ends-leaves : (host refused accepted : Sdmmc) (words l : List ℕ) (q : Pace) (w : State) → refused .settings ≡ host .settings → accepted .settings ≡ host .settings
-    → Kept 0 l (w .progress .rows) (w .list) → Leaves host l (ends host refused accepted words q w)
+ends-leaves : (host refused accepted : Sdmmc) (words s l : List ℕ) (q : Pace) (w : State) → refused .settings ≡ host .settings → accepted .settings ≡ host .settings
+    → w .progress .used ≤ length s → Kept 0 l (w .progress .rows) (w .list) → Leaves host s l (ends host refused accepted words q w)
 unfolding ends
-ends-leaves host refused accepted words l Going w sr sa k =
+ends-leaves host refused accepted words s l Going w sr sa u k =
     record {
       ended = λ r. let z : _≡_ {A = ℕ} 0 1 = cc in absurd (omega arith);
       full = λ r. let z : _≡_ {A = ℕ} 0 1 = cc in absurd (omega arith);
       taken = λ n. absurd (n refl);
+      words = u;
       rows = k;
       settings = sa;
     }
-ends-leaves host refused accepted words l (Stopped (Refused x)) w sr sa k =
+ends-leaves host refused accepted words s l (Stopped (Refused x)) w sr sa u k =
     record {
       ended = λ r. let z : _≡_ {A = ℕ} 0 1 = cc in absurd (omega arith);
       full = λ r. let z : _≡_ {A = ℕ} 0 1 = cc in absurd (omega arith);
       taken = λ n. refl;
+      words = u;
       rows = k;
       settings = sr;
     }
-ends-leaves host refused accepted words l (Stopped ScriptEnded) w sr sa k =
-    record { ended = λ r. refl; full = λ r. refl; taken = λ n. refl; rows = k; settings = refl }
-ends-leaves host refused accepted words l (Stopped TraceFull) w sr sa k =
-    record { ended = λ r. refl; full = λ r. refl; taken = λ n. refl; rows = k; settings = refl }
+ends-leaves host refused accepted words s l (Stopped ScriptEnded) w sr sa u k =
+    record { ended = λ r. refl; full = λ r. refl; taken = λ n. refl; words = u; rows = k; settings = refl }
+ends-leaves host refused accepted words s l (Stopped TraceFull) w sr sa u k =
+    record { ended = λ r. refl; full = λ r. refl; taken = λ n. refl; words = u; rows = k; settings = refl }
 
 -- a plan of a call that is going
+going-within : (s : List ℕ) {A : Type 0} (d : A) (p : Plan A) (w : State) → w .progress .pace ≡ Going → w .progress .used ≤ length s
+    → runFrom s d p w .state .progress .used ≤ length s
+going-within s d p w g u = within-script (from-going {s = s} {d = d} {p = p} {w = w} {v = runFrom s d p w .value} {w′ = runFrom s d p w .state} g refl) u
+
 going-kept : (s : List ℕ) {A : Type 0} (d : A) (p : Plan A) (w : State) → w .progress .pace ≡ Going
     → Kept (w .progress .rows) (w .list) (runFrom s d p w .state .progress .rows) (runFrom s d p w .state .list)
 going-kept s d p w g = keeps (from-going {s = s} {d = d} {p = p} {w = w} {v = runFrom s d p w .value} {w′ = runFrom s d p w .state} g refl)
@@ -99,56 +109,60 @@ kept-on {l} {n} {l₁} {n₂} {l₂} a b =
     }
 
 served-leaves : (host : Sdmmc) (plan : Plan Nothing) (transfer : Plan (List ℕ)) (next : State → List ℕ → Sdmmc) (s l : List ℕ)
-    → ((w : State) (ws : List ℕ) → next w ws .settings ≡ host .settings) → Leaves host l (served host plan transfer next s l)
+    → ((w : State) (ws : List ℕ) → next w ws .settings ≡ host .settings) → Leaves host s l (served host plan transfer next s l)
 unfolding served approached transferred
 served-leaves host plan transfer next s l same = by (w .progress .pace) refl
   where
     w : State
     w = run s (tt {0}) plan 0 0 (host .line) l .state
 
+    used : w .progress .used ≤ length s
+    used = going-within s (tt {0}) plan (at (begun (host .line)) l) refl (omega arith)
+
     start : Kept 0 l (w .progress .rows) (w .list)
     start = going-kept s (tt {0}) plan (at (begun (host .line)) l) refl
 
-    by : (q : Pace) → w .progress .pace ≡ q → Leaves host l (approached host transfer next s q w)
+    by : (q : Pace) → w .progress .pace ≡ q → Leaves host s l (approached host transfer next s q w)
     by Going g =
         let x = runFrom s [] transfer w in
-        ends-leaves host (dropped host (x .state)) (next (x .state) (x .value)) (x .value) l (x .state .progress .pace) (x .state) refl (same (x .state) (x .value))
-        (kept-on start (going-kept s [] transfer w g))
-    by (Stopped h) g = ends-leaves host (kept host w) host [] l (Stopped h) w refl refl start
+        ends-leaves host (dropped host (x .state)) (next (x .state) (x .value)) (x .value) s l (x .state .progress .pace) (x .state) refl (same (x .state) (x .value))
+        (going-within s [] transfer w g used) (kept-on start (going-kept s [] transfer w g))
+    by (Stopped h) g = ends-leaves host (kept host w) host [] s l (Stopped h) w refl refl used start
 
-pub initialise-leaves : (host : Sdmmc) (frequency : ℕ) (s l : List ℕ) → Leaves host l (initialised host frequency s l)
+pub initialise-leaves : (host : Sdmmc) (frequency : ℕ) (s l : List ℕ) → Leaves host s l (initialised host frequency s l)
 unfolding initialised initFrom
 initialise-leaves host frequency s l =
-    by-cases (Leaves host l) (eqb frequency 0 || ltb 50_000_000 frequency) _ _ (untouched-leaves host E.BadClock l)
+    by-cases (Leaves host s l) (eqb frequency 0 || ltb 50_000_000 frequency) _ _ (untouched-leaves host E.BadClock s l)
     (by (clockOf (sourceOf (host .settings)) 400_000 false))
   where
-    by : (a : ClockAnswer) → Leaves host l (initFrom host frequency a s l)
-    by (Clocked.Refused e) = untouched-leaves host e l
+    by : (a : ClockAnswer) → Leaves host s l (initFrom host frequency a s l)
+    by (Clocked.Refused e) = untouched-leaves host e s l
     by (Clocked.Set c) =
         let x = run s noCard (initialise (host .settings) c frequency) 0 0 (freshLine (c .frequency)) l in
-        ends-leaves host (dropped host (x .state)) (holding host (x .state) (x .value)) [] l (x .state .progress .pace) (x .state) refl refl
+        ends-leaves host (dropped host (x .state)) (holding host (x .state) (x .value)) [] s l (x .state .progress .pace) (x .state) refl refl
+        (going-within s noCard (initialise (host .settings) c frequency) (at (begun (freshLine (c .frequency))) l) refl (omega arith))
         (going-kept s noCard (initialise (host .settings) c frequency) (at (begun (freshLine (c .frequency))) l) refl)
 
-pub read-leaves : (host : Sdmmc) (index bytes : ℕ) (s l : List ℕ) → Leaves host l (readCame host index bytes s l)
+pub read-leaves : (host : Sdmmc) (index bytes : ℕ) (s l : List ℕ) → Leaves host s l (readCame host index bytes s l)
 unfolding readCame readKnown readFrom
 read-leaves host index bytes s l =
-    by-cases (Leaves host l) (host .known) _ _
-    (by-cases (Leaves host l) (eqb (bytes % 512) 0) _ _
+    by-cases (Leaves host s l) (host .known) _ _
+    (by-cases (Leaves host s l) (eqb (bytes % 512) 0) _ _
     (by (addressOf (host .card .«card_type») (host .card .«block_count» .0) index (bytes / 512)))
-    (untouched-leaves host E.InvalidBufferLength l))
-    (untouched-leaves host E.NoCard l)
+    (untouched-leaves host E.InvalidBufferLength s l))
+    (untouched-leaves host E.NoCard s l)
   where
-    by : (a : AddressAnswer) → Leaves host l (readFrom host (bytes / 512) a s l)
-    by (Address.Refused e) = untouched-leaves host e l
+    by : (a : AddressAnswer) → Leaves host s l (readFrom host (bytes / 512) a s l)
+    by (Address.Refused e) = untouched-leaves host e s l
     by (Address.Address a) =
         served-leaves host (waitReady (sourceOf (host .settings)) (host .settings .config) (host .card .rca)) (readPlan host a (bytes / 512)) (readNext host) s l (λ w ws. refl)
 
-pub status-leaves : (host : Sdmmc) (s l : List ℕ) → Leaves host l (statusCame host s l)
+pub status-leaves : (host : Sdmmc) (s l : List ℕ) → Leaves host s l (statusCame host s l)
 unfolding statusCame
 status-leaves host s l =
-    by-cases (Leaves host l) (host .known) _ _
+    by-cases (Leaves host s l) (host .known) _ _
     (served-leaves host (appCommand (limitOf (host .settings)) (host .card .rca)) (statusPlan host) (statusNext host) s l (λ w ws. refl))
-    (untouched-leaves host E.NoCard l)
+    (untouched-leaves host E.NoCard s l)
 
 -- a call with no data words leaves the buffer as it was
 pub buffer-stays : (x : Came) (buffer : List ℕ) → x .taken ≡ [] → bufferOf x buffer ≡ buffer

@@ -1,7 +1,7 @@
 -- What a reading answers, and where its words stand.
-use Prim.Native.Nat.{ℕ, _≤_}
+use Prim.Native.Nat.{ℕ}
 use mathlib.Core.List.{List, _++_}
-use mathlib.Core.Path.{_≡_, refl, ap, sym, _∙_}
+use mathlib.Core.Path.{_≡_, ap, sym, _∙_}
 use native.Mathlib.Omega.{arith}
 use lib.ListN.{length, take, drop, take-append-drop}
 use lib.Seq.{length-take-le, take-append-seam}
@@ -11,7 +11,7 @@ use Rattle.wordtext.specs.declared.scan.Scan.{Scan}
 use Rattle.wordtext.specs.declared.token.Verdict.{Verdict}
 use Rattle.wordtext.specs.declared.token.Verdict.the-variants as W
 use Rattle.wordtext.specs.Token.{verdictOf}
-use Rattle.wordtext.specs.Text.{State, readOf, answerBy, answerAt, answerOf, placeOf, laid, stateOf, Holds}
+use Rattle.wordtext.specs.Text.{State, readOf, answerBy, answerAt, answerOf, placeOf, laid, Holds}
 
 -- by what the code holds at the end
 module _ (text was list : List ℕ) (s : Scan) (holds : Holds (readOf (length was) text) was s list) where

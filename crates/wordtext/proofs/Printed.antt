@@ -1,10 +1,9 @@
 -- What `io::decimal` and `io::hex` print of a word reads back as that word.
-use Prim.Native.Nat.{ℕ, zero, suc, _+_, _*_, _/_, _%_, _^_, _<_, _≤_}
+use Prim.Native.Nat.{ℕ, zero, suc, _+_, _/_, _%_, _^_, _<_, _≤_}
 use mathlib.Core.Bool.{Bool, true, false, cond, not, _&&_}
 use mathlib.Core.List.{List, [], _∷_, _++_, append-assoc, append-nil}
 use mathlib.Core.Path.{_≡_, refl, ap, sym, _∙_}
 use native.Mathlib.Nat.{add-zero, div-add-mod', mod-lt, pow-suc}
-use native.Mathlib.Numerals.{add-one}
 use native.Mathlib.Omega.{arith}
 use lib.Dec.{eqb, ltb}
 use lib.ListN.{length, length-append}
@@ -14,7 +13,7 @@ use Rattle.wordtext.specs.declared.token.Grown.the-variants.{To}
 use Rattle.wordtext.specs.declared.token.Token.{Token}
 use Rattle.wordtext.specs.declared.token.Token.the-variants as T
 use Rattle.wordtext.specs.declared.token.Given.the-variants as G
-use Rattle.wordtext.specs.Token.{LIMIT, HASH, wordOf, endsAt, digitOf, withDigit, decimalOf, hexadecimalOf, goneOn, opened, closed, after, completed, beganAt}
+use Rattle.wordtext.specs.Token.{LIMIT, HASH, wordOf, endsAt, digitOf, withDigit, decimalOf, goneOn, opened, closed, after, completed, beganAt}
 use Rattle.wordtext.specs.Text.{State, at-first, taken, step, scan, readOf, answerOf}
 use Rattle.wordtext.specs.declared.book.Reading.the-variants.{Words}
 use Rattle.wordtext.proofs.Tests.{both}

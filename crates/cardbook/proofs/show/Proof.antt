@@ -1,15 +1,14 @@
 use mathlib.Core.Path.{sym}
 use lib.Seq.{length-take-le}
-use Rattle.text.proofs.Ink.{stands-within}
 use borrow.Author.Needs.{needs}
 use Rattle.cardbook.proofs.show.Statement.{statement}
 use Rattle.cardbook.proofs.show.Tie as tie
 
-slice-reshare-prefix-write-all : tie.Need-slice-reshare-prefix-write-all
-slice-reshare-prefix-write-all c = stands-within (c .before .before .print-book .ensures)
-
 slice-aggregate-write-all : tie.Need-slice-aggregate-write-all
-slice-aggregate-write-all c = sym (length-take-le _ _ (stands-within (c .before .before .before .print-book .ensures)))
+slice-aggregate-write-all c = sym (length-take-le _ _ (c .before .before .before .lay .ensures .1))
 
 pub show-spec : {M : Type 1} → statement M
-show-spec = tie.close (tie.spec (λ c κs. search needs) slice-reshare-prefix-write-all slice-aggregate-write-all (λ c κs. search needs) (λ c. search needs) (λ c κs. search needs) (λ c. search needs) (λ c. search needs) (λ c. search needs) (λ c. search needs))
+show-spec =
+    tie.close
+    (tie.spec (λ c κs. search needs) (λ c. search needs) slice-aggregate-write-all (λ c κs. search needs) (λ c. search needs) (λ c κs. search needs)
+    (λ c. search needs) (λ c. search needs) (λ c. search needs) (λ c. search needs))

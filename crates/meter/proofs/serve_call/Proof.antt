@@ -1,6 +1,3 @@
-use mathlib.Core.Path.{ap, _∙_}
-use Rattle.book.specs.declared.layout.Asked.{Asked}
-use Rattle.bench.specs.Trace.{placeAfter}
 use Rattle.meter.proofs.Served.{one-served}
 use borrow.Author.Needs.{needs}
 use Rattle.meter.proofs.serve_call.Statement.{statement}

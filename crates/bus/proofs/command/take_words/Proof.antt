@@ -1,4 +1,4 @@
-use Prim.Native.Nat.{ℕ, _+_, _-_, _≤_, _<_}
+use Prim.Native.Nat.{ℕ, _+_, _-_, _≤_}
 use mathlib.Core.Bool.{Bool, true, false, cond}
 use mathlib.Core.List.{List, [], _∷_}
 use mathlib.Core.Path.{_≡_, refl, sym, ap, _∙_}
@@ -11,7 +11,7 @@ use Rattle.tape.specs.declared.progress.Pace.{Pace}
 use Rattle.tape.specs.declared.progress.Pace.the-variants.{Going, Stopped}
 use Rattle.tape.specs.declared.progress.Progress.{Progress}
 use Rattle.tape.specs.Plan.{give, handle}
-use Rattle.tape.specs.Run.{State, at, After, run, doesAt, does, Behind, Gave}
+use Rattle.tape.specs.Run.{at, After, run, doesAt, does, Behind, Gave}
 use Rattle.tape.specs.Steps.{word, dataFrom, dataWords}
 use Rattle.tape.proofs.Behind.{long, at-place, at-used}
 use Rattle.bus.specs.Command.{zeros, responseWords}

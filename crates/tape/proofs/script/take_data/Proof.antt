@@ -1,3 +1,4 @@
+use denote.Ref.{now}
 use lib.Seq.{drop-cons}
 use lib.ListN.{length, getD, take, drop}
 use mathlib.Core.List.{List, [], _∷_}
@@ -65,8 +66,10 @@ returns-2 c =
     let found = c .before in
     let going = found .before in
     let start = going .before .before .before .before in
+    let a = start .args in
+    let more : found .left-from .result ≡ length (now (a .rest)) - (a .p .used - a .start) = found .left-from .ensures in
     λ s l part.
-    let left = found .left-from .ensures ∙ sym (left-used part (start .pre .0)) in
+    let left = more ∙ sym (left-used part (start .pre .0)) in
     from-going (going .enum-told .given .1) (rw left (sym (ended s 0 _ _ _ _ l (omega (arith, left)))))
 
 returns-3 : tie.Need-returns-3
@@ -74,8 +77,10 @@ returns-3 c =
     let found = c .before in
     let going = found .before in
     let start = going .before .before .before .before in
+    let a = start .args in
+    let more : found .left-from .result ≡ length (now (a .rest)) - (a .p .used - a .start) = found .left-from .ensures in
     λ s l part.
-    let left = found .left-from .ensures ∙ sym (left-used part (start .pre .0)) in
+    let left = more ∙ sym (left-used part (start .pre .0)) in
     from-going (going .enum-told .given .1) (sym (there s 0 _ _ _ _ l (omega (arith, left))))
 
 pub take-data-spec : {M : Type 1} → statement M

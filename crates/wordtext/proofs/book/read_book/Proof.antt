@@ -1,11 +1,11 @@
-use Prim.Native.Nat.{ℕ, _≤_}
+use Prim.Native.Nat.{ℕ}
 use mathlib.Core.List.{List}
-use mathlib.Core.Path.{_≡_, refl, ap, sym, _∙_}
+use mathlib.Core.Path.{refl, ap, sym, _∙_}
 use native.Mathlib.Omega.{arith}
-use lib.ListN.{length, take}
+use lib.ListN.{take}
 use lib.Seq.{length-take-le}
 use Rattle.types.specs.Words.{filled}
-use Rattle.wordtext.specs.Text.{answerOf, readOf, bookOver, countOf}
+use Rattle.wordtext.specs.Text.{readOf}
 use Rattle.wordtext.proofs.Answers.{words-count, first-words}
 use borrow.Author.Needs.{needs}
 use Rattle.wordtext.proofs.book.read_book.Statement.{statement}

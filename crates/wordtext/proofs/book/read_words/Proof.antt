@@ -1,4 +1,4 @@
-use mathlib.Core.Path.{_≡_, ap, sym, _∙_}
+use mathlib.Core.Path.{ap, sym, _∙_}
 use native.Mathlib.Omega.{arith}
 use Rattle.wordtext.specs.declared.place.Place.{Place}
 use Rattle.wordtext.specs.declared.token.Verdict.{Verdict}

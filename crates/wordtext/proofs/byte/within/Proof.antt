@@ -1,4 +1,3 @@
-use mathlib.Core.Bool.{_&&_}
 use borrow.Author.Tests.{le-leb, lt-leb}
 use Rattle.wordtext.proofs.byte.within.Statement.{statement}
 use Rattle.wordtext.proofs.byte.within.Tie as tie

@@ -6,7 +6,6 @@ use lib.ListN.{length, getD}
 use Rattle.wordtext.specs.Text.{moved, placeFrom, placeOf}
 use Rattle.wordtext.specs.declared.place.Place.{Place}
 use Rattle.wordtext.proofs.Places.{place-more, place-all, moved-little}
-use borrow.Author.Needs.{needs}
 use Rattle.wordtext.proofs.place.place_at.Statement.{statement}
 use Rattle.wordtext.proofs.place.place_at.Tie as tie
 

@@ -5,7 +5,6 @@ use lib.ListN.{length, getD, drop}
 use Rattle.wordtext.specs.Token.{NEWLINE}
 use Rattle.wordtext.specs.Text.{State, step, scan, readOf, stateOf}
 use Rattle.wordtext.proofs.Steps.{goes-on, ends, rest-more}
-use borrow.Author.Needs.{needs}
 use Rattle.wordtext.proofs.scan.scan_text.Statement.{statement}
 use Rattle.wordtext.proofs.scan.scan_text.Tie as tie
 

@@ -1,0 +1,164 @@
+-- What is printed of a file's bytes, whatever they are, fits the 4,096 bytes that the program has for it: no line is cut.
+use Prim.Native.Nat.{ℕ, zero, suc, _+_, _*_, _-_, _/_, _%_, _≤_, _<_}
+use mathlib.Core.Bool.{Bool, true, false, not}
+use mathlib.Core.List.{List, [], _∷_, _++_, map}
+use mathlib.Core.Path.{_≡_, refl, ap}
+use native.Mathlib.Omega.{arith}
+use lib.Dec.{eqb, ltb}
+use lib.ListN.{length, getD, take, drop, replicate, length-append, length-take, length-drop, length-replicate}
+use borrow.Author.Tests.{lt-ltb}
+use Rattle.types.specs.declared.error.Answer.{Answer}
+use Rattle.types.specs.declared.error.Answer.the-variants as Answered
+use Rattle.types.specs.declared.error.Error.{Error}
+use Rattle.types.specs.declared.error.Error.the-variants as E
+use Rattle.types.specs.Answer.{errorTold, answerTold}
+use Rattle.text.specs.Digits.{decimalIn, decimalOf}
+use Rattle.text.specs.Typed.{typed}
+use Rattle.tape.proofs.Laws.{by-cases}
+use Rattle.host.specs.declared.host.Sdmmc.{Sdmmc}
+use Rattle.host.specs.Calls.{made}
+use Rattle.calls.specs.Serve as S
+use Rattle.calls.specs.Serve.{comes, serve}
+use Rattle.calls.proofs.AnyList.{leaves, scriptOf, listOf}
+use Rattle.book.specs.Layout as L
+use Rattle.book.specs.Layout.{wordsOf, countOf, contentsOf, callsOf, bookIn, badWords, badBook, bookOf}
+use Rattle.book.specs.Lines.{hostLine, callLine}
+use Rattle.book.proofs.Causes.{good-words, or-right}
+use Rattle.bench.specs.Bench.{settingsOf, callOf, numberOf, cameLine, linesFrom, whereAccepted, bookLines, printed}
+
+-- A number's digits.
+
+tens : ℕ → ℕ
+tens zero = 10
+tens (suc d) = 10 * tens d
+
+digits-in : (d turns n : ℕ) → n < tens d → length (decimalIn turns n) ≤ d + 1
+unfolding decimalIn tens
+digits-in d zero n h = omega arith
+digits-in zero (suc turns) n h = rw (lt-ltb n 10 h) (omega arith)
+digits-in (suc d) (suc turns) n h =
+    by-cases (λ (x : List ℕ). length (x ++ ((48 + n % 10) ∷ [])) ≤ suc d + 1) (ltb n 10) [] (decimalIn turns (n / 10)) (omega arith)
+    (rw length-append (omega (arith, digits-in d turns (n / 10) (omega (arith, h)))))
+
+digits : (d n : ℕ) → n < tens d → length (decimalOf n) ≤ d + 1
+unfolding decimalOf
+digits d n h = digits-in d (suc n) n h
+
+error-number : (e : Error) → errorTold e .number ≤ 20
+unfolding errorTold
+error-number E.Timeout = omega arith
+error-number E.SoftwareTimeout = omega arith
+error-number E.Crc = omega arith
+error-number E.StBitErr = omega arith
+error-number E.Overrun = omega arith
+error-number E.Underrun = omega arith
+error-number E.Dma = omega arith
+error-number E.IncompleteTransfer = omega arith
+error-number E.ResponseMismatch = omega arith
+error-number (E.CardStatus word) = omega arith
+error-number E.CardLocked = omega arith
+error-number E.UnsupportedCardVersion = omega arith
+error-number E.UnsupportedCardType = omega arith
+error-number E.UnsupportedBusWidth = omega arith
+error-number E.SignalingSwitchFailed = omega arith
+error-number E.NoCard = omega arith
+error-number E.BadClock = omega arith
+error-number E.InvalidConfig = omega arith
+error-number E.InvalidBufferLength = omega arith
+error-number E.AddressOutOfRange = omega arith
+
+number : (a : Answer) → numberOf a < 100
+unfolding answerTold
+number Answered.Accepted = omega arith
+number (Answered.Refused e) = omega (arith, error-number e)
+number Answered.ScriptEnded = omega arith
+number Answered.TraceFull = omega arith
+number Answered.BadBook = omega arith
+
+-- A line.
+
+joined : (xs ys : List ℕ) {m n : ℕ} → length xs ≤ m → length ys ≤ n → length (xs ++ ys) ≤ m + n
+joined xs ys h k = rw length-append (omega (arith, h, k))
+
+host-line : (a : Answer) → length (hostLine (numberOf a)) ≤ 15
+unfolding tens
+host-line a =
+    joined (typed "host answer ") (decimalOf (numberOf a) ++ typed "\n") {m = 12} (omega arith)
+    (joined (decimalOf (numberOf a)) (typed "\n") {n = 1} (digits 1 (numberOf a) (number a)) (omega arith))
+
+call-line : (k : ℕ) (a : Answer) (words rows : ℕ) → k ≤ 64 → words ≤ 4096 → rows ≤ 4096 → length (callLine k (numberOf a) words rows) ≤ 34
+unfolding tens
+call-line k a words rows hk hw hr =
+    let answer = typed " answer " ++ decimalOf (numberOf a) in
+    let used = typed " words " ++ decimalOf words in
+    let wrote = typed " rows " ++ decimalOf rows in
+    joined (decimalOf k ++ answer ++ used ++ wrote) (typed "\n") {n = 1}
+    (joined (decimalOf k ++ answer ++ used) wrote
+    (joined (decimalOf k ++ answer) used
+    (joined (decimalOf k) answer (digits 1 k (omega (arith, hk))) (joined (typed " answer ") (decimalOf (numberOf a)) {m = 8} (omega arith) (digits 1 (numberOf a) (number a))))
+    (joined (typed " words ") (decimalOf words) {m = 7} (omega arith) (digits 3 words (omega (arith, hw)))))
+    (joined (typed " rows ") (decimalOf rows) {m = 6} (omega arith) (digits 3 rows (omega (arith, hr)))))
+    (omega arith)
+
+-- A call: it uses no more words than its script has, and writes no more rows than there is room for.
+
+script-of : (c : L.Call) → scriptOf (callOf 4096 c) ≡ c .script
+script-of c = by-cases (λ (x : S.Call). scriptOf x ≡ c .script) (eqb (c .kind) 1) _ _ refl (by-cases (λ (x : S.Call). scriptOf x ≡ c .script) (eqb (c .kind) 2) _ _ refl refl)
+
+list-of : (c : L.Call) → listOf (callOf 4096 c) ≡ replicate 8192 0
+list-of c = by-cases (λ (x : S.Call). listOf x ≡ replicate 8192 0) (eqb (c .kind) 1) _ _ refl (by-cases (λ (x : S.Call). listOf x ≡ replicate 8192 0) (eqb (c .kind) 2) _ _ refl refl)
+
+came-line : (host : Sdmmc) (c : L.Call) (k : ℕ) → k ≤ 64 → length (c .script) ≤ 4096 → length (cameLine k (comes host (callOf 4096 c))) ≤ 34
+came-line host c k hk hs =
+    let left = leaves host (callOf 4096 c) in
+    let used = rw (script-of c) at (left .words) in
+    let wrote = rw (list-of c) at (left .rows .within (omega arith)) in
+    call-line k _ _ _ hk (omega (arith, used, hs)) (omega (arith, wrote, length-replicate {A = ℕ} 8192 0))
+
+-- All calls of a book.
+
+data Short : List L.Call → Type 0 where
+  done : Short []
+  more : (c : L.Call) (cs : List L.Call) → length (c .script) ≤ 4096 → Short cs → Short (c ∷ cs)
+
+lines : (host : Sdmmc) (k : ℕ) (cs : List L.Call) → Short cs → k + length cs ≤ 65
+    → length (linesFrom k (serve host (map (callOf 4096) cs) .came)) ≤ 34 * length cs
+unfolding serve linesFrom
+lines host k [] done h = omega arith
+lines host k (c ∷ cs) (more _ _ short rest) h =
+    let first = came-line host c k (omega (arith, h)) short in
+    let others = lines (comes host (callOf 4096 c) .host) (k + 1) cs rest (omega (arith, h)) in
+    rw length-append (omega (arith, first, others))
+
+calls : (n : ℕ) (rows scripts : List ℕ) → length scripts ≤ 4096 → Short (callsOf n rows scripts) × (length (callsOf n rows scripts) ≡ n)
+unfolding callsOf
+calls zero rows scripts h = (done, refl)
+calls (suc n) rows scripts h =
+    let rest = calls n (drop 4 rows) (drop (getD rows 3 0) scripts) (rw length-drop (omega arith)) in
+    let short : length (take (getD rows 3 0) scripts) ≤ 4096 = rw length-take (omega (arith, h)) in
+    (more _ _ short (rest .0), ap suc (rest .1))
+
+book-lines : (ws : List ℕ) → badWords ws ≡ false → length (bookLines (bookIn ws)) ≤ 4096
+unfolding bookLines bookIn whereAccepted
+book-lines ws e =
+    let good = good-words ws e in
+    let found = calls (countOf ws) (drop 7 ws) (drop (contentsOf ws) ws) (rw length-drop (omega (arith, good .long))) in
+    let host = made (settingsOf (bookIn ws)) in
+    let all = lines (host .host) 1 (bookIn ws .calls) (found .0) (omega (arith, found .1, good .most)) in
+    let told = whole (host .answer) (linesFrom 1 (serve (host .host) (map (callOf 4096) (bookIn ws .calls)) .came)) all in
+    rw length-append (omega (arith, host-line (host .answer), told, found .1, good .most))
+  where
+    whole : (a : Answer) (text : List ℕ) {n : ℕ} → length text ≤ n → length (whereAccepted a text) ≤ n
+    whole Answered.Accepted text h = h
+    whole (Answered.Refused e) text h = omega arith
+    whole Answered.ScriptEnded text h = omega arith
+    whole Answered.TraceFull text h = omega arith
+    whole Answered.BadBook text h = omega arith
+
+pub fits : (bytes : List ℕ) → length (printed bytes) ≤ 4096
+unfolding bookOf badBook
+fits bytes = by (badBook bytes) refl
+  where
+    by : (b : Bool) → badBook bytes ≡ b → length (printed bytes) ≤ 4096
+    by true bad = rw bad (omega (arith, host-line Answered.BadBook))
+    by false good = rw good (book-lines (wordsOf bytes) (or-right (not (eqb (length bytes % 4) 0)) (badWords (wordsOf bytes)) good))
