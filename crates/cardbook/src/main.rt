@@ -2,6 +2,7 @@
 ghost use Prim.Native.Nat.{_≤_};
 ghost use mathlib.Core.Path.{_≡_};
 ghost use lib.ListN.{length, take};
+ghost use Rattle.text.specs.Ink.{Laid};
 ghost use Rattle.bench.specs.Bench.{printed};
 use bench::print;
 use desk::input;
@@ -13,6 +14,7 @@ fn lay(bytes: &[u8], out: &mut [u8]) -> usize
     requires { ⌜ 4096 ≤ length (now out) ⌝ }
     ensures whole { λ r. ⌜ take r (now (out .exit)) ≡ printed (now (bytes .entry)) ⌝ }
     ensures within { λ r. ⌜ r ≤ length (now (out .exit)) ⌝ }
+    ensures laid { λ r. ⌜ Laid 0 (printed (now (bytes .entry))) (now (out .entry)) r (now (out .exit)) ⌝ }
 {
     print::print_book(bytes, out)
 }

@@ -23,7 +23,7 @@ returns : tie.Need-returns
 returns c =
     let start = c .before .before .before .before .before .before in
     let laid = c .before .before .print-book .ensures in
-    (whole laid (omega (arith, fits (start .args .bytes .now), start .pre)), stands-within laid)
+    (whole laid (omega (arith, fits (start .args .bytes .now), start .pre)), (stands-within laid, laid))
 
 pub lay-spec : {M : Type 1} → statement M
 lay-spec = tie.close (tie.spec (λ c κs. search needs) (λ c. search needs) returns)

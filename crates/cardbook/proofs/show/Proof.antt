@@ -5,7 +5,7 @@ use Rattle.cardbook.proofs.show.Statement.{statement}
 use Rattle.cardbook.proofs.show.Tie as tie
 
 slice-aggregate-write-all : tie.Need-slice-aggregate-write-all
-slice-aggregate-write-all c = sym (length-take-le _ _ (c .before .before .before .lay .ensures .1))
+slice-aggregate-write-all c = sym (length-take-le _ _ (c .before .before .before .lay .ensures .1 .0))
 
 pub show-spec : {M : Type 1} → statement M
 show-spec =
