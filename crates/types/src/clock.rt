@@ -29,19 +29,23 @@ impl Clock {
 }
 
 // The source's whole number of hertz over the requested, rounded up, and at least 2.
-fn divisor_for(source: u32, requested: u32) -> u64
-    requires { ⌜ 1 ≤ requested ⌝ }
-    ensures { λ r. ⌜ (r ≡ divisorOf source requested) × (2 ≤ r) ⌝ }
+fn divisor_for(source: Hertz, requested: Hertz) -> u64
+    requires { ⌜ 1 ≤ requested .0 ⌝ }
+    ensures { λ r. ⌜ (r ≡ divisorOf (source .0) (requested .0)) × (2 ≤ r) ⌝ }
 {
-    let up = (source as u64 + (requested as u64 - 1)) / requested as u64;
+    let s = source.0;
+    let q = requested.0;
+    let up = (s as u64 + (q as u64 - 1)) / q as u64;
     if up < 2 { 2 } else { up }
 }
 
 // Whether the source itself may be the clock.
-fn may_bypass(source: u32, requested: u32, allowed: bool) -> bool
-    ensures { λ r. ⌜ r ≡ (allowed && leb source requested) ⌝ }
+fn may_bypass(source: Hertz, requested: Hertz, allowed: bool) -> bool
+    ensures { λ r. ⌜ r ≡ (allowed && leb (source .0) (requested .0)) ⌝ }
 {
-    if allowed { source <= requested } else { false }
+    let s = source.0;
+    let q = requested.0;
+    if allowed { s <= q } else { false }
 }
 
 // The least divisor from 2 to 257 that brings the source down to the requested frequency.
@@ -59,14 +63,14 @@ pub fn clock_setting(source: Hertz, requested: Hertz, allow_bypass: bool) -> Clo
     if q > Clock::MOST {
         return ClockAnswer::Refused(Error::BadClock);
     }
-    if may_bypass(s, q, allow_bypass) {
+    if may_bypass(source, requested, allow_bypass) {
         return ClockAnswer::Set(Clock {
             divisor: 0,
             bypass: true,
             frequency: source,
         });
     }
-    let divisor = divisor_for(s, q);
+    let divisor = divisor_for(source, requested);
     if divisor > Clock::LARGEST_DIVISOR {
         return ClockAnswer::Refused(Error::BadClock);
     }

@@ -2,7 +2,6 @@
 ghost use mathlib.Core.Path.{_≡_};
 ghost use Rattle.types.specs.Settings.{defaults, madeOf};
 use crate::clock::Hertz;
-use crate::error::Answer;
 use crate::error::Error;
 
 pub struct Config {
@@ -12,6 +11,12 @@ pub struct Config {
     pub card_ready_attempts: u16,
     // Bypass needs the controller's flow control, so it is off unless asked for.
     pub allow_clock_bypass: bool,
+}
+
+// What the settings come to: a host can be made of them, or it is refused.
+pub enum ConfigAnswer {
+    Sound,
+    Refused(Error),
 }
 
 impl Config {
@@ -40,28 +45,28 @@ impl Config {
     }
 
     // What making a host of this source and these settings answers.
-    pub fn judge(self, source: Hertz) -> Answer
+    pub fn judge(self, source: Hertz) -> ConfigAnswer
         ensures { λ r. ⌜ r ≡ madeOf (source .0) self ⌝ }
     {
         let hertz = source.0;
         if self.poll_limit == 0 {
-            return Answer::Refused(Error::InvalidConfig);
+            return ConfigAnswer::Refused(Error::InvalidConfig);
         }
         if self.card_ready_attempts == 0 {
-            return Answer::Refused(Error::InvalidConfig);
+            return ConfigAnswer::Refused(Error::InvalidConfig);
         }
         if self.data_transfer_timeout == 0 {
-            return Answer::Refused(Error::InvalidConfig);
+            return ConfigAnswer::Refused(Error::InvalidConfig);
         }
         if self.software_timeout_ms == 0 {
-            return Answer::Refused(Error::InvalidConfig);
+            return ConfigAnswer::Refused(Error::InvalidConfig);
         }
         if hertz < Config::LEAST_SOURCE {
-            return Answer::Refused(Error::BadClock);
+            return ConfigAnswer::Refused(Error::BadClock);
         }
         if hertz > Config::MOST_SOURCE {
-            return Answer::Refused(Error::BadClock);
+            return ConfigAnswer::Refused(Error::BadClock);
         }
-        Answer::Accepted
+        ConfigAnswer::Sound
     }
 }

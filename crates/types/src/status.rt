@@ -17,22 +17,35 @@ pub struct CardStatus(pub u32);
 // The card's configuration register.
 pub struct Scr(pub u64);
 
+impl DataAnswer {
+    // The bits of a status word that say that its transfer failed, in the order in which they are looked at.
+    pub const TIMEOUT: u32 = 0x8;
+
+    pub const CRC: u32 = 0x2;
+
+    pub const OVERRUN: u32 = 0x20;
+
+    pub const UNDERRUN: u32 = 0x10;
+    // No start bit on one of the data lines.
+    pub const START_BIT: u32 = 0x200;
+}
+
 pub fn data_error(status: u32) -> DataAnswer
     ensures { λ r. ⌜ r ≡ dataOf status ⌝ }
 {
-    if status & 0x8 != 0 {
+    if status & DataAnswer::TIMEOUT != 0 {
         return DataAnswer::Failed(Error::Timeout);
     }
-    if status & 0x2 != 0 {
+    if status & DataAnswer::CRC != 0 {
         return DataAnswer::Failed(Error::Crc);
     }
-    if status & 0x20 != 0 {
+    if status & DataAnswer::OVERRUN != 0 {
         return DataAnswer::Failed(Error::Overrun);
     }
-    if status & 0x10 != 0 {
+    if status & DataAnswer::UNDERRUN != 0 {
         return DataAnswer::Failed(Error::Underrun);
     }
-    if status & 0x200 != 0 {
+    if status & DataAnswer::START_BIT != 0 {
         return DataAnswer::Failed(Error::StBitErr);
     }
     DataAnswer::Clean

@@ -12,4 +12,4 @@ unfolding divisorOf
 returns-2 c = search needs
 
 pub divisor-for-spec : {M : Type 1} → statement M
-divisor-for-spec = tie.close (tie.spec (λ c. search needs) (λ c. search needs) (λ c. search needs) returns returns-2)
+divisor-for-spec = tie.close (tie.spec (λ c. search needs) (λ c. search needs) (λ c. search needs) (λ c. search needs) (λ c. search needs) (λ c. search needs) returns returns-2)

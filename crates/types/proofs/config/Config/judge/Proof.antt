@@ -3,7 +3,7 @@ use mathlib.Core.Bool.{cond, _||_}
 use mathlib.Core.Path.{_≡_}
 use lib.Dec.{ltb}
 use borrow.Author.Tests.{eq-eqb, ne-eqb, lt-ltb, le-ltb}
-use Rattle.types.specs.declared.error.Answer.the-variants.{Accepted, Refused}
+use Rattle.types.specs.declared.config.ConfigAnswer.the-variants.{Sound, Refused}
 use Rattle.types.specs.declared.error.Error.the-variants.{BadClock}
 use Rattle.types.specs.Settings.{madeOf}
 use Rattle.types.proofs.config.Config.judge.Statement.{statement}
@@ -12,7 +12,7 @@ use Rattle.types.proofs.config.Config.judge.Tie as tie
 -- the four settings are nonzero, as the last of their tests finds
 set : (c : tie.Else4) → (source : ℕ)
     → madeOf source (c .before .before .before .before .before .before .before .before .args .self)
-    ≡ cond (ltb source 2 || ltb 102_800_000 source) (Refused BadClock) Accepted
+    ≡ cond (ltb source 2 || ltb 102_800_000 source) (Refused BadClock) Sound
 unfolding madeOf
 set c source =
     let third = c .before .before in
