@@ -1,5 +1,5 @@
 -- Contracts of the functions that answer something of a script and a place, for any answer: one that takes both, and one
--- that takes a reader. `word_at`, `left_at`, `word` and `left_from` have the first, `next` and `left` the second.
+-- that takes a reader. `word_at`, `left_at`, `word` and `left_from` have the first, `here` and `left` the second.
 use mathlib.Core.Path.{_≡_}
 use Prim.Native.Nat.{ℕ}
 use mathlib.Core.List.{List, [], _∷_}

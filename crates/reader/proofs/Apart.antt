@@ -1,5 +1,5 @@
 -- A function that takes a reader apart and calls another with its script and its place meets its contract where the callee
--- meets its own: the walk of `next` and of `left`, for any answer.
+-- meets its own: the walk of `here` and of `left`, for any answer.
 use mathlib.Core.Path.{_≡_, refl}
 use Prim.Native.Nat.{ℕ, _<_, _^_}
 use mathlib.Core.List.{List, [], _∷_}

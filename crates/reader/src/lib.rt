@@ -56,7 +56,7 @@ impl<'a> Reader<'a> {
     }
 
     // The word at the reader's place.
-    pub fn next(self) -> Found
+    pub fn here(self) -> Found
         ensures { λ r. ⌜ r ≡ wordAt (now (self .entry .script)) (self .entry .place) ⌝ }
     {
         word_at(self.script, self.place)
@@ -74,7 +74,7 @@ impl<'a> Reader<'a> {
 pub fn word(script: &[u32], place: usize) -> Found
     ensures { λ r. ⌜ r ≡ wordAt (now (script .entry)) place ⌝ }
 {
-    Reader::new(script).moved(place).next()
+    Reader::new(script).moved(place).here()
 }
 
 // How many words a reader of this script has left from this place on.

@@ -13,6 +13,7 @@ use Rattle.tape.specs.declared.progress.Pace.{Pace}
 use Rattle.tape.specs.declared.progress.Pace.the-variants.{Going, Stopped}
 use Rattle.tape.specs.declared.progress.Progress.{Progress}
 use Rattle.tape.specs.declared.rows.Row.{Row}
+use Rattle.tape.specs.declared.script.Data.{Data}
 use Rattle.tape.specs.Plan.{Nothing, Cause, failed, ended, Plan, give, refuse, read, write, look, hold}
 use Rattle.tape.specs.Rows.{CLKCR, rowAt, roomOf}
 
@@ -59,6 +60,11 @@ keptAt d v (Stopped x) = d
 unfoldable pub overAt : Pace → Bool → Bool
 overAt Going b = b
 overAt (Stopped x) b = true
+
+-- data words told by where they lie in a script: n of them from a place on, and (0, 0) where the call has stopped
+pub record Lies (from n : ℕ) (r : Data) : Type 0 where
+  pub place : r .place ≡ keptAt 0 from (r .progress .pace)
+  pub count : r .count ≡ keptAt 0 n (r .progress .pace)
 
 module _ (s : List ℕ) where
   -- a plan from a call that is going, with u words used and n rows written; it gives d where it stops. Where no word is

@@ -52,6 +52,43 @@ impl Icr {
     pub const ALL: u32 = 0x00c0_07ff;
 }
 
+// Bits of CLKCR; the divisor's field lies below them.
+pub struct ClockControl {}
+
+impl ClockControl {
+    pub const ENABLED: u32 = 0x100;
+    // The bits above that one are multiples of this.
+    pub const ABOVE: u32 = 0x200;
+
+    pub const BYPASS: u32 = 0x400;
+
+    pub const WIDE: u32 = 0x800;
+    // The bypass needs it.
+    pub const FLOW_CONTROL: u32 = 0x4000;
+}
+
+// Bits of CMD; the command's index lies below them, and the wait kind counts in steps of WAIT.
+pub struct CommandControl {}
+
+impl CommandControl {
+    pub const WAIT: u32 = 0x40;
+
+    pub const ENABLED: u32 = 0x400;
+}
+
+// Bits of DCTRL; the block size, as a power of two, counts in steps of BLOCK_SIZE.
+pub struct DataControl {}
+
+impl DataControl {
+    pub const ENABLED: u32 = 0x1;
+
+    pub const READING: u32 = 0x2;
+
+    pub const DMA: u32 = 0x8;
+
+    pub const BLOCK_SIZE: u32 = 0x10;
+}
+
 // Writes one row.
 pub fn write_row(p: Progress, rows: &mut [u32], register: u32, value: u32) -> Progress
     ensures { λ r. ⌜ ((s : List ℕ) → Did s (row register value) (at p (now (rows .entry))) (at r (now (rows .exit)))) ⌝ }
@@ -88,7 +125,9 @@ fn flag(on: bool, bits: u32) -> u32
 pub fn with_clken(value: u32, on: bool) -> u32
     ensures { λ r. ⌜ r ≡ clkenOf value on ⌝ }
 {
-    value / 512 * 512 + value % 256 + flag(on, 256)
+    value / ClockControl::ABOVE * ClockControl::ABOVE
+        + value % ClockControl::ENABLED
+        + flag(on, ClockControl::ENABLED)
 }
 
 // CLKCR: the divisor's field, and bits for the clock's being on, for four data lines, and for the bypass, which needs
@@ -96,19 +135,28 @@ pub fn with_clken(value: u32, on: bool) -> u32
 pub fn clkcr(clock: Clock, wide: bool, on: bool) -> u32
     ensures { λ r. ⌜ r ≡ clkcrOf clock wide on ⌝ }
 {
-    clock.divisor as u32 + flag(on, 256) + flag(wide, 2048) + flag(clock.bypass, 1024 + 16384)
+    clock.divisor as u32
+        + flag(on, ClockControl::ENABLED)
+        + flag(wide, ClockControl::WIDE)
+        + flag(
+            clock.bypass,
+            ClockControl::BYPASS + ClockControl::FLOW_CONTROL,
+        )
 }
 
 // CMD: the command's index, and how it waits for its response.
 pub fn cmd(index: u8, wait: u8) -> u32
     ensures { λ r. ⌜ r ≡ cmdOf index wait ⌝ }
 {
-    index as u32 + 64 * wait as u32 + 1024
+    index as u32 + CommandControl::WAIT * wait as u32 + CommandControl::ENABLED
 }
 
 // DCTRL: the data path and its DMA on, the direction, and the block size as a power of two.
 pub fn dctrl(reading: bool, block_size: u8) -> u32
     ensures { λ r. ⌜ r ≡ dctrlOf reading «block_size» ⌝ }
 {
-    9 + flag(reading, 2) + 16 * block_size as u32
+    DataControl::ENABLED
+        + DataControl::DMA
+        + flag(reading, DataControl::READING)
+        + DataControl::BLOCK_SIZE * block_size as u32
 }

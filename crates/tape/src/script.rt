@@ -7,7 +7,7 @@ ghost use lib.ListN.{length, take, drop};
 ghost use Rattle.types.specs.Bits.{clear};
 ghost use Rattle.tape.specs.Plan.{give};
 ghost use Rattle.tape.specs.Polls.{leading};
-ghost use Rattle.tape.specs.Run.{at, Behind, Gave};
+ghost use Rattle.tape.specs.Run.{at, Behind, Gave, Lies};
 ghost use Rattle.tape.specs.Steps.{word, dataWords};
 use crate::progress::Halt;
 use crate::progress::Pace;
@@ -161,7 +161,8 @@ pub fn quiet(words: &[u32], limit: u32, done: u32, wrong: u32) -> usize
 // and it takes no longer for many than for one.
 pub fn take_data(p: Progress, rest: &[u32], start: usize, count: usize) -> Data
     requires { ⌜ (start ≤ p .used) × (start + length (now rest) < 2 ^ 64) ⌝ }
-    ensures { λ r. ⌜ ((s l : List ℕ) → Behind start (now (rest .entry)) s → Gave s (List ℕ) [] (dataWords count) (at p l) (take (r .count) (drop (r .place) s)) (at (r .progress) l)) ⌝ }
+    ensures took { λ r. ⌜ ((s l : List ℕ) → Behind start (now (rest .entry)) s → Gave s (List ℕ) [] (dataWords count) (at p l) (take (r .count) (drop (r .place) s)) (at (r .progress) l)) ⌝ }
+    ensures lie { λ r. ⌜ Lies (p .used) count r ⌝ }
 {
     let pace = p.pace;
     let line = p.line;
@@ -200,7 +201,8 @@ pub fn take_data(p: Progress, rest: &[u32], start: usize, count: usize) -> Data
 
 // Gives these data words, unless the call has stopped.
 pub fn give_data(p: Progress, place: usize, count: usize) -> Data
-    ensures { λ r. ⌜ ((s l : List ℕ) → Gave s (List ℕ) [] (give (take count (drop place s))) (at p l) (take (r .count) (drop (r .place) s)) (at (r .progress) l)) ⌝ }
+    ensures gave { λ r. ⌜ ((s l : List ℕ) → Gave s (List ℕ) [] (give (take count (drop place s))) (at p l) (take (r .count) (drop (r .place) s)) (at (r .progress) l)) ⌝ }
+    ensures lie { λ r. ⌜ Lies place count r ⌝ }
 {
     let pace = p.pace;
     match pace {

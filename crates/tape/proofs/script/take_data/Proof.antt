@@ -2,7 +2,7 @@ use denote.Ref.{now}
 use lib.Seq.{drop-cons}
 use lib.ListN.{length, getD, take, drop}
 use mathlib.Core.List.{List, [], _∷_}
-use mathlib.Core.Path.{_≡_, ap, sym, _∙_}
+use mathlib.Core.Path.{_≡_, refl, ap, sym, _∙_}
 use Prim.Native.Nat.{ℕ, zero, suc, _≤_, _<_, _-_, _+_}
 use native.Mathlib.Omega.{arith}
 use native.Mathlib.Numerals.{add-one}
@@ -13,7 +13,7 @@ use Rattle.tape.specs.declared.progress.Halt.the-variants.{ScriptEnded}
 use Rattle.tape.specs.declared.progress.Line.{Line}
 use Rattle.tape.specs.declared.progress.Pace.the-variants.{Going, Stopped}
 use Rattle.tape.specs.Plan.{give, refuse, handle}
-use Rattle.tape.specs.Run.{After, after, next, nextAt, run}
+use Rattle.tape.specs.Run.{After, after, keptAt, next, nextAt, run}
 use Rattle.tape.specs.Steps.{word, dataFrom}
 use Rattle.tape.proofs.Behind.{left-used}
 use Rattle.tape.proofs.Laws.{run-handle, from-going, from-stopped}
@@ -59,29 +59,38 @@ module _ (s : List ℕ) where
           rw (le-ltb u (length s) (omega arith), all)
 
 returns : tie.Need-returns
-returns c = λ s l part. from-stopped (c .enum-told2 .given .1)
+unfolding keptAt
+returns c =
+    let stopped = c .enum-told2 .given .1 in
+    (λ s l part. from-stopped stopped, record { place = rw stopped; count = rw stopped })
 
 returns-2 : tie.Need-returns-2
+unfolding keptAt
 returns-2 c =
     let found = c .before in
     let going = found .before in
     let start = going .before .before .before .before in
     let a = start .args in
-    let more : found .left-from .result ≡ length (now (a .rest)) - (a .p .used - a .start) = found .left-from .ensures in
-    λ s l part.
-    let left = more ∙ sym (left-used part (start .pre .0)) in
-    from-going (going .enum-told .given .1) (rw left (sym (ended s 0 _ _ _ _ l (omega (arith, left)))))
+    let more : found .left-from .result ≡ length (now (a .rest)) - (a .p .used - a .start) = found .left-from .ensures in (
+      λ s l part.
+          let left = more ∙ sym (left-used part (start .pre .0)) in
+          from-going (going .enum-told .given .1) (rw left (sym (ended s 0 _ _ _ _ l (omega (arith, left))))),
+      record { place = refl; count = refl },
+    )
 
 returns-3 : tie.Need-returns-3
+unfolding keptAt
 returns-3 c =
     let found = c .before in
     let going = found .before in
     let start = going .before .before .before .before in
     let a = start .args in
-    let more : found .left-from .result ≡ length (now (a .rest)) - (a .p .used - a .start) = found .left-from .ensures in
-    λ s l part.
-    let left = more ∙ sym (left-used part (start .pre .0)) in
-    from-going (going .enum-told .given .1) (sym (there s 0 _ _ _ _ l (omega (arith, left))))
+    let more : found .left-from .result ≡ length (now (a .rest)) - (a .p .used - a .start) = found .left-from .ensures in (
+      λ s l part.
+          let left = more ∙ sym (left-used part (start .pre .0)) in
+          from-going (going .enum-told .given .1) (sym (there s 0 _ _ _ _ l (omega (arith, left)))),
+      record { place = refl; count = refl },
+    )
 
 pub take-data-spec : {M : Type 1} → statement M
 take-data-spec =
