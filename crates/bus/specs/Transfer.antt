@@ -11,6 +11,7 @@ use Rattle.types.specs.Bits.{clear}
 use Rattle.types.specs.Leaf.{dataOf}
 use Rattle.tape.specs.declared.script.Reading.the-variants as Reading
 use Rattle.tape.specs.Plan.{Nothing, Plan, give, look, _then_, guard, fail, ensure, until}
+use Rattle.tape.specs.Run.{State, does}
 use Rattle.tape.specs.Rows.{DTIMER, DLEN, DCTRL, DCTRL2, dctrlOf}
 use Rattle.tape.specs.Steps.{word, row, dataWords, waitIdle, resetController, stopData, setClken}
 use Rattle.bus.specs.declared.response.Response.the-variants.{R1}
@@ -108,6 +109,13 @@ transferData source config transfer rca =
     then λ _. receive (config .«poll_limit») (transfer .words)
     then λ ws. endData source config (transfer .index) rca
     then λ _. give ws
+
+-- where the data words lie: behind the words used up to the poll that completes
+abbrev pub placeAfter : List ℕ → Plan Nothing → State → ℕ
+placeAfter s p w = does s (tt {0}) p w .state .progress .used
+
+abbrev pub dataPlace : List ℕ → Config → Transfer → State → ℕ
+dataPlace s config transfer w = placeAfter s (startData config transfer then λ _. waitData (config .«poll_limit»)) w
 
 -- a refusal in a data phase: reset rows
 unfoldable pub blockingData : ℕ → Config → Transfer → ℕ → Plan (List ℕ)

@@ -103,11 +103,12 @@ fn settle(p: Progress, rest: &[u32], start: usize) -> Flag
     }
 }
 
-// One poll: whether the transfer is complete. `rest` lies behind the first `start` words of the script.
-pub fn data_complete(p: Progress, rest: &[u32], start: usize) -> Flag
-    requires { ⌜ (start ≤ p .used) × (start + length (now rest) < 2 ^ 64) ⌝ }
-    ensures { λ r. ⌜ ((s l : List ℕ) → Behind start (now (rest .entry)) s → Gave s Bool false dataComplete (at p l) (r .flag) (at (r .progress) l)) ⌝ }
+// One poll: whether the transfer is complete. `rest` is what is left of the script.
+pub fn data_complete(p: Progress, rest: &[u32]) -> Flag
+    requires { ⌜ p .used + length (now rest) < 2 ^ 64 ⌝ }
+    ensures { λ r. ⌜ ((s l : List ℕ) → Behind (p .used) (now (rest .entry)) s → Gave s Bool false dataComplete (at p l) (r .flag) (at (r .progress) l)) ⌝ }
 {
+    let start = p.used;
     let first = poll_transfer(p, rest, start);
     if first.dma & Dma::RUNNING == 0 {
         settle(first.progress, rest, start)
@@ -125,7 +126,8 @@ pub fn wait_data(p: Progress, rest: &[u32], limit: u32) -> Progress
     let mut q = p;
     let mut i: u32 = 0;
     while i < limit {
-        let poll = data_complete(q, rest, start);
+        let left = script::rest(rest, q.used - start);
+        let poll = data_complete(q, left);
         let next = poll.progress;
         if next.over(poll.flag) {
             return next;

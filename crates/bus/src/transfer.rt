@@ -2,8 +2,8 @@
 ghost use mathlib.Core.List.{List, []};
 ghost use Prim.Native.Nat.{ℕ};
 ghost use lib.ListN.{take, drop};
-ghost use Rattle.tape.specs.Run.{at, Did, Gave};
-ghost use Rattle.bus.specs.Transfer.{arm, startData, receive, closeGate, stopTransmission, endData, transferData, blockingData};
+ghost use Rattle.tape.specs.Run.{at, Did, Gave, Lies};
+ghost use Rattle.bus.specs.Transfer.{placeAfter, dataPlace, arm, startData, waitData, receive, closeGate, stopTransmission, endData, transferData, blockingData};
 use crate::command;
 use crate::poll;
 use crate::ready;
@@ -69,7 +69,8 @@ pub fn start_data(
 
 // Waits until the transfer is complete, and takes its words.
 fn receive(p: Progress, script: &[u32], limit: u32, count: u16) -> Data
-    ensures { λ r. ⌜ ((l : List ℕ) → Gave (now (script .entry)) (List ℕ) [] (receive limit count) (at p l) (take (r .count) (drop (r .place) (now (script .entry)))) (at (r .progress) l)) ⌝ }
+    ensures took { λ r. ⌜ ((l : List ℕ) → Gave (now (script .entry)) (List ℕ) [] (receive limit count) (at p l) (take (r .count) (drop (r .place) (now (script .entry)))) (at (r .progress) l)) ⌝ }
+    ensures lie { λ r. ⌜ ((l : List ℕ) → Lies (placeAfter (now (script .entry)) (waitData limit) (at p l)) count r) ⌝ }
 {
     let start = p.used;
     let rest = script::rest(script, start);
@@ -134,7 +135,8 @@ fn transfer_data(
     transfer: Transfer,
     rca: u16,
 ) -> Data
-    ensures { λ r. ⌜ Gave (now (script .entry)) (List ℕ) [] (transferData (source .0) config transfer rca) (at p (now (rows .entry))) (take (r .count) (drop (r .place) (now (script .entry)))) (at (r .progress) (now (rows .exit))) ⌝ }
+    ensures gave { λ r. ⌜ Gave (now (script .entry)) (List ℕ) [] (transferData (source .0) config transfer rca) (at p (now (rows .entry))) (take (r .count) (drop (r .place) (now (script .entry)))) (at (r .progress) (now (rows .exit))) ⌝ }
+    ensures lie { λ r. ⌜ Lies (dataPlace (now (script .entry)) config transfer (at p (now (rows .entry)))) (transfer .words) r ⌝ }
 {
     let started = start_data(p, script, rows, config, transfer);
     let taken = receive(started, script, config.poll_limit, transfer.words);
@@ -160,7 +162,8 @@ pub fn blocking_data(
     transfer: Transfer,
     rca: u16,
 ) -> Data
-    ensures { λ r. ⌜ Gave (now (script .entry)) (List ℕ) [] (blockingData (source .0) config transfer rca) (at p (now (rows .entry))) (take (r .count) (drop (r .place) (now (script .entry)))) (at (r .progress) (now (rows .exit))) ⌝ }
+    ensures gave { λ r. ⌜ Gave (now (script .entry)) (List ℕ) [] (blockingData (source .0) config transfer rca) (at p (now (rows .entry))) (take (r .count) (drop (r .place) (now (script .entry)))) (at (r .progress) (now (rows .exit))) ⌝ }
+    ensures lie { λ r. ⌜ Lies (dataPlace (now (script .entry)) config transfer (at p (now (rows .entry)))) (transfer .words) r ⌝ }
 {
     let pace = p.pace;
     match pace {

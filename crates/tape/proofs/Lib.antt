@@ -1,7 +1,9 @@
 pub mod Behind
 pub mod Laws
 pub mod Loops
+pub mod Lying
 pub mod Room
 pub mod Words
 pub mod Values
 pub mod Polls
+pub mod Walk
