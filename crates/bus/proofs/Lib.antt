@@ -1,2 +1,3 @@
 pub mod Bounds
 pub mod Delays
+pub mod Walks

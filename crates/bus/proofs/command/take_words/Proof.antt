@@ -82,7 +82,7 @@ returns c =
     let start = words .before .before .before in
     let p = start .args .p in
     λ s l part.
-    joined (words .four-at .ensures ∙ four-placed part (start .pre .0) _ (p .rows) (p .line) l refl) (taken .take-data .ensures s l part) (c .give-words .ensures s l)
+    joined (words .four-at .ensures ∙ four-placed part (start .pre .0) _ (p .rows) (p .line) l refl) (taken .take-data .ensures .0 s l part) (c .give-words .ensures s l)
 
 pub take-words-spec : {M : Type 1} → statement M
 take-words-spec =

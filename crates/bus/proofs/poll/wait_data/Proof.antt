@@ -5,6 +5,7 @@ use Prim.Native.Nat.{ℕ, _-_}
 use native.Mathlib.Omega.{arith}
 use Rattle.bus.specs.Transfer.{dataComplete, waitData}
 use Rattle.tape.specs.Run.{at, Behind}
+use Rattle.tape.proofs.Behind.{further, long}
 use Rattle.tape.proofs.Laws.{refusal, forget}
 use Rattle.tape.proofs.Loops.{Turned, no-turn, next-turn, last-turn, out-of-turns, turned-on}
 use borrow.Author.Needs.{needs}
@@ -21,25 +22,35 @@ abbrev μ-loop : tie.MeasureT-loop
 loop-holds : tie.Need-loop-holds Inv-loop μ-loop
 loop-holds c = λ s l part. no-turn
 
+-- words are only ever taken, so what is left of what is left is what is left of the script
+sub-rest : tie.Need-sub-rest Inv-loop μ-loop
+sub-rest c = omega (arith, turned-on (c .before .before .loop .inv))
+
 data-complete-requires : tie.Need-data-complete-requires Inv-loop μ-loop
-data-complete-requires c κs = omega (arith, turned-on (c .before .loop .inv))
+data-complete-requires c κs = omega (arith, turned-on (c .before .before .before .loop .inv), long (c .rest .ensures .0))
 
 returns : tie.Need-returns Inv-loop μ-loop
 unfolding waitData
 returns c =
     let over = c .before in
     let poll = over .before .before in
-    let loop = poll .before in
+    let left = poll .before in
+    let test = left .before .before in
+    let inv = test .before .loop .inv in
     λ s l part. forget
-    (last-turn (loop .before .loop .inv s l part) (loop .loop-test .taken) (poll .data-complete .ensures s l part) (sym (over .over .ensures) ∙ c .if1 .taken))
+    (last-turn (inv s l part) (test .loop-test .taken) (poll .data-complete .ensures s l (further part (turned-on inv) (left .rest .ensures .0)))
+    (sym (over .over .ensures) ∙ c .if1 .taken))
 
 loop-again : tie.Need-loop-again Inv-loop μ-loop
 loop-again c =
     let over = c .before in
     let poll = over .before .before in
-    let loop = poll .before in
+    let left = poll .before in
+    let test = left .before .before in
+    let inv = test .before .loop .inv in
     λ s l part.
-    next-turn (loop .before .loop .inv s l part) (loop .loop-test .taken) (poll .data-complete .ensures s l part) (sym (over .over .ensures) ∙ c .if1 .left)
+    next-turn (inv s l part) (test .loop-test .taken) (poll .data-complete .ensures s l (further part (turned-on inv) (left .rest .ensures .0)))
+    (sym (over .over .ensures) ∙ c .if1 .left)
 
 returns-2 : tie.Need-returns-2 Inv-loop μ-loop
 unfolding waitData
@@ -50,5 +61,5 @@ returns-2 c =
 pub wait-data-spec : {M : Type 1} → statement M
 wait-data-spec =
     tie.close
-    (tie.spec Inv-loop μ-loop loop-holds data-complete-requires (λ c κs. search needs) returns
+    (tie.spec Inv-loop μ-loop loop-holds sub-rest (λ c κs. search needs) data-complete-requires (λ c κs. search needs) returns
     (λ c. omega arith) (λ c. omega arith) loop-again (λ c κs. search needs) returns-2)

@@ -1,6 +1,10 @@
+use mathlib.Core.List.{[]}
+use mathlib.Core.Path.{_∙_}
+use Rattle.tape.specs.Run.{keptAt}
 use Rattle.tape.specs.Steps.{resetController}
 use Rattle.bus.specs.Transfer.{transferData, blockingData}
 use Rattle.tape.proofs.Laws.{guarded, from-stopped}
+use Rattle.tape.proofs.Lying.{guard-keeps}
 use borrow.Author.Needs.{needs}
 use Rattle.bus.proofs.transfer.blocking_data.Statement.{statement}
 use Rattle.bus.proofs.transfer.blocking_data.Tie as tie
@@ -10,10 +14,19 @@ unfolding blockingData
 returns c =
     let closed = c .before .before in
     let read = closed .before .before .before .before in
-    guarded {p = transferData _ _ _ _} resetController (read .before .before .enum-told .given .1) (read .transfer-data .ensures) (closed .close .ensures _)
+    let lies = read .transfer-data .ensures .1 in (
+      guarded {p = transferData _ _ _ _} resetController (read .before .before .enum-told .given .1) (read .transfer-data .ensures .0) (closed .close .ensures _),
+      record {
+        place = lies .place ∙ guard-keeps resetController 0 _ (closed .close .ensures []);
+        count = lies .count ∙ guard-keeps resetController 0 _ (closed .close .ensures []);
+      },
+    )
 
 returns-2 : tie.Need-returns-2
-returns-2 c = from-stopped (c .enum-told2 .given .1)
+unfolding keptAt
+returns-2 c =
+    let stopped = c .enum-told2 .given .1 in
+    (from-stopped stopped, record { place = rw stopped; count = rw stopped })
 
 pub blocking-data-spec : {M : Type 1} → statement M
 blocking-data-spec =

@@ -1,4 +1,7 @@
+use mathlib.Core.Path.{ap}
 use native.Mathlib.Omega.{arith}
+use Rattle.tape.specs.Plan.{Nothing}
+use Rattle.tape.specs.Run.{After}
 use Rattle.bus.specs.Transfer.{receive}
 use Rattle.tape.proofs.Laws.{seq, read-on}
 use borrow.Author.Needs.{needs}
@@ -12,8 +15,10 @@ returns : tie.Need-returns
 unfolding receive
 returns c =
     let done = c .before in
-    let part = done .before .rest .ensures .0 in
-    λ l. seq (done .wait-data .ensures _ l part) (c .take-data .ensures _ l part)
+    let part = done .before .rest .ensures .0 in (
+      λ l. seq (done .wait-data .ensures _ l part) (c .take-data .ensures .0 _ l part),
+      λ l. rw (← ap (λ (x : After Nothing). x .state .progress .used) (done .wait-data .ensures _ l part .same)) (c .take-data .ensures .1),
+    )
 
 pub receive-spec : {M : Type 1} → statement M
 receive-spec = tie.close (tie.spec (λ c κs. search needs) (λ c κs. search needs) take-data-requires returns)

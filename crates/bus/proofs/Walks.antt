@@ -1,0 +1,197 @@
+-- Commands, ready waits and data phases hold nothing new, and are never refused with BadClock: they obey every rule that
+-- allows the other errors.
+use Prim.Native.Nat.{ℕ}
+use mathlib.Core.Bool.{Bool, true, false, cond, not, _||_}
+use mathlib.Core.List.{List, [], _∷_}
+use mathlib.Core.Path.{_≡_}
+use native.Mathlib.Omega.{arith}
+use lib.Dec.{eqb}
+use Rattle.types.specs.declared.config.Config.{Config}
+use Rattle.types.specs.declared.error.Error.{Error}
+use Rattle.types.specs.declared.error.Error.the-variants as E
+use Rattle.types.specs.declared.status.DataAnswer.the-variants.{Failed}
+use Rattle.types.specs.Answer.{errorTold}
+use Rattle.types.specs.Bits.{clear}
+use Rattle.types.specs.Leaf.{Rule as Masked, firstMatch, dataOf}
+use Rattle.types.specs.Sd.{readyOf}
+use Rattle.tape.specs.Plan.{Nothing, refusing}
+use Rattle.tape.specs.Steps.{waitIdle, resetController, stopData, setClken}
+use Rattle.tape.proofs.Walk.{Rule, Obeys, on-handle, on-give, on-fail, on-then, on-look, on-test, on-word, on-row, on-ensure, on-until, on-data}
+use Rattle.bus.specs.declared.response.Form.{Form}
+use Rattle.bus.specs.declared.response.Response.{Response}
+use Rattle.bus.specs.declared.transfer.Transfer.{Transfer}
+use Rattle.bus.specs.Clock.{configureClock}
+use Rattle.types.specs.declared.clock.Clock.{Clock}
+use Rattle.bus.specs.Command.{formOf, issue, pollCompletion, waitCompletion, echo, responseWords, judge, answer, complete, commandInner, command, appCommand}
+use Rattle.bus.specs.Ready.{retryDelay, readStatus, tryReady, waitReady}
+use Rattle.bus.specs.Transfer.{Polled, arm, startData, heeded, clean, pollTransfer, drained, settle, dataComplete, waitData, receive, closeGate, stopTransmission, endData, transferData, blockingData}
+
+-- an error other than BadClock
+abbrev pub Other : Error → Type 0
+Other e = errorTold e .number ≡ 17 → ⊥
+
+-- those of a table of masks
+unfoldable Others : List Masked → Type 0
+Others [] = Unit {0}
+Others (r ∷ rs) = Other (r .error) × Others rs
+
+module _ (rule : Rule) (others : (e : Error) → Other e → rule .refuses e) where
+  late : rule .refuses E.SoftwareTimeout
+  unfolding errorTold
+  late = others E.SoftwareTimeout (λ z. omega arith)
+
+  timeout : rule .refuses E.Timeout
+  unfolding errorTold
+  timeout = others E.Timeout (λ z. omega arith)
+
+  crc : rule .refuses E.Crc
+  unfolding errorTold
+  crc = others E.Crc (λ z. omega arith)
+
+  mismatch : rule .refuses E.ResponseMismatch
+  unfolding errorTold
+  mismatch = others E.ResponseMismatch (λ z. omega arith)
+
+  errors : (word : ℕ) → rule .refuses (E.CardStatus word)
+  unfolding errorTold
+  errors word = others (E.CardStatus word) (λ z. omega arith)
+
+  locked : rule .refuses E.CardLocked
+  unfolding errorTold
+  locked = others E.CardLocked (λ z. omega arith)
+
+  incomplete : rule .refuses E.IncompleteTransfer
+  unfolding errorTold
+  incomplete = others E.IncompleteTransfer (λ z. omega arith)
+
+  dma : rule .refuses E.Dma
+  unfolding errorTold
+  dma = others E.Dma (λ z. omega arith)
+
+  pub unsupported : rule .refuses E.UnsupportedCardType
+  unfolding errorTold
+  unsupported = others E.UnsupportedCardType (λ z. omega arith)
+
+  pub idle-obeys : (limit : ℕ) (transfer : Bool) → Obeys rule Nothing (waitIdle limit transfer)
+  unfolding waitIdle
+  idle-obeys limit transfer = on-then (on-until limit _ late (on-word _)) (λ _. on-give)
+
+  pub clken-obeys : (on : Bool) → Obeys rule Nothing (setClken on)
+  unfolding setClken
+  clken-obeys on = on-look (λ line i. on-row _ _)
+
+  complete-obeys : (limit index : ℕ) (form : Form) → Obeys rule (List ℕ) (complete limit index form)
+  unfolding complete waitCompletion pollCompletion answer echo responseWords judge
+  complete-obeys limit index form =
+      on-then (on-until limit _ late (on-then (on-word _) (λ w. on-then (on-ensure _ E.Timeout timeout) (λ _. on-give))))
+      (λ status. on-test (form .silent) on-give
+      (on-then (on-ensure _ E.Crc crc)
+      (λ _. on-then
+      (on-test (form .echoes) (on-then (on-word _) (λ w. on-ensure _ E.ResponseMismatch mismatch)) on-give)
+      (λ _. on-then (on-then (on-word _) (λ a. on-then (on-word _) (λ b. on-then (on-word _) (λ c. on-then (on-word _) (λ d. on-give)))))
+      (λ ws. on-then (on-ensure _ _ (errors _))
+      (λ _. on-then (on-ensure _ E.CardLocked locked) (λ _. on-give)))))))
+
+  inner-obeys : (limit index argument : ℕ) (response : Response) → Obeys rule (List ℕ) (commandInner limit index argument response)
+  unfolding commandInner issue
+  inner-obeys limit index argument response =
+      on-then (idle-obeys limit false)
+      (λ _. on-then (on-then (on-row _ _) (λ _. on-then (on-row _ _) (λ _. on-row _ _))) (λ _. complete-obeys limit index (formOf response)))
+
+  pub command-obeys : (limit index argument : ℕ) (response : Response) → Obeys rule (List ℕ) (command limit index argument response)
+  unfolding command
+  command-obeys limit index argument response =
+      on-look (λ line i. on-test (line .gated)
+      (on-then (clken-obeys true)
+      (λ _. on-handle (refusing (setClken false)) (inner-obeys limit index argument response)
+      (λ ws. on-then (clken-obeys false) (λ _. on-give)) (λ e r. on-then (clken-obeys false) (λ _. on-fail r))))
+      (inner-obeys limit index argument response))
+
+  pub app-obeys : (limit rca : ℕ) → Obeys rule Nothing (appCommand limit rca)
+  unfolding appCommand
+  app-obeys limit rca = on-then (command-obeys limit 55 _ _) (λ ws. on-ensure _ E.UnsupportedCardType unsupported)
+
+  pub retry-obeys : (source : ℕ) → Obeys rule Nothing (retryDelay source)
+  unfolding retryDelay
+  retry-obeys source = on-row _ _
+
+  pub ready-obeys : (source : ℕ) (config : Config) (rca : ℕ) → Obeys rule Nothing (waitReady source config rca)
+  unfolding waitReady tryReady readStatus
+  ready-obeys source config rca =
+      on-then
+      (on-until _ _ late
+      (on-then (on-then (command-obeys _ 13 _ _) (λ ws. on-give))
+      (λ status. on-test (readyOf status) on-give (on-then (retry-obeys source) (λ _. on-give)))))
+      (λ _. on-give)
+
+  pub configure-obeys : (limit : ℕ) (clock : Clock) (wide on : Bool) → Obeys rule Nothing (configureClock limit clock wide on)
+  unfolding configureClock
+  configure-obeys limit clock wide on = on-then (idle-obeys limit true) (λ _. on-row _ _)
+
+  -- what `data_error` says of a status word
+  heeded-obeys : (word : ℕ) (rs : List Masked) → Others rs → Obeys rule Nothing (heeded (firstMatch word rs))
+  unfolding firstMatch Others
+  heeded-obeys word [] b = on-give
+  heeded-obeys word (r ∷ rs) b = by (clear (r .mask) word) (heeded-obeys word rs (b .1))
+    where
+      by : (none : Bool) → Obeys rule Nothing (heeded (firstMatch word rs))
+          → Obeys rule Nothing (heeded (cond none (firstMatch word rs) (Failed (r .error))))
+      by true ih = ih
+      by false ih = on-fail (others (r .error) (b .0))
+
+  clean-obeys : (status : ℕ) → Obeys rule Nothing (clean status)
+  unfolding clean dataOf Others errorTold
+  clean-obeys status = heeded-obeys status _ (λ z. omega arith, (λ z. omega arith, (λ z. omega arith, (λ z. omega arith, (λ z. omega arith, tt)))))
+
+  poll-obeys : Obeys rule Polled pollTransfer
+  unfolding pollTransfer
+  poll-obeys =
+      on-then (on-word _)
+      (λ status. on-then (clean-obeys status) (λ _. on-then (on-word _) (λ w. on-then (on-ensure _ E.Dma dma) (λ _. on-give))))
+
+  settle-obeys : Obeys rule Bool settle
+  unfolding settle drained
+  settle-obeys =
+      on-then poll-obeys
+      (λ again. on-test (clear 0x100 (again .status) || not (clear 0x3000 (again .status))) on-give
+      (on-then (on-then (on-ensure _ E.IncompleteTransfer incomplete) (λ _. on-then (on-word _) (λ w. on-ensure _ E.IncompleteTransfer incomplete))) (λ _. on-give)))
+
+  receive-obeys : (limit count : ℕ) → Obeys rule (List ℕ) (receive limit count)
+  unfolding receive waitData dataComplete
+  receive-obeys limit count =
+      on-then (on-then (on-until limit _ late (on-then poll-obeys (λ first. on-test (clear 0x4000_0000 (first .dma)) settle-obeys on-give))) (λ _. on-give))
+      (λ _. on-data 0 count)
+
+  stop-obeys : Obeys rule Nothing stopData
+  unfolding stopData
+  stop-obeys = on-then (on-row _ _) (λ _. on-then (on-row _ _) (λ _. on-row _ _))
+
+  start-obeys : (config : Config) (transfer : Transfer) → Obeys rule Nothing (startData config transfer)
+  unfolding startData arm
+  start-obeys config transfer =
+      on-then (idle-obeys _ true)
+      (λ _. on-then
+      (on-then (on-row _ _) (λ _. on-then stop-obeys (λ _. on-then (on-row _ _) (λ _. on-then (on-row _ _) (λ _. on-row _ _)))))
+      (λ _. on-then (clken-obeys true) (λ _. on-then (inner-obeys _ _ _ _) (λ _. on-give))))
+
+  end-obeys : (source : ℕ) (config : Config) (index rca : ℕ) → Obeys rule Nothing (endData source config index rca)
+  unfolding endData closeGate stopTransmission
+  end-obeys source config index rca =
+      on-then stop-obeys
+      (λ _. on-then (on-look (λ line i. on-test (line .gated) (clken-obeys false) on-give))
+      (λ _. on-then (on-test (eqb index 18) (on-then (command-obeys _ 12 _ _) (λ _. on-give)) on-give)
+      (λ _. ready-obeys source config rca)))
+
+  pub reset-obeys : Obeys rule Nothing resetController
+  unfolding resetController
+  reset-obeys =
+      on-then (on-row _ _) (λ _. on-then (on-row _ _) (λ _. on-then (on-row _ _) (λ _. on-then (on-row _ _) (λ _. on-then (on-row _ _)
+      (λ _. on-then (on-row _ _) (λ _. on-then (on-row _ _) (λ _. on-then (on-row _ _) (λ _. on-then (on-row _ _) (λ _. on-row _ _)))))))))
+
+  pub data-obeys : (source : ℕ) (config : Config) (transfer : Transfer) (rca : ℕ) → Obeys rule (List ℕ) (blockingData source config transfer rca)
+  unfolding blockingData transferData
+  data-obeys source config transfer rca =
+      on-handle (refusing resetController)
+      (on-then (start-obeys config transfer)
+      (λ _. on-then (receive-obeys _ _) (λ ws. on-then (end-obeys source config _ rca) (λ _. on-give))))
+      (λ ws. on-give) (λ e r. on-then reset-obeys (λ _. on-fail r))
