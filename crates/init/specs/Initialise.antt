@@ -13,13 +13,13 @@ use Rattle.types.specs.declared.card.Signalling.the-variants.{SDR25}
 use Rattle.types.specs.declared.clock.Clock.{Clock}
 use Rattle.types.specs.declared.clock.ClockAnswer.{ClockAnswer}
 use Rattle.types.specs.declared.clock.ClockAnswer.the-variants as Clocked
+use Rattle.types.specs.declared.error.Error.{Error}
 use Rattle.types.specs.declared.error.Error.the-variants as E
 use Rattle.types.specs.declared.register.BlockCount.{BlockCount}
 use Rattle.types.specs.declared.register.CountAnswer.{CountAnswer}
 use Rattle.types.specs.declared.register.CountAnswer.the-variants as Counted
 use Rattle.types.specs.declared.register.RateAnswer.{RateAnswer}
 use Rattle.types.specs.declared.register.RateAnswer.the-variants as Rated
-use Rattle.types.specs.Answer.{errorTold}
 use Rattle.types.specs.Bits.{bits, bit, clear}
 use Rattle.types.specs.Leaf.{clockOf, countOf, rateOf}
 use Rattle.types.specs.Sd.{wideOf, tranSpeed, sdSpec, oneLine, fourLines}
@@ -48,8 +48,30 @@ version w =
     cond (eqb w 0x1aa) (give true)
     (ensure (eqb (bitAnd w 0xfdff_e008) 0x0040_0000) E.UnsupportedCardVersion then λ _. give false)
 
+unfoldable pub timedOut : Error → Bool
+timedOut E.Timeout = true
+timedOut E.SoftwareTimeout = false
+timedOut E.Crc = false
+timedOut E.StBitErr = false
+timedOut E.Overrun = false
+timedOut E.Underrun = false
+timedOut E.Dma = false
+timedOut E.IncompleteTransfer = false
+timedOut E.ResponseMismatch = false
+timedOut (E.CardStatus word) = false
+timedOut E.CardLocked = false
+timedOut E.UnsupportedCardVersion = false
+timedOut E.UnsupportedCardType = false
+timedOut E.UnsupportedBusWidth = false
+timedOut E.SignalingSwitchFailed = false
+timedOut E.NoCard = false
+timedOut E.BadClock = false
+timedOut E.InvalidConfig = false
+timedOut E.InvalidBufferLength = false
+timedOut E.AddressOutOfRange = false
+
 unfoldable pub late : Cause → Plan Bool
-late (failed e) = cond (eqb (errorTold e .number) 1) (give false) (fail e)
+late (failed e) = cond (timedOut e) (give false) (fail e)
 late ended = refuse ended
 
 unfoldable pub cardVersion : ℕ → Plan Bool

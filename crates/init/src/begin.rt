@@ -1,10 +1,11 @@
 // The first steps of an initialisation: power, CMD0, CMD8.
+ghost use mathlib.Core.Path.{_≡_};
 ghost use mathlib.Core.List.{List};
 ghost use mathlib.Core.Bool.{Bool, false};
 ghost use Prim.Native.Nat.{ℕ};
 ghost use Rattle.tape.specs.Run.{at, Did, Gave, Settled};
 ghost use Rattle.bus.specs.Command.{firstOf};
-ghost use Rattle.init.specs.Initialise.{version, late, cardVersion, powerOn, beginInit};
+ghost use Rattle.init.specs.Initialise.{version, timedOut, late, cardVersion, powerOn, beginInit};
 use crate::settings::Settings;
 use bus::clock;
 use bus::command;
@@ -49,6 +50,16 @@ fn version(p: Progress, word: u32) -> Flag
     }
 }
 
+// Whether no answer came in time: Timeout, and no other error.
+fn timed_out(e: Error) -> bool
+    ensures { λ r. ⌜ r ≡ timedOut e ⌝ }
+{
+    match e {
+        Error::Timeout => true,
+        _ => false,
+    }
+}
+
 // What an answer to CMD8 says: no answer in time is that of a card of version 1.
 fn judge_version(a: Words) -> Flag
     ensures { λ r. ⌜ ((s l : List ℕ) → Settled s (List ℕ) Bool false (λ ws. version (firstOf ws)) late (a .words) (at (a .progress) l) (r .flag) (at (r .progress) l)) ⌝ }
@@ -60,7 +71,7 @@ fn judge_version(a: Words) -> Flag
         Pace::Going => version(p, word),
         Pace::Stopped(halt) => match halt {
             Halt::Refused(e) => {
-                if e.number() == 1 {
+                if timed_out(e) {
                     Flag {
                         progress: p.resumed(),
                         flag: false,

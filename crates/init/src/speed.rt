@@ -50,6 +50,12 @@ impl Switch {
     pub const SDR12: u32 = 25_000_000;
 
     pub const SDR25: u32 = 50_000_000;
+    // In the bytes of a switch status that list functions of the first group: SDR25's bit.
+    pub const SDR25_LISTED: u8 = 0x2;
+    // In the byte that tells what was switched to, the first group's function: what lies below this, and SDR25's number.
+    pub const GROUP: u8 = 0x10;
+
+    pub const SDR25_TAKEN: u8 = 0x1;
 }
 
 fn lesser(a: u32, b: u32) -> u32
@@ -140,14 +146,14 @@ fn set_clock(
     script: &[u32],
     rows: &mut [u32],
     settings: Settings,
-    requested: u32,
+    requested: Hertz,
 ) -> Progress
-    ensures { λ r. ⌜ Did (now (script .entry)) (setClock settings requested) (at p (now (rows .entry))) (at r (now (rows .exit))) ⌝ }
+    ensures { λ r. ⌜ Did (now (script .entry)) (setClock settings (requested .0)) (at p (now (rows .entry))) (at r (now (rows .exit))) ⌝ }
 {
     let source = settings.source;
     let limit = settings.config.poll_limit;
     let bypass = settings.config.allow_clock_bypass;
-    let found = find_clock(p, source, Hertz(requested), bypass);
+    let found = find_clock(p, source, requested, bypass);
     let clock = found.clock;
     let frequency = clock.frequency;
     let set = clock::configure_clock(
@@ -191,7 +197,7 @@ pub fn transfer_clock(
     let slow = lesser(frequency.0, Switch::SDR12);
     let found = find_rate(p, encoded);
     let requested = lesser(slow, found.word);
-    set_clock(found.progress, script, rows, settings, requested)
+    set_clock(found.progress, script, rows, settings, Hertz(requested))
 }
 
 // Whether a switch status offers SDR25.
@@ -199,8 +205,8 @@ fn offers(words: [u32; 16]) -> bool
     ensures { λ r. ⌜ r ≡ offered words ⌝ }
 {
     let bytes = words::status_bytes(words);
-    if bytes[13] & 2 != 0 {
-        bytes[29] & 2 == 0
+    if bytes[13] & Switch::SDR25_LISTED != 0 {
+        bytes[29] & Switch::SDR25_LISTED == 0
     } else {
         false
     }
@@ -211,7 +217,7 @@ fn took(words: [u32; 16]) -> bool
     ensures { λ r. ⌜ r ≡ switched words ⌝ }
 {
     let bytes = words::status_bytes(words);
-    bytes[16] % 16 == 1
+    bytes[16] % Switch::GROUP == Switch::SDR25_TAKEN
 }
 
 // Switches to SDR25, and to its clock.
@@ -239,7 +245,7 @@ fn take_switch(
     let slow = good.line.clock;
     let waited = clock::clock_delay(good, rows, source, slow, 8);
     let requested = lesser(frequency.0, Switch::SDR25);
-    let set = set_clock(waited, script, rows, settings, requested);
+    let set = set_clock(waited, script, rows, settings, Hertz(requested));
     steps::hold_signalling(set, Signalling::SDR25)
 }
 

@@ -1,5 +1,4 @@
 use mathlib.Core.Path.{ap, sym, refl, _∙_}
-use borrow.Author.Tests.{eq-eqb, ne-eqb}
 use Rattle.tape.specs.declared.progress.Pace.the-variants.{Stopped}
 use Rattle.init.specs.Initialise.{late}
 use Rattle.tape.proofs.Laws.{stay, from-going, on-true, on-false, settled-value, settled-refusal, settled-ended, settled-full}
@@ -17,14 +16,14 @@ returns-2 c =
     let test = c .before in
     let halt = test .before .before .before in
     λ s l. settled-refusal (halt .before .before .before .pace .given .1 ∙ ap Stopped (halt .halt .given .1))
-    (on-true _ (eq-eqb _ 1 (sym (test .before .number .ensures) ∙ test .if1 .taken)) (rw (c .resumed .ensures) stay))
+    (on-true _ (sym (test .before .timed-out .ensures) ∙ test .if1 .taken) (rw (c .resumed .ensures) stay))
 
 returns-3 : tie.Need-returns-3
 unfolding late run
 returns-3 c =
     let halt = c .before .before .before in
     let why = halt .before .before .before .pace .given .1 ∙ ap Stopped (halt .halt .given .1) in
-    λ s l. settled-refusal why (on-false _ (ne-eqb _ _ (λ e. c .if1 .left (c .before .number .ensures ∙ e))) (from-going refl (rw (← why))))
+    λ s l. settled-refusal why (on-false _ (sym (c .before .timed-out .ensures) ∙ c .if1 .left) (from-going refl (rw (← why))))
 
 returns-4 : tie.Need-returns-4
 returns-4 c = λ s l. settled-ended (c .before .before .before .pace .given .1 ∙ ap Stopped (c .enum-told2 .given .1))

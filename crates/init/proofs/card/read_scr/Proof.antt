@@ -19,7 +19,7 @@ returns c =
     let ready = set .before .before .before .before in
     let value : c .scr-value .result .0 ≡ scrOf (c .before .before .word .result) (c .before .word2 .result) = c .scr-value .ensures in
     seq (ready .wait-ready .ensures) (seq (set .set-block-length .ensures) (seq (told .app-command .ensures)
-    (rw (value, c .before .before .word .ensures, c .before .word2 .ensures) (mapped (λ ws. scrOf (getD ws 0 0) (getD ws 1 0)) (read .blocking-data .ensures)))))
+    (rw (value, c .before .before .word .ensures, c .before .word2 .ensures) (mapped (λ ws. scrOf (getD ws 0 0) (getD ws 1 0)) (read .blocking-data .ensures .0)))))
 
 pub read-scr-spec : {M : Type 1} → statement M
 read-scr-spec = tie.close (tie.spec (λ c κs. search needs) (λ c κs. search needs) (λ c κs. search needs) (λ c κs. search needs) (λ c κs. search needs) (λ c κs. search needs) (λ c κs. search needs) same-length returns)

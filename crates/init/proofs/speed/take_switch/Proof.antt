@@ -15,7 +15,7 @@ returns c =
     let read = c .before .before .before .before .before .before .before .before .before .before .before .before .before .before .before .before in
     let start = c .before .before .before .before .before .before .before .before .before .before .before .before .before .before .before .before .before .before .before .before .before .before in
     let taken = c .before .before .before .before .before .before .before .before .before .before .before .before .took .ensures ∙ ap switched (c .before .before .before .before .before .before .before .before .before .before .before .before .before .sixteen .ensures) ∙ switched-sixteen _ in
-    bind _ (read .blocking-data .ensures)
+    bind _ (read .blocking-data .ensures .0)
     (seq (rw taken at (c .before .before .before .before .before .before .before .before .before .before .before .ensure .ensures (start .args .script .now) (read .blocking-data .last .1 .1 .0)))
     (seq (looking _ (c .before .before .before .before .before .before .before .before .clock-delay .ensures _))
     (seq (rw (c .before .before .before .before .before .lesser .ensures) at (c .before .before .before .set-clock .ensures)) (c .hold-signalling .ensures _ _))))
