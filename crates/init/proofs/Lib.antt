@@ -1,2 +1,3 @@
 pub mod Order
 pub mod Sixteen
+pub mod Walks
