@@ -11,9 +11,15 @@ use Rattle.tape.specs.declared.progress.Pace.the-variants.{Going, Stopped}
 use Rattle.tape.specs.declared.progress.Progress.{Progress}
 use Rattle.tape.specs.Plan.{Nothing, Plan}
 use Rattle.tape.specs.Run.{State, at, After, keptAt, run, runFrom, doesAt, Gave}
+use Rattle.bus.specs.Command.{appCommand}
+use Rattle.init.specs.Initialise.{limitOf}
 use Rattle.host.specs.declared.host.Called.{Called}
 use Rattle.host.specs.declared.host.Sdmmc.{Sdmmc}
+use Rattle.types.specs.Words.{sdStatusOf}
+use Rattle.tape.proofs.Laws.{by-cases}
+use Rattle.host.specs.declared.host.StatusRead.{StatusRead}
 use Rattle.host.specs.Calls.{Came, calledOf, ends, dropped, kept, transferred, approached, served}
+use Rattle.host.specs.Calls.{untouched, statusPlan, statusNext, statusCame, statusGiven, statusReadOf}
 
 -- a choice by a test that is known
 pub if-true : {A : Type 0} {b : Bool} {x : A} (y : A) → b ≡ true → x ≡ cond b x y
@@ -116,3 +122,39 @@ module _ (host : Sdmmc) (transfer : Plan (List ℕ)) (next : State → List ℕ 
     pub stopped-there : (h : Halt) → p .pace ≡ Stopped h
         → ends host (kept host (at p l′)) host [] (p .pace) (at p l′) ≡ served host approach transfer next s l
     stopped-there h g = at-stopped (at p l′) h g ∙ through
+
+-- The status that a status call gives is the one that the record then has.
+
+abbrev Told : Came → Type 0
+Told x = statusGiven (x .answer) (x .host .card .status) ≡ statusGiven (x .answer) (sdStatusOf (x .taken))
+
+ends-held : (host refused accepted : Sdmmc) (words : List ℕ) (q : Pace) (w : State) → accepted .card .status ≡ sdStatusOf words
+    → Told (ends host refused accepted words q w)
+unfolding ends
+ends-held host refused accepted words Going w e = e
+ends-held host refused accepted words (Stopped (Refused x)) w e = refl
+ends-held host refused accepted words (Stopped ScriptEnded) w e = refl
+ends-held host refused accepted words (Stopped TraceFull) w e = refl
+
+status-held : (host : Sdmmc) (s l : List ℕ) → Told (statusCame host s l)
+unfolding statusCame served approached transferred ends
+status-held host s l = by-cases Told (host .known) _ _ (by (w .progress .pace)) refl
+  where
+    w : State
+    w = run s (tt {0}) (appCommand (limitOf (host .settings)) (host .card .rca)) 0 0 (host .line) l .state
+
+    by : (q : Pace) → Told (approached host (statusPlan host) (statusNext host) s q w)
+    by Going =
+        let x = runFrom s [] (statusPlan host) w in
+        ends-held host (dropped host (x .state)) (statusNext host (x .state) (x .value)) (x .value) (x .state .progress .pace) (x .state) refl
+    by (Stopped (Refused e)) = refl
+    by (Stopped ScriptEnded) = refl
+    by (Stopped TraceFull) = refl
+
+pub status-read : (host : Sdmmc) (s l : List ℕ) (r : Called) (status : List ℕ) → r ≡ calledOf (statusCame host s l)
+    → status ≡ statusGiven (r .answer) (r .host .card .status)
+    → record { answer = r .answer; words = r .words; rows = r .rows; status = status; host = r .host } ≡ statusReadOf (statusCame host s l)
+status-read host s l r status e given =
+    let held : status ≡ statusGiven (statusCame host s l .answer) (sdStatusOf (statusCame host s l .taken)) =
+    given ∙ ap (λ (x : Called). statusGiven (x .answer) (x .host .card .status)) e ∙ status-held host s l in
+    rw (e, held)

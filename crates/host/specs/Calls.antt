@@ -4,7 +4,7 @@ use Prim.Native.Nat.{ℕ, _*_, _/_, _%_, min}
 use mathlib.Core.Bool.{Bool, true, false, cond, not, _||_}
 use mathlib.Core.List.{List, [], _++_}
 use lib.Dec.{eqb, ltb}
-use lib.ListN.{length, take, drop}
+use lib.ListN.{length, take, drop, replicate}
 use Rattle.types.specs.declared.card.AddressAnswer.{AddressAnswer}
 use Rattle.types.specs.declared.card.AddressAnswer.the-variants as Address
 use Rattle.types.specs.declared.card.Card.{Card}
@@ -12,6 +12,8 @@ use Rattle.types.specs.declared.card.Signalling.the-variants.{SDR12}
 use Rattle.types.specs.declared.clock.ClockAnswer.{ClockAnswer}
 use Rattle.types.specs.declared.clock.ClockAnswer.the-variants as Clocked
 use Rattle.types.specs.declared.clock.Hertz.{Hertz}
+use Rattle.types.specs.declared.config.ConfigAnswer.{ConfigAnswer}
+use Rattle.types.specs.declared.config.ConfigAnswer.the-variants as Judged
 use Rattle.types.specs.declared.error.Answer.{Answer}
 use Rattle.types.specs.declared.error.Answer.the-variants as Answered
 use Rattle.types.specs.declared.error.Error.{Error}
@@ -35,6 +37,7 @@ use Rattle.host.specs.declared.host.Called.{Called}
 use Rattle.host.specs.declared.host.Held.{Held}
 use Rattle.host.specs.declared.host.Made.{Made}
 use Rattle.host.specs.declared.host.Sdmmc.{Sdmmc}
+use Rattle.host.specs.declared.host.StatusRead.{StatusRead}
 
 -- what a host holds of its line before it speaks to a card, and at the start of an initialisation: CLKCR as the reset
 -- leaves it, not gated, the clock of identification, SDR12
@@ -199,6 +202,25 @@ statusFrom host s l = served host (appCommand (limitOf (host .settings)) (host .
 unfoldable pub statusCame : Sdmmc → List ℕ → List ℕ → Came
 statusCame host s l = cond (host .known) (statusFrom host s l) (untouched host E.NoCard l)
 
+-- the status that a call gives of the one that was read: zeros unless it was accepted
+abbrev pub statusGiven : Answer → List ℕ → List ℕ
+statusGiven Answered.Accepted status = status
+statusGiven (Answered.Refused e) status = replicate 16 0
+statusGiven Answered.ScriptEnded status = replicate 16 0
+statusGiven Answered.TraceFull status = replicate 16 0
+statusGiven Answered.BadBook status = replicate 16 0
+
+-- what the caller gets of a status call as a value: the status is that of the words that it took
+abbrev pub statusReadOf : Came → StatusRead
+statusReadOf x =
+    record {
+      answer = x .answer;
+      words = x .words;
+      rows = x .rows;
+      status = statusGiven (x .answer) (sdStatusOf (x .taken));
+      host = x .host;
+    }
+
 -- What a host holds of its card: 16 where it has none.
 
 abbrev pub heldOf : Sdmmc → Held
@@ -229,12 +251,9 @@ unfoldable pub clockedHost : Settings → ClockAnswer → Made
 clockedHost set (Clocked.Set c) = record { answer = Answered.Accepted; host = hostOf set (freshLine (c .frequency)) false noCard }
 clockedHost set (Clocked.Refused e) = record { answer = Answered.Refused e; host = noHost }
 
-unfoldable pub judgedHost : Settings → Answer → Made
-judgedHost set Answered.Accepted = clockedHost set (clockOf (sourceOf set) 400_000 false)
-judgedHost set (Answered.Refused e) = record { answer = Answered.Refused e; host = noHost }
-judgedHost set Answered.ScriptEnded = record { answer = Answered.ScriptEnded; host = noHost }
-judgedHost set Answered.TraceFull = record { answer = Answered.TraceFull; host = noHost }
-judgedHost set Answered.BadBook = record { answer = Answered.BadBook; host = noHost }
+unfoldable pub judgedHost : Settings → ConfigAnswer → Made
+judgedHost set Judged.Sound = clockedHost set (clockOf (sourceOf set) 400_000 false)
+judgedHost set (Judged.Refused e) = record { answer = Answered.Refused e; host = noHost }
 
 unfoldable pub made : Settings → Made
 made set = judgedHost set (madeOf (sourceOf set) (set .config))

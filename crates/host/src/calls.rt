@@ -8,11 +8,12 @@ ghost use lib.ListN.{length};
 ghost use Rattle.types.specs.declared.card.AddressAnswer.the-variants as Address;
 ghost use Rattle.types.specs.declared.clock.ClockAnswer.the-variants as Clocked;
 ghost use Rattle.tape.specs.Run.{at};
-ghost use Rattle.host.specs.Calls.{calledOf, kept, dropped, ends, initFrom, initialised, readTransfer, readData, readFrom, readKnown, readCame, bufferOf, withStatus, statusData, statusFrom, statusCame};
+ghost use Rattle.host.specs.Calls.{calledOf, kept, dropped, ends, initFrom, initialised, readTransfer, readData, readFrom, readKnown, readCame, bufferOf, withStatus, statusData, statusFrom, statusCame, statusGiven, statusReadOf};
 use crate::blocks;
 use crate::host;
 use crate::host::Called;
 use crate::host::Sdmmc;
+use crate::host::StatusRead;
 use bus::command;
 use bus::ready;
 use bus::transfer;
@@ -29,6 +30,7 @@ use types::clock::Clock;
 use types::clock::ClockAnswer;
 use types::clock::Hertz;
 use types::clock::clock_setting;
+use types::error::Answer;
 use types::error::Error;
 use types::words;
 
@@ -39,6 +41,19 @@ fn with_status(card: Card, status: [u32; 16]) -> Card
     let mut read = card;
     read.status = status;
     read
+}
+
+// The status of a call that was answered so, where its record's status is this one: zeros unless it was accepted.
+fn given_status(answer: Answer, status: [u32; 16]) -> [u32; 16]
+    ensures { λ r. ⌜ r ≡ statusGiven answer status ⌝ }
+{
+    match answer {
+        Answer::Accepted => status,
+        Answer::Refused(_) => [0; 16],
+        Answer::ScriptEnded => [0; 16],
+        Answer::TraceFull => [0; 16],
+        Answer::BadBook => [0; 16],
+    }
 }
 
 // CMD17 for one block, CMD18 for more.
@@ -164,8 +179,8 @@ impl Sdmmc {
         }
     }
 
-    // Reads the card's SD status into its record.
-    pub fn blocking_read_sd_status(self, script: &[u32], rows: &mut [u32]) -> Called
+    // A status call, but for the status that it gives.
+    fn status_called(self, script: &[u32], rows: &mut [u32]) -> Called
         ensures answered { λ r. ⌜ r ≡ calledOf (statusCame self (now (script .entry)) (now (rows .entry))) ⌝ }
         ensures listed { λ r. ⌜ now (rows .exit) ≡ statusCame self (now (script .entry)) (now (rows .entry)) .list ⌝ }
     {
@@ -173,6 +188,26 @@ impl Sdmmc {
             self.status_from(script, rows)
         } else {
             self.untouched(Error::NoCard)
+        }
+    }
+
+    // Reads the card's SD status, which is then in its record too.
+    pub fn blocking_read_sd_status(self, script: &[u32], rows: &mut [u32]) -> StatusRead
+        ensures answered { λ r. ⌜ r ≡ statusReadOf (statusCame self (now (script .entry)) (now (rows .entry))) ⌝ }
+        ensures listed { λ r. ⌜ now (rows .exit) ≡ statusCame self (now (script .entry)) (now (rows .entry)) .list ⌝ }
+    {
+        let called = self.status_called(script, rows);
+        let answer = called.answer;
+        let host = called.host;
+        let card = host.card;
+        let read = card.status;
+        let status = given_status(answer, read);
+        StatusRead {
+            answer: answer,
+            words: called.words,
+            rows: called.rows,
+            status: status,
+            host: host,
         }
     }
 

@@ -18,6 +18,7 @@ use types::clock::ClockAnswer;
 use types::clock::Hertz;
 use types::clock::clock_setting;
 use types::config::Config;
+use types::config::ConfigAnswer;
 use types::error::Answer;
 use types::error::Error;
 
@@ -46,6 +47,15 @@ pub struct Called {
     pub answer: Answer,
     pub words: usize,
     pub rows: usize,
+    pub host: Sdmmc,
+}
+
+// What a status call comes to: as any call, and the SD status that was read, zeros unless the call was accepted.
+pub struct StatusRead {
+    pub answer: Answer,
+    pub words: usize,
+    pub rows: usize,
+    pub status: [u32; 16],
     pub host: Sdmmc,
 }
 
@@ -135,21 +145,9 @@ impl Sdmmc {
         let config = settings.config;
         let answer = config.judge(source);
         match answer {
-            Answer::Accepted => clocked(settings),
-            Answer::Refused(error) => Made {
+            ConfigAnswer::Sound => clocked(settings),
+            ConfigAnswer::Refused(error) => Made {
                 answer: Answer::Refused(error),
-                host: no_host(),
-            },
-            Answer::ScriptEnded => Made {
-                answer: Answer::ScriptEnded,
-                host: no_host(),
-            },
-            Answer::TraceFull => Made {
-                answer: Answer::TraceFull,
-                host: no_host(),
-            },
-            Answer::BadBook => Made {
-                answer: Answer::BadBook,
                 host: no_host(),
             },
         }

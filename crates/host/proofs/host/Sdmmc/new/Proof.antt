@@ -12,17 +12,5 @@ returns-2 : tie.Need-returns-2
 unfolding made judgedHost
 returns-2 c = rw (sym (c .before .before .before .before .judge .ensures) ∙ c .before .before .answer .given .1, c .no-host .ensures)
 
-returns-3 : tie.Need-returns-3
-unfolding made judgedHost
-returns-3 c = rw (sym (c .before .before .before .judge .ensures) ∙ c .before .enum-told2 .given .1, c .no-host2 .ensures)
-
-returns-4 : tie.Need-returns-4
-unfolding made judgedHost
-returns-4 c = rw (sym (c .before .before .before .judge .ensures) ∙ c .before .enum-told3 .given .1, c .no-host3 .ensures)
-
-returns-5 : tie.Need-returns-5
-unfolding made judgedHost
-returns-5 c = rw (sym (c .before .before .before .judge .ensures) ∙ c .before .enum-told4 .given .1, c .no-host4 .ensures)
-
 pub new-spec : {M : Type 1} → statement M
-new-spec = tie.close (tie.spec (λ c κs. search needs) (λ c. search needs) (λ c κs. search needs) (λ c. search needs) (λ c κs. search needs) (λ c. search needs) (λ c κs. search needs) (λ c. search needs) (λ c κs. search needs) (λ c. search needs) (λ c κs. search needs) returns returns-2 returns-3 returns-4 returns-5)
+new-spec = tie.close (tie.spec (λ c κs. search needs) (λ c. search needs) (λ c κs. search needs) (λ c. search needs) (λ c κs. search needs) returns returns-2)

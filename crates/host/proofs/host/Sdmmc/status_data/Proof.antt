@@ -26,7 +26,7 @@ returns c =
     let host = start .args .self in
     let left = at (read .blocking-data .result .progress) (read .blocking-data .last .1 .1 .0) in
     let ws = take (read .blocking-data .result .count) (drop (read .blocking-data .result .place) (start .args .script .now)) in
-    data-told host (statusPlan host) (statusNext host) _ (start .pre) (read .blocking-data .ensures)
+    data-told host (statusPlan host) (statusNext host) _ (start .pre) (read .blocking-data .ensures .0)
     (c .ends-without .ensures ws (left .list) ∙ ap calledOf (none-accepted host _ _ _ ws _ _ left (c .before .enum-told2 .given .1)))
 
 returns-2 : tie.Need-returns-2
@@ -40,7 +40,7 @@ returns-2 c =
     let words : sixteen .sixteen .result ≡ sixteenOf ws = sixteen .sixteen .ensures in
     let status = c .before .before .before .sd-status .ensures ∙ ap sdStatusOf words ∙ status-sixteen ws in
     let next : c .before .with .result ≡ statusNext host left ws = rw (c .before .before .with-status .ensures, status) at (c .before .with .ensures) in
-    data-told host (statusPlan host) (statusNext host) _ (start .pre) (read .blocking-data .ensures)
+    data-told host (statusPlan host) (statusNext host) _ (start .pre) (read .blocking-data .ensures .0)
     (rw next at (c .ends .ensures ws (left .list)) ∙ ap calledOf (none-refused host _ _ _ ws _ left (sixteen .before .enum-told .given .1)))
 
 pub status-data-spec : {M : Type 1} → statement M
