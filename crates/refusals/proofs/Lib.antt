@@ -4,3 +4,4 @@ pub mod Untouched
 pub mod InitRefusals
 pub mod DataRefusals
 pub mod Leaves
+pub mod Whole
