@@ -143,11 +143,11 @@ rate byte =
         ap Rate.Rate (ap (λ (x : ℕ). x * tenths) (tens (bits byte 2 0)) ∙ scaled (unit / 1_000) tenths)
 
 -- Address: accepted exactly where 1 to 511 blocks are asked for, all on the card, and what stands for the bytes before the
--- first of them, in SD's unit, fits 32 bits; and then it is that.
+-- first of them, in SD's unit, fits 32 bits as the index does; and then it is that.
 
 pub record Follows (class : CardCapacity) (blocks index count address : ℕ) : Type 0 where
   pub place : address * unitBytes class ≡ 512 * index
-  pub fits : address < 2 ^ 32
+  pub fits : index < 2 ^ 32 → address < 2 ^ 32
   pub some : 1 ≤ count
   pub most : count ≤ 511
   pub inside : index + count ≤ blocks
@@ -156,22 +156,21 @@ positive : {n : ℕ} → (n ≡ 0 → ⊥) → 1 ≤ n
 positive {n = zero} h = absurd (h refl)
 positive {n = suc n} h = omega arith
 
-units : (class : CardCapacity) (index a : ℕ) → index < 2 ^ 32 → unitsOf class index ≡ Address.Address a
-    → (a * unitBytes class ≡ 512 * index) × (a < 2 ^ 32)
+units : (class : CardCapacity) (index a : ℕ) → unitsOf class index ≡ Address.Address a
+    → (a * unitBytes class ≡ 512 * index) × (index < 2 ^ 32 → a < 2 ^ 32)
 unfolding unitsOf
-units SDSC index a word e = by (ltb (512 * index) (2 ^ 32)) refl e
+units SDSC index a e = by (ltb (512 * index) (2 ^ 32)) refl e
   where
     by : (b : Bool) → ltb (512 * index) (2 ^ 32) ≡ b → cond b (Address.Address (512 * index)) (Address.Refused AddressOutOfRange) ≡ Address.Address a
-        → (a * 1 ≡ 512 * index) × (a < 2 ^ 32)
-    by true t e = let same : 512 * index ≡ a = cc in let small = ltb-true (512 * index) (2 ^ 32) t in (omega arith, omega arith)
+        → (a * 1 ≡ 512 * index) × (index < 2 ^ 32 → a < 2 ^ 32)
+    by true t e = let same : 512 * index ≡ a = cc in let small = ltb-true (512 * index) (2 ^ 32) t in (omega arith, λ word. omega arith)
     by false t e = let z : _≡_ {A = ℕ} 0 1 = cc in absurd (omega arith)
-units SDHC index a word e = let same : index ≡ a = cc in (omega arith, omega arith)
+units SDHC index a e = let same : index ≡ a = cc in (omega arith, λ word. omega arith)
 
--- an index is a word of 32 bits
-pub address : (class : CardCapacity) (blocks index count a : ℕ) → index < 2 ^ 32 → addressOf class blocks index count ≡ Address.Address a
+pub address : (class : CardCapacity) (blocks index count a : ℕ) → addressOf class blocks index count ≡ Address.Address a
     → Follows class blocks index count a
 unfolding addressOf
-address class blocks index count a word e = by (eqb count 0) (ltb 511 count) (ltb blocks (index + count)) refl refl refl e
+address class blocks index count a e = by (eqb count 0) (ltb 511 count) (ltb blocks (index + count)) refl refl refl e
   where
     by : (none many past : Bool) → eqb count 0 ≡ none → ltb 511 count ≡ many → ltb blocks (index + count) ≡ past
         → cond (none || many) (Address.Refused InvalidBufferLength) (cond past (Address.Refused AddressOutOfRange) (unitsOf class index)) ≡ Address.Address a
@@ -180,7 +179,7 @@ address class blocks index count a word e = by (eqb count 0) (ltb 511 count) (lt
     by false true past n m p e = let z : _≡_ {A = ℕ} 0 1 = cc in absurd (omega arith)
     by false false true n m p e = let z : _≡_ {A = ℕ} 0 1 = cc in absurd (omega arith)
     by false false false n m p e =
-        let unit = units class index a word e in
+        let unit = units class index a e in
         record {
           place = unit .0;
           fits = unit .1;
@@ -189,22 +188,22 @@ address class blocks index count a word e = by (eqb count 0) (ltb 511 count) (lt
           inside = ltb-false blocks (index + count) p;
         }
 
--- and the other way
+-- and the other way, for an index of 32 bits
 in-units : (class : CardCapacity) (index a : ℕ) → a * unitBytes class ≡ 512 * index → a < 2 ^ 32 → unitsOf class index ≡ Address.Address a
 unfolding unitsOf
 in-units SDSC index a e small = let same : 512 * index ≡ a = omega arith in rw (same, lt-ltb a (2 ^ 32) small)
 in-units SDHC index a e small = let same : index ≡ a = omega arith in ap Address.Address same
 
-pub address-accepted : (class : CardCapacity) (blocks index count a : ℕ) → Follows class blocks index count a
+pub address-accepted : (class : CardCapacity) (blocks index count a : ℕ) → index < 2 ^ 32 → Follows class blocks index count a
     → addressOf class blocks index count ≡ Address.Address a
 unfolding addressOf
-address-accepted class blocks index count a f =
+address-accepted class blocks index count a word f =
     rw (
       ne-eqb count 0 (λ e. omega (arith, f .some)),
       le-ltb 511 count (f .most),
       le-ltb blocks (index + count) (f .inside),
     )
-    (in-units class index a (f .place) (f .fits))
+    (in-units class index a (f .place) (f .fits word))
 
 -- Masks: document 01's masks of the card status are SD's places.
 
