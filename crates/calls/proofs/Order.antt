@@ -13,7 +13,7 @@ use Rattle.types.specs.Words.{sdStatusOf}
 use Rattle.init.specs.declared.settings.Settings.{Settings}
 use Rattle.host.specs.declared.host.Held.{Held}
 use Rattle.host.specs.declared.host.Sdmmc.{Sdmmc}
-use Rattle.host.specs.Calls.{Came, heldOf, made, statusCame, statusFrom, untouched, withStatus}
+use Rattle.host.specs.Calls.{heldOf, made, statusCame, statusFrom, untouched, withStatus}
 use Rattle.calls.specs.Serve.{Call, initialise, read, status, comes, serve, Told, toldOf, leftOut, history, holds, holdsNone, allowed, afterInitialise, afterData, afterCall, expected}
 use Rattle.calls.specs.Order.{accepted, refused, initialises, readsStatus, loses, lastRecord, since, lastStatus, lost, dueOf, due, Possible}
 use Rattle.calls.proofs.AnyList.{Clockable, made-clockable, leaves, after-a-call, record-held}

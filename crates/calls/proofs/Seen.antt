@@ -2,7 +2,7 @@
 -- if the last rows that it wrote are the reset rows.
 use Prim.Native.Nat.{ℕ, _+_, _*_, _-_, _/_, _%_, _<_, _≤_}
 use mathlib.Core.Bool.{Bool, true, false, cond, _&&_}
-use mathlib.Core.List.{List, []}
+use mathlib.Core.List.{List}
 use mathlib.Core.Path.{_≡_, refl, ap, sym, _∙_}
 use native.Mathlib.Omega.{arith}
 use lib.Dec.{eqb}
@@ -13,24 +13,22 @@ use Rattle.types.specs.declared.card.AddressAnswer.{AddressAnswer}
 use Rattle.types.specs.declared.card.AddressAnswer.the-variants as Address
 use Rattle.types.specs.declared.error.Answer.the-variants as Answered
 use Rattle.types.specs.declared.error.Error.{Error}
-use Rattle.types.specs.declared.error.Error.the-variants as E
 use Rattle.types.specs.Leaf.{addressOf}
 use Rattle.tape.specs.declared.progress.Halt.the-variants.{Refused}
 use Rattle.tape.specs.declared.progress.Pace.the-variants.{Going, Stopped}
 use Rattle.tape.specs.Rows.{ICR, placeOf, wordsOf}
-use Rattle.tape.specs.Run.{State, run}
+use Rattle.tape.specs.Run.{State}
 use Rattle.bus.specs.Command.{appCommand}
-use Rattle.bus.specs.Ready.{waitReady}
 use Rattle.init.specs.Initialise.{sourceOf, limitOf}
 use Rattle.host.specs.declared.host.Sdmmc.{Sdmmc}
-use Rattle.host.specs.Calls.{Came, came, untouched, kept, readCame, statusCame}
+use Rattle.host.specs.Calls.{Came, untouched, readCame, statusCame}
 use Rattle.refusals.proofs.Guards.{resetRows}
 use Rattle.refusals.proofs.Reset.{ResetAfter, reset-last}
 use Rattle.refusals.proofs.DataRefusals as R
-use Rattle.refusals.proofs.DataRefusals.{RefusedIn, readWait, status55, read-early, read-refused-in, read-refused-in-data, status-early, status-refused-in, status-refused-in-data}
+use Rattle.refusals.proofs.DataRefusals.{RefusedIn, read-early, read-refused-in, read-refused-in-data, status-early, status-refused-in, status-refused-in-data}
 use Rattle.refusals.proofs.Untouched.{read-16, read-19-length, read-refused, status-16}
 use Rattle.calls.specs.Serve.{read, status, comes, approach, none, approachOf, readApproach, going, passed, begun}
-use Rattle.calls.proofs.Steady.{Ordinary, LastRow, rowIn, starts-last, app-steady, ready-steady}
+use Rattle.calls.proofs.Steady.{Ordinary, LastRow, starts-last, app-steady, ready-steady}
 
 -- the last ten of the rows that a call wrote are the reset rows
 pub record ResetLast (x : Came) : Type 0 where

@@ -7,7 +7,7 @@ use borrow.Author.Tests.{ltb-true, ltb-false, le-leb, lt-leb}
 use Rattle.types.specs.declared.card.CardCapacity.{CardCapacity}
 use Rattle.types.specs.declared.card.CardCapacity.the-variants.{SDSC, SDHC}
 use Rattle.types.specs.Answer.{Told, errorTold, clockTold, countTold, sizeTold, rateTold, addressTold, dataTold}
-use Rattle.types.specs.Leaf.{divisorOf, clockOf, firstMatch, dataOf, countOf, rateOf, unitsOf, addressOf, sizeOf}
+use Rattle.types.specs.Leaf.{clockOf, firstMatch, dataOf, countOf, rateOf, unitsOf, addressOf, sizeOf}
 use Rattle.types.specs.Rules.{clockRule, dataRule, countRule, rateRule, unitsRule, addressRule, sizeRule}
 
 -- what is told of a choice
