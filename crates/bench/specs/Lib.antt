@@ -1,3 +1,4 @@
 pub mod Bench
 pub mod Trace
 pub mod Opens
+pub mod Cases

@@ -1,19 +1,16 @@
--- Document 01's book, read by the definition; and its neighbours, which are none.
+-- Document 01's book, read by the definition; and its neighbours, good and bad. (What is printed of it: bench/specs/Cases.antt.)
 use Prim.Native.Nat.{ℕ}
 use mathlib.Core.Bool.{true, false}
 use mathlib.Core.List.{List, [], _∷_, _++_, map}
 use mathlib.Core.Option.{some}
 use mathlib.Core.Path.{_≡_, refl}
 use Rattle.types.specs.Words.{bytesOf}
-use Rattle.text.specs.Digits.{decimalIn, decimalOf}
-use Rattle.text.specs.Typed.{typed}
-use Rattle.book.specs.Lines.{hostLine, callLine}
 use Rattle.book.specs.Layout.{Book, Call, wordsOf, callsOf, bookIn, badRow, badRows, scriptWords, badWords, badBook, bookOf}
 
 abbrev call : ℕ → ℕ → ℕ → List ℕ → Call
 call kind a b script = record { kind = kind; a = a; b = b; script = script }
 
-abbrev words : List ℕ
+abbrev pub words : List ℕ
 words =
     8000000 ∷ 1 ∷ 1 ∷ 1 ∷ 1 ∷ 0 ∷ 3 ∷ 1 ∷ 50000001 ∷ 0 ∷ 0 ∷ 2 ∷ 0 ∷ 1 ∷ 0 ∷ 1 ∷ 25000000 ∷ 0 ∷ 1 ∷ 2048 ∷ []
 
@@ -65,8 +62,3 @@ bad : map badWords (
     ) ≡ true ∷ true ∷ true ∷ true ∷ true ∷ true ∷ true ∷ true ∷ true ∷ true ∷ true ∷ true ∷ []
 unfolding badRow badRows scriptWords badWords
 bad = refl
-
--- THE DOCUMENT'S PRINT, line by line
-printed : hostLine 0 ++ callLine 1 17 0 0 ++ callLine 2 16 0 0 ++ callLine 3 2 1 20 ≡ typed "host answer 0\n1 answer 17 words 0 rows 0\n2 answer 16 words 0 rows 0\n3 answer 2 words 1 rows 20\n"
-unfolding decimalIn decimalOf
-printed = refl

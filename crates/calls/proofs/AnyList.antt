@@ -144,7 +144,7 @@ read-follows host index bytes s l =
     by false d a = refl
 
 -- a host whose source has a clock of identification, as every one that is made
-Clockable : Settings → Type 0
+pub Clockable : Settings → Type 0
 Clockable set = (c : Clock) × (clockOf (sourceOf set) 400_000 false ≡ Clocked.Set c)
 
 -- One call: what is held after it is what is expected from what was held before.
@@ -225,25 +225,31 @@ made-host set r = by (madeOf (sourceOf set) (set .config)) (clockOf (sourceOf se
     by Answered.TraceFull k e r = let z : _≡_ {A = ℕ} 0 1 = cc in absurd (omega arith)
     by Answered.BadBook k e r = let z : _≡_ {A = ℕ} 0 1 = cc in absurd (omega arith)
 
-made-clockable : (set : Settings) → made set .answer ≡ Answered.Accepted → Clockable (made set .host .settings)
+pub made-clockable : (set : Settings) → made set .answer ≡ Answered.Accepted → Clockable (made set .host .settings)
 unfolding Clockable
 made-clockable set ok =
     let m = made-host set ok in
     let new : made set .host .settings ≡ set = ap (λ (h : Sdmmc). h .settings) (m .2) in
     rw new (m .0, m .1)
 
--- Demand 3, the record. From a host that holds what is expected after some past:
-after-any-list : (past : List Told) (host : Sdmmc) (cs : List Call) → Clockable (host .settings)
-    → heldOf host ≡ expected past → heldOf (serve host cs .host) ≡ expected (history past host cs)
-unfolding serve history expected
-after-any-list past host [] k e = e
-after-any-list past host (c ∷ cs) k e =
-    after-any-list (cond (leftOut (comes host c .answer)) past (toldOf host c ∷ past)) (comes host c .host) cs (rw (leaves host c .settings) k)
-    (follows host c k ∙ by (leftOut (comes host c .answer)))
+-- Demand 3, the record. From a host that holds what is expected after some past, one call:
+pub after-a-call : (past : List Told) (host : Sdmmc) (c : Call) → Clockable (host .settings) → heldOf host ≡ expected past
+    → heldOf (comes host c .host) ≡ expected (cond (leftOut (comes host c .answer)) past (toldOf host c ∷ past))
+unfolding expected
+after-a-call past host c k e = follows host c k ∙ by (leftOut (comes host c .answer))
   where
     by : (b : Bool) → cond b (heldOf host) (afterCall c (toldOf host c) (heldOf host)) ≡ expected (cond b past (toldOf host c ∷ past))
     by true = e
     by false = ap (afterCall c (toldOf host c)) e
+
+-- any list,
+after-any-list : (past : List Told) (host : Sdmmc) (cs : List Call) → Clockable (host .settings)
+    → heldOf host ≡ expected past → heldOf (serve host cs .host) ≡ expected (history past host cs)
+unfolding serve history
+after-any-list past host [] k e = e
+after-any-list past host (c ∷ cs) k e =
+    after-any-list (cond (leftOut (comes host c .answer)) past (toldOf host c ∷ past)) (comes host c .host) cs (rw (leaves host c .settings) k)
+    (after-a-call past host c k e)
 
 -- and so from a host that was just made, which holds none.
 pub record-held : (set : Settings) → made set .answer ≡ Answered.Accepted → (cs : List Call)

@@ -1,2 +1,4 @@
 pub mod AnyList
+pub mod Order
+pub mod Seen
 pub mod Steady

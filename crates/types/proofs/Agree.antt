@@ -1,43 +1,51 @@
 -- Document 01's arithmetic agrees with SD's fields: capacity, rate and address follow the SD specification.
-use Prim.Native.Nat.{ℕ, zero, suc, _+_, _*_, _-_, _/_, _^_, _≤_}
+use Prim.Native.Nat.{ℕ, zero, suc, _+_, _*_, _-_, _/_, _^_, _<_, _≤_}
 use mathlib.Core.Bool.{Bool, true, false, cond, _||_}
 use mathlib.Core.List.{List, [], _∷_, map}
 use mathlib.Core.Path.{_≡_, refl, ap, sym, _∙_}
-use native.Mathlib.Nat.{mul-assoc, mul-right-comm, mul-div-left, sub-add-cancel}
+use native.Mathlib.Nat.{zero-add, mod-lt, mul-assoc, mul-right-comm, mul-div-left, sub-add-cancel}
 use native.Mathlib.Omega.{arith}
 use lib.Dec.{eqb, ltb, lit<}
 use lib.ListN.{getD}
 use lib.Pow.{pow-add}
-use borrow.Author.Tests.{eqb-false, ltb-false}
+use borrow.Author.Tests.{eqb-false, ltb-true, ltb-false, lt-ltb, le-ltb, ne-eqb}
 use Rattle.types.specs.declared.card.CardCapacity.{CardCapacity}
 use Rattle.types.specs.declared.card.CardCapacity.the-variants.{SDSC, SDHC}
 use Rattle.types.specs.declared.card.AddressAnswer.the-variants as Address
 use Rattle.types.specs.declared.register.CountAnswer.{CountAnswer}
 use Rattle.types.specs.declared.register.CountAnswer.the-variants as Count
 use Rattle.types.specs.declared.register.RateAnswer.the-variants as Rate
-use Rattle.types.specs.declared.error.Error.the-variants.{InvalidBufferLength, AddressOutOfRange}
+use Rattle.types.specs.declared.error.Error.the-variants.{UnsupportedCardType, InvalidBufferLength, AddressOutOfRange}
 use Rattle.types.specs.Bits.{bits, bit}
 use Rattle.types.specs.Leaf.{countOf, rateOf, rateUnits, rateTenths, unitsOf, addressOf}
-use Rattle.types.specs.Sd.{wideOf, readBlLen, cSize1, cSizeMult, cSize2, bytes1, bytes2, sdCount, unitKilobits, timeTenths, sdRate, unitBytes, errorPlaces, lockedPlaces, appPlaces, shortErrorPlaces}
-use Rattle.types.specs.Words.{halvesOf}
+use Rattle.types.specs.Sd.{Code, reserved, means, codeIn, Version, version1, version2, csdStructure, structures, readBlLen, blockLengths, cSize1, cSizeMult, cSize2, bytes1, bytes2, blocks1, blocksBy, sdCount}
+use Rattle.types.specs.Sd.{wideOf, transferUnits, timeValues, rateBy, sdRate, unitBytes, errorPlaces, lockedPlaces, appPlaces, shortErrorPlaces}
+use Rattle.types.specs.Words.{counted, halvesOf}
+use Rattle.types.proofs.Counted.{getD-counted}
 
--- a choice by one test, where the test may be used
-chosen : {A : Type 0} (b : Bool) {x x′ y y′ : A} → (b ≡ true → x ≡ x′) → (b ≡ false → y ≡ y′) → cond b x y ≡ cond b x′ y′
-chosen true t f = t refl
-chosen false t f = f refl
-
-neither : (a b : Bool) → (a || b) ≡ false → (a ≡ false) × (b ≡ false)
-neither true b e = (e, absurd (never e))
-  where
-    never : true ≡ false → ⊥
-    never e = let z : _≡_ {A = ℕ} 0 1 = cc in omega arith
-neither false b e = (refl, e)
+-- A field's codes: where SD's list is what a rule says of each code from 0 on, the rule says what SD has at any of them.
+listed : {A : Type 0} (codes : List (Code A)) (rule : ℕ → Code A) (n : ℕ) → codes ≡ map rule (counted 0 n) → (k : ℕ) → k < n → codeIn codes k ≡ rule k
+listed codes rule n e k h = rw e (getD-counted rule 0 n k reserved h ∙ ap rule (zero-add k))
 
 -- Capacity.
 
+by-structure : ℕ → Code Version
+by-structure k = cond (eqb k 0) (means version1) (cond (eqb k 1) (means version2) reserved)
+
+by-length : ℕ → Code ℕ
+by-length l = cond (ltb l 9 || ltb 11 l) reserved (means (2 ^ l))
+
+structure-codes : structures ≡ map by-structure (counted 0 4)
+unfolding by-structure counted
+structure-codes = refl
+
+length-codes : blockLengths ≡ map by-length (counted 0 16)
+unfolding by-length counted
+length-codes = refl
+
 -- a block length of 2 ^ l bytes, l from 9 on, is 2 ^ (l - 9) blocks of 512
-blocks1 : (n m l : ℕ) → 9 ≤ l → n * 2 ^ m * 2 ^ l / 512 ≡ n * 2 ^ (m + (l - 9))
-blocks1 n m l h =
+whole-blocks : (n m l : ℕ) → 9 ≤ l → n * 2 ^ m * 2 ^ l / 512 ≡ n * 2 ^ (m + (l - 9))
+whole-blocks n m l h =
     let whole : 2 ^ l ≡ 2 ^ (l - 9) * 512 = ap (λ (k : ℕ). 2 ^ k) (sym (sub-add-cancel h)) ∙ pow-add 2 (l - 9) 9 in
     ap (λ (x : ℕ). n * 2 ^ m * x / 512) whole
     ∙ ap (λ (x : ℕ). x / 512) (sym (mul-assoc (n * 2 ^ m) (2 ^ (l - 9)) 512))
@@ -45,25 +53,60 @@ blocks1 n m l h =
     ∙ mul-assoc n (2 ^ m) (2 ^ (l - 9))
     ∙ ap (λ (x : ℕ). n * x) (sym (pow-add 2 m (l - 9)))
 
-blocks2 : (n : ℕ) → n * (512 * 1024) / 512 ≡ n * 1024
-blocks2 n = omega arith
+half-megabytes : (n : ℕ) → n * (512 * 1024) / 512 ≡ n * 1024
+half-megabytes n = omega arith
 
 abbrev blocks : ℕ → CountAnswer
 blocks n = Count.Blocks (record { 0 = n })
 
-pub capacity : (csd : ℕ) → countOf csd ≡ sdCount csd
-unfolding countOf sdCount bytes1 bytes2
-capacity csd =
-    chosen (eqb (bits csd 127 126) 0)
-    (λ _. chosen (ltb (readBlLen csd) 9 || ltb 11 (readBlLen csd)) (λ _. refl)
-    (λ valid. ap blocks
-    (sym (blocks1 (cSize1 csd + 1) (cSizeMult csd + 2) (readBlLen csd)
-    (ltb-false (readBlLen csd) 9 (neither (ltb (readBlLen csd) 9) (ltb 11 (readBlLen csd)) valid .0))))))
-    (λ _. chosen (eqb (bits csd 127 126) 1) (λ _. ap blocks (sym (blocks2 (cSize2 csd + 1)))) (λ _. refl))
+module _ (csd : ℕ) where
+  version-1 : cond (ltb (readBlLen csd) 9 || ltb 11 (readBlLen csd)) (Count.Refused UnsupportedCardType)
+      (blocks ((cSize1 csd + 1) * 2 ^ (cSizeMult csd + 2 + (readBlLen csd - 9))))
+      ≡ blocks1 csd (codeIn blockLengths (readBlLen csd))
+  unfolding blocks1 bytes1 by-length
+  version-1 = rw (listed blockLengths by-length 16 length-codes (readBlLen csd) (omega arith)) (by (ltb (readBlLen csd) 9) (ltb 11 (readBlLen csd)) refl)
+    where
+      by : (short long : Bool) → ltb (readBlLen csd) 9 ≡ short
+          → cond (short || long) (Count.Refused UnsupportedCardType) (blocks ((cSize1 csd + 1) * 2 ^ (cSizeMult csd + 2 + (readBlLen csd - 9))))
+          ≡ blocks1 csd (cond (short || long) reserved (means (2 ^ readBlLen csd)))
+      by true long t = refl
+      by false true t = refl
+      by false false t = ap blocks (sym (whole-blocks (cSize1 csd + 1) (cSizeMult csd + 2) (readBlLen csd) (ltb-false (readBlLen csd) 9 t)))
+
+  pub capacity : countOf csd ≡ sdCount csd
+  unfolding countOf sdCount blocksBy bytes2 by-structure
+  capacity =
+      rw (listed structures by-structure 4 structure-codes (csdStructure csd) (mod-lt (csd / 2 ^ 126) (lit< {n = 4} tt)))
+      (by (eqb (csdStructure csd) 0) (eqb (csdStructure csd) 1))
+    where
+      by : (one two : Bool)
+          → cond one
+          (cond (ltb (readBlLen csd) 9 || ltb 11 (readBlLen csd)) (Count.Refused UnsupportedCardType)
+          (blocks ((cSize1 csd + 1) * 2 ^ (cSizeMult csd + 2 + (readBlLen csd - 9)))))
+          (cond two (blocks ((cSize2 csd + 1) * 1024)) (Count.Refused UnsupportedCardType))
+          ≡ blocksBy csd (cond one (means version1) (cond two (means version2) reserved))
+      by true two = version-1
+      by false true = ap blocks (sym (half-megabytes (cSize2 csd + 1)))
+      by false false = refl
 
 -- Rate.
 
-tens : (k : ℕ) → getD rateUnits k 0 / 10 ≡ 100 * getD unitKilobits k 0
+by-unit : ℕ → Code ℕ
+by-unit k = cond (ltb 3 k) reserved (means (getD rateUnits k 0 / 1_000))
+
+by-value : ℕ → Code ℕ
+by-value k = cond (eqb k 0) reserved (means (getD rateTenths k 0))
+
+unit-codes : transferUnits ≡ map by-unit (counted 0 8)
+unfolding by-unit counted
+unit-codes = refl
+
+value-codes : timeValues ≡ map by-value (counted 0 16)
+unfolding by-value counted
+value-codes = refl
+
+-- the units are whole kilobits
+tens : (k : ℕ) → getD rateUnits k 0 / 10 ≡ 100 * (getD rateUnits k 0 / 1_000)
 tens zero = refl
 tens (suc zero) = refl
 tens (suc (suc zero)) = refl
@@ -76,17 +119,35 @@ scaled a t =
     sym (ap (λ (x : ℕ). x * t / 10) ten ∙ ap (λ (x : ℕ). x / 10) (mul-right-comm (100 * a) 10 t) ∙ mul-div-left (100 * a * t) (lit< {n = 10} tt))
 
 pub rate : (byte : ℕ) → rateOf byte ≡ sdRate byte
-unfolding rateOf sdRate
+unfolding rateOf sdRate rateBy by-unit by-value
 rate byte =
-    chosen (bit byte 7 || ltb 3 (bits byte 2 0) || eqb (bits byte 6 3) 0) (λ _. refl)
-    (λ _. ap Rate.Rate
-    (ap (λ (x : ℕ). x * getD rateTenths (bits byte 6 3) 0) (tens (bits byte 2 0))
-    ∙ scaled (getD unitKilobits (bits byte 2 0) 0) (getD timeTenths (bits byte 6 3) 0)))
+    rw (
+      listed transferUnits by-unit 8 unit-codes (bits byte 2 0) (omega arith),
+      listed timeValues by-value 16 value-codes (bits byte 6 3) (omega arith),
+    )
+    (by (bit byte 7) (ltb 3 (bits byte 2 0)) (eqb (bits byte 6 3) 0))
+  where
+    unit : ℕ
+    unit = getD rateUnits (bits byte 2 0) 0
 
--- Address: the bytes that it stands for are those before the block, and the blocks asked for lie on the card.
+    tenths : ℕ
+    tenths = getD rateTenths (bits byte 6 3) 0
+
+    by : (top over none : Bool)
+        → cond (top || over || none) (Rate.Refused UnsupportedCardType) (Rate.Rate (unit / 10 * tenths))
+        ≡ cond top (Rate.Refused UnsupportedCardType) (rateBy (cond over reserved (means (unit / 1_000))) (cond none reserved (means tenths)))
+    by true over none = refl
+    by false true none = refl
+    by false false true = refl
+    by false false false =
+        ap Rate.Rate (ap (λ (x : ℕ). x * tenths) (tens (bits byte 2 0)) ∙ scaled (unit / 1_000) tenths)
+
+-- Address: accepted exactly where 1 to 511 blocks are asked for, all on the card, and what stands for the bytes before the
+-- first of them, in SD's unit, fits 32 bits as the index does; and then it is that.
 
 pub record Follows (class : CardCapacity) (blocks index count address : ℕ) : Type 0 where
   pub place : address * unitBytes class ≡ 512 * index
+  pub fits : index < 2 ^ 32 → address < 2 ^ 32
   pub some : 1 ≤ count
   pub most : count ≤ 511
   pub inside : index + count ≤ blocks
@@ -95,14 +156,16 @@ positive : {n : ℕ} → (n ≡ 0 → ⊥) → 1 ≤ n
 positive {n = zero} h = absurd (h refl)
 positive {n = suc n} h = omega arith
 
-units : (class : CardCapacity) (index a : ℕ) → unitsOf class index ≡ Address.Address a → a * unitBytes class ≡ 512 * index
+units : (class : CardCapacity) (index a : ℕ) → unitsOf class index ≡ Address.Address a
+    → (a * unitBytes class ≡ 512 * index) × (index < 2 ^ 32 → a < 2 ^ 32)
 unfolding unitsOf
-units SDSC index a e = by (ltb (512 * index) (2 ^ 32)) e
+units SDSC index a e = by (ltb (512 * index) (2 ^ 32)) refl e
   where
-    by : (b : Bool) → cond b (Address.Address (512 * index)) (Address.Refused AddressOutOfRange) ≡ Address.Address a → a * 1 ≡ 512 * index
-    by true e = let same : 512 * index ≡ a = cc in omega arith
-    by false e = let z : _≡_ {A = ℕ} 0 1 = cc in absurd (omega arith)
-units SDHC index a e = let same : index ≡ a = cc in omega arith
+    by : (b : Bool) → ltb (512 * index) (2 ^ 32) ≡ b → cond b (Address.Address (512 * index)) (Address.Refused AddressOutOfRange) ≡ Address.Address a
+        → (a * 1 ≡ 512 * index) × (index < 2 ^ 32 → a < 2 ^ 32)
+    by true t e = let same : 512 * index ≡ a = cc in let small = ltb-true (512 * index) (2 ^ 32) t in (omega arith, λ word. omega arith)
+    by false t e = let z : _≡_ {A = ℕ} 0 1 = cc in absurd (omega arith)
+units SDHC index a e = let same : index ≡ a = cc in (omega arith, λ word. omega arith)
 
 pub address : (class : CardCapacity) (blocks index count a : ℕ) → addressOf class blocks index count ≡ Address.Address a
     → Follows class blocks index count a
@@ -116,12 +179,31 @@ address class blocks index count a e = by (eqb count 0) (ltb 511 count) (ltb blo
     by false true past n m p e = let z : _≡_ {A = ℕ} 0 1 = cc in absurd (omega arith)
     by false false true n m p e = let z : _≡_ {A = ℕ} 0 1 = cc in absurd (omega arith)
     by false false false n m p e =
+        let unit = units class index a e in
         record {
-          place = units class index a e;
+          place = unit .0;
+          fits = unit .1;
           some = positive (eqb-false count 0 n);
           most = ltb-false 511 count m;
           inside = ltb-false blocks (index + count) p;
         }
+
+-- and the other way, for an index of 32 bits
+in-units : (class : CardCapacity) (index a : ℕ) → a * unitBytes class ≡ 512 * index → a < 2 ^ 32 → unitsOf class index ≡ Address.Address a
+unfolding unitsOf
+in-units SDSC index a e small = let same : 512 * index ≡ a = omega arith in rw (same, lt-ltb a (2 ^ 32) small)
+in-units SDHC index a e small = let same : index ≡ a = omega arith in ap Address.Address same
+
+pub address-accepted : (class : CardCapacity) (blocks index count a : ℕ) → index < 2 ^ 32 → Follows class blocks index count a
+    → addressOf class blocks index count ≡ Address.Address a
+unfolding addressOf
+address-accepted class blocks index count a word f =
+    rw (
+      ne-eqb count 0 (λ e. omega (arith, f .some)),
+      le-ltb 511 count (f .most),
+      le-ltb blocks (index + count) (f .inside),
+    )
+    (in-units class index a (f .place) (f .fits word))
 
 -- Masks: document 01's masks of the card status are SD's places.
 

@@ -14,7 +14,7 @@ unfolding counted
 length-counted f a zero = refl
 length-counted f a (suc n) = ap suc (length-counted f (a + 1) n)
 
-pub getD-counted : (f : ℕ → ℕ) (a n i d : ℕ) → i < n → getD (map f (counted a n)) i d ≡ f (a + i)
+pub getD-counted : {A : Type 0} (f : ℕ → A) (a n i : ℕ) (d : A) → i < n → getD (map f (counted a n)) i d ≡ f (a + i)
 unfolding counted
 getD-counted f a zero i d h = absurd (not-suc-le-zero h)
 getD-counted f a (suc n) zero d h = rw add-zero

@@ -6,3 +6,4 @@ pub mod Halves
 pub mod Least
 pub mod Masks
 pub mod Tables
+pub mod Told

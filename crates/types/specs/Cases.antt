@@ -1,11 +1,12 @@
--- Document 01, 'Cases on each side': K1 to K11, as one table of what the definitions give and what is due.
+-- Document 01, 'Cases on each side': K1 to K11, as one table of what the definitions give and what is due; and the bound of a
+-- card's size.
 use Prim.Native.Nat.{ℕ, _+_, _*_, _^_}
 use mathlib.Core.Bool.{true, false}
 use mathlib.Core.List.{List, [], _∷_, map}
 use mathlib.Core.Path.{_≡_, refl}
 use Rattle.types.specs.declared.card.CardCapacity.the-variants.{SDSC, SDHC}
-use Rattle.types.specs.Answer.{Told, told, errorTold, clockTold, countTold, rateTold, addressTold, dataTold}
-use Rattle.types.specs.Leaf.{divisorOf, clockOf, countOf, rateOf, unitsOf, addressOf, firstMatch, dataOf}
+use Rattle.types.specs.Answer.{Told, told, errorTold, clockTold, countTold, rateTold, addressTold, sizeTold, dataTold}
+use Rattle.types.specs.Leaf.{divisorOf, clockOf, countOf, rateOf, unitsOf, addressOf, sizeOf, firstMatch, dataOf}
 
 pub record Case : Type 0 where
   pub got : Told
@@ -52,8 +53,10 @@ table =
     ∷ (dataTold (dataOf 0x230) due told 5 [])
     ∷ (dataTold (dataOf 0x210) due told 6 [])
     ∷ (dataTold (dataOf 0x200) due told 4 [])
+    ∷ (sizeTold (sizeOf 4_294_967_296) due told 0 (2_199_023_255_552 ∷ []))
+    ∷ (sizeTold (sizeOf 4_294_967_297) due told 20 [])
     ∷ []
 
 pub cases : map (λ (c : Case). c .got) table ≡ map (λ (c : Case). c .due) table
-unfolding errorTold clockTold countTold rateTold addressTold dataTold divisorOf clockOf countOf rateOf unitsOf addressOf firstMatch dataOf
+unfolding errorTold clockTold countTold rateTold addressTold sizeTold dataTold divisorOf clockOf countOf rateOf unitsOf addressOf sizeOf firstMatch dataOf
 cases = refl

@@ -1,9 +1,9 @@
 -- The SD Physical Layer Simplified Specification: the fields of its registers by bit position, and what they mean. That
 -- document 01's arithmetic agrees with these is proved in proofs/Agree.antt.
 use Prim.Native.Nat.{ℕ, _+_, _*_, _/_, _^_}
-use mathlib.Core.Bool.{Bool, cond, _||_, _&&_}
+use mathlib.Core.Bool.{Bool, cond, _&&_}
 use mathlib.Core.List.{List, [], _∷_}
-use lib.Dec.{eqb, ltb}
+use lib.Dec.{eqb}
 use lib.ListN.{getD}
 use Rattle.types.specs.declared.card.CardCapacity.{CardCapacity}
 use Rattle.types.specs.declared.card.CardCapacity.the-variants.{SDSC, SDHC}
@@ -19,13 +19,33 @@ use Rattle.types.specs.Bits.{bits, bit}
 abbrev pub wideOf : Wide → ℕ
 wideOf w = w .high * 2 ^ 64 + w .low
 
--- CSD: CSD_STRUCTURE is 0 in version 1.0 and 1 in version 2.0
+-- Codes. SD lists those of a field from 0 on: what each stands for, or that it is reserved.
+pub data Code (A : Type 0) : Type 0 where
+  reserved : Code A
+  means : A → Code A
+
+abbrev pub codeIn : {A : Type 0} → List (Code A) → ℕ → Code A
+codeIn codes k = getD codes k reserved
+
+-- CSD. CSD_STRUCTURE: version 1.0, version 2.0, two reserved
+pub data Version : Type 0 where
+  version1 : Version
+  version2 : Version
+
 abbrev pub csdStructure : ℕ → ℕ
 csdStructure csd = bits csd 127 126
 
--- CSD version 1.0. READ_BL_LEN: 9, 10 or 11; the others are reserved
+abbrev pub structures : List (Code Version)
+structures = means version1 ∷ means version2 ∷ reserved ∷ reserved ∷ []
+
+-- CSD version 1.0. READ_BL_LEN: 0 to 8 reserved, 512, 1024 and 2048 bytes, 12 to 15 reserved
 abbrev pub readBlLen : ℕ → ℕ
 readBlLen csd = bits csd 83 80
+
+abbrev pub blockLengths : List (Code ℕ)
+blockLengths =
+    reserved ∷ reserved ∷ reserved ∷ reserved ∷ reserved ∷ reserved ∷ reserved ∷ reserved
+    ∷ reserved ∷ means 512 ∷ means 1024 ∷ means 2048 ∷ reserved ∷ reserved ∷ reserved ∷ reserved ∷ []
 
 abbrev pub cSize1 : ℕ → ℕ
 cSize1 csd = bits csd 73 62
@@ -33,10 +53,9 @@ cSize1 csd = bits csd 73 62
 abbrev pub cSizeMult : ℕ → ℕ
 cSizeMult csd = bits csd 49 47
 
--- memory capacity = BLOCKNR * BLOCK_LEN bytes, where BLOCKNR = (C_SIZE + 1) * MULT, MULT = 2 ^ (C_SIZE_MULT + 2),
--- BLOCK_LEN = 2 ^ READ_BL_LEN
-unfoldable pub bytes1 : ℕ → ℕ
-bytes1 csd = (cSize1 csd + 1) * 2 ^ (cSizeMult csd + 2) * 2 ^ readBlLen csd
+-- memory capacity = BLOCKNR * BLOCK_LEN bytes, where BLOCKNR = (C_SIZE + 1) * MULT, MULT = 2 ^ (C_SIZE_MULT + 2)
+unfoldable pub bytes1 : ℕ → ℕ → ℕ
+bytes1 csd blockLen = (cSize1 csd + 1) * 2 ^ (cSizeMult csd + 2) * blockLen
 
 -- CSD version 2.0. memory capacity = (C_SIZE + 1) * 512 KByte
 abbrev pub cSize2 : ℕ → ℕ
@@ -45,31 +64,43 @@ cSize2 csd = bits csd 69 48
 unfoldable pub bytes2 : ℕ → ℕ
 bytes2 csd = (cSize2 csd + 1) * (512 * 1024)
 
--- the capacity in blocks of 512 bytes
+-- the capacity in blocks of 512 bytes; a card with a reserved code is of no supported type
+unfoldable pub blocks1 : ℕ → Code ℕ → CountAnswer
+blocks1 csd reserved = Count.Refused UnsupportedCardType
+blocks1 csd (means blockLen) = Count.Blocks (record { 0 = bytes1 csd blockLen / 512 })
+
+unfoldable pub blocksBy : ℕ → Code Version → CountAnswer
+blocksBy csd reserved = Count.Refused UnsupportedCardType
+blocksBy csd (means version1) = blocks1 csd (codeIn blockLengths (readBlLen csd))
+blocksBy csd (means version2) = Count.Blocks (record { 0 = bytes2 csd / 512 })
+
 unfoldable pub sdCount : ℕ → CountAnswer
-sdCount csd =
-    cond (eqb (csdStructure csd) 0)
-    (cond (ltb (readBlLen csd) 9 || ltb 11 (readBlLen csd)) (Count.Refused UnsupportedCardType)
-    (Count.Blocks (record { 0 = bytes1 csd / 512 })))
-    (cond (eqb (csdStructure csd) 1) (Count.Blocks (record { 0 = bytes2 csd / 512 })) (Count.Refused UnsupportedCardType))
+sdCount csd = blocksBy csd (codeIn structures (csdStructure csd))
 
 -- TRAN_SPEED, in both versions: the unit in bits 2:0, the time value in bits 6:3, bit 7 reserved
 abbrev pub tranSpeed : ℕ → ℕ
 tranSpeed csd = bits csd 103 96
 
--- 100 kbit/s, 1 Mbit/s, 10 Mbit/s, 100 Mbit/s; 4 to 7 are reserved
-abbrev pub unitKilobits : List ℕ
-unitKilobits = 100 ∷ 1_000 ∷ 10_000 ∷ 100_000 ∷ []
+-- in kilobits a second: 100 kbit/s, 1 Mbit/s, 10 Mbit/s, 100 Mbit/s, four reserved
+abbrev pub transferUnits : List (Code ℕ)
+transferUnits = means 100 ∷ means 1_000 ∷ means 10_000 ∷ means 100_000 ∷ reserved ∷ reserved ∷ reserved ∷ reserved ∷ []
 
--- reserved, 1.0, 1.2, 1.3, 1.5, 2.0, 2.5, 3.0, 3.5, 4.0, 4.5, 5.0, 5.5, 6.0, 7.0, 8.0
-abbrev pub timeTenths : List ℕ
-timeTenths = 0 ∷ 10 ∷ 12 ∷ 13 ∷ 15 ∷ 20 ∷ 25 ∷ 30 ∷ 35 ∷ 40 ∷ 45 ∷ 50 ∷ 55 ∷ 60 ∷ 70 ∷ 80 ∷ []
+-- in tenths: reserved, 1.0, 1.2, 1.3, 1.5, 2.0, 2.5, 3.0, 3.5, 4.0, 4.5, 5.0, 5.5, 6.0, 7.0, 8.0
+abbrev pub timeValues : List (Code ℕ)
+timeValues =
+    reserved ∷ means 10 ∷ means 12 ∷ means 13 ∷ means 15 ∷ means 20 ∷ means 25 ∷ means 30
+    ∷ means 35 ∷ means 40 ∷ means 45 ∷ means 50 ∷ means 55 ∷ means 60 ∷ means 70 ∷ means 80 ∷ []
 
 -- the rate in bits a second: unit times time value, 1,000 bits a kilobit
+unfoldable pub rateBy : Code ℕ → Code ℕ → RateAnswer
+rateBy reserved value = Rate.Refused UnsupportedCardType
+rateBy (means kilobits) reserved = Rate.Refused UnsupportedCardType
+rateBy (means kilobits) (means tenths) = Rate.Rate (kilobits * 1_000 * tenths / 10)
+
 unfoldable pub sdRate : ℕ → RateAnswer
 sdRate byte =
-    cond (bit byte 7 || ltb 3 (bits byte 2 0) || eqb (bits byte 6 3) 0) (Rate.Refused UnsupportedCardType)
-    (Rate.Rate (getD unitKilobits (bits byte 2 0) 0 * 1_000 * getD timeTenths (bits byte 6 3) 0 / 10))
+    cond (bit byte 7) (Rate.Refused UnsupportedCardType)
+    (rateBy (codeIn transferUnits (bits byte 2 0)) (codeIn timeValues (bits byte 6 3)))
 
 -- the argument of a read counts bytes on a standard capacity card, blocks of 512 bytes on all others
 abbrev pub unitBytes : CardCapacity → ℕ

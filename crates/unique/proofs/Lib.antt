@@ -12,5 +12,6 @@ pub mod Report
 pub mod Steps
 pub mod Tape
 pub mod Text
+pub mod Told
 pub mod Types
 pub mod Wordtext

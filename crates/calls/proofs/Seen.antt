@@ -1,0 +1,116 @@
+-- 'A call whose data phase had begun', as a caller can see it: a refused read or status call had begun its data phase exactly
+-- if the last rows that it wrote are the reset rows.
+use Prim.Native.Nat.{ℕ, _+_, _*_, _-_, _/_, _%_, _<_, _≤_}
+use mathlib.Core.Bool.{Bool, true, false, cond, _&&_}
+use mathlib.Core.List.{List}
+use mathlib.Core.Path.{_≡_, refl, ap, sym, _∙_}
+use native.Mathlib.Omega.{arith}
+use lib.Dec.{eqb}
+use lib.ListN.{getD, take, drop}
+use lib.Seq.{getD-take, getD-drop}
+use borrow.Author.Tests.{eqb-true, eqb-false, eq-eqb}
+use Rattle.types.specs.declared.card.AddressAnswer.{AddressAnswer}
+use Rattle.types.specs.declared.card.AddressAnswer.the-variants as Address
+use Rattle.types.specs.declared.error.Answer.the-variants as Answered
+use Rattle.types.specs.declared.error.Error.{Error}
+use Rattle.types.specs.Leaf.{addressOf}
+use Rattle.tape.specs.declared.progress.Halt.the-variants.{Refused}
+use Rattle.tape.specs.declared.progress.Pace.the-variants.{Going, Stopped}
+use Rattle.tape.specs.Rows.{ICR, placeOf, wordsOf}
+use Rattle.tape.specs.Run.{State}
+use Rattle.bus.specs.Command.{appCommand}
+use Rattle.init.specs.Initialise.{sourceOf, limitOf}
+use Rattle.host.specs.declared.host.Sdmmc.{Sdmmc}
+use Rattle.host.specs.Calls.{Came, untouched, readCame, statusCame}
+use Rattle.refusals.proofs.Guards.{resetRows}
+use Rattle.refusals.proofs.Reset.{ResetAfter, reset-last}
+use Rattle.refusals.proofs.DataRefusals as R
+use Rattle.refusals.proofs.DataRefusals.{RefusedIn, read-early, read-refused-in, read-refused-in-data, status-early, status-refused-in, status-refused-in-data}
+use Rattle.refusals.proofs.Untouched.{read-16, read-19-length, read-refused, status-16}
+use Rattle.calls.specs.Serve.{read, status, comes, approach, none, approachOf, readApproach, going, passed, begun}
+use Rattle.calls.proofs.Steady.{Ordinary, LastRow, starts-last, app-steady, ready-steady}
+
+-- the last ten of the rows that a call wrote are the reset rows
+pub record ResetLast (x : Came) : Type 0 where
+  pub ten : 10 ≤ x .rows
+  pub last : take 20 (drop (placeOf (x .rows - 10)) (x .list)) ≡ wordsOf resetRows
+
+-- what a caller sees of whether a data phase had begun
+pub record Seen (begun : Bool) (x : Came) : Type 0 where
+  pub shown : begun ≡ true → ResetLast x
+  pub only : ResetLast x → begun ≡ true
+
+-- where the last row is an ordinary one they are not
+word-there : (l : List ℕ) (n i : ℕ) → i < 20 → take 20 (drop n l) ≡ wordsOf resetRows → getD l (n + i) 0 ≡ getD (wordsOf resetRows) i 0
+word-there l n i h e = sym (getD-take 20 (drop n l) i 0 h ∙ getD-drop n l i 0) ∙ ap (λ (ws : List ℕ). getD ws i 0) e
+
+not-reset : {n : ℕ} {l : List ℕ} → LastRow Ordinary n l → 10 ≤ n → take 20 (drop (placeOf (n - 10)) l) ≡ wordsOf resetRows → ⊥
+unfolding wordsOf
+not-reset {n} {l} o h e =
+    let place : placeOf (n - 10) + 18 ≡ placeOf (n - 1) = omega arith in
+    let behind : placeOf (n - 10) + 19 ≡ placeOf (n - 1) + 1 = omega arith in
+    let register : getD l (placeOf (n - 1)) 0 ≡ ICR = rw place at (word-there l (placeOf (n - 10)) 18 (omega arith) e) in
+    let value : getD l (placeOf (n - 1) + 1) 0 ≡ 0x00c0_07ff = rw behind at (word-there l (placeOf (n - 10)) 19 (omega arith) e) in
+    let never = rw (eq-eqb _ _ register, eq-eqb _ _ value) at (o .last (n - 1) (omega arith)) in
+    let z : _≡_ {A = ℕ} 0 1 = cc in
+    omega arith
+
+unbegun : {x : Came} → (ResetLast x → ⊥) → Seen false x
+unbegun never = record { shown = λ t. let z : _≡_ {A = ℕ} 0 1 = cc in absurd (omega arith); only = λ r. absurd (never r) }
+
+of-untouched : {x : Came} {host : Sdmmc} {e : Error} {l : List ℕ} → x ≡ untouched host e l → Seen false x
+of-untouched same = rw same (unbegun (λ r. omega (arith, r .ten)))
+
+-- a call with an approach and a data phase, refused: w is where its approach has come
+of-refused : {e : Error} {w : State} {x : Came} → LastRow Ordinary (w .progress .rows) (w .list) → RefusedIn e w
+    → (w .progress .pace ≡ Stopped (Refused e) → (x .rows ≡ w .progress .rows) × (x .list ≡ w .list)) → (w .progress .pace ≡ Going → ResetLast x)
+    → Seen (going (w .progress .pace)) x
+unfolding going
+of-refused {x = x} o (R.approach g) early late =
+    rw g (unbegun (λ r. not-reset o (rw (early g .0) at (r .ten)) (rw (early g .0, early g .1) at (r .last))))
+of-refused o (R.dataPhase g) early late = record { shown = λ t. late g; only = λ r. rw g }
+
+after-reset : {e : Error} {host : Sdmmc} {w : State} {x : Came} → ResetAfter e host w x → ResetLast x
+after-reset r = record { ten = omega (arith, r .rows); last = reset-last r }
+
+module _ (host : Sdmmc) (s l : List ℕ) (e : Error) where
+  -- A status call.
+  pub status-begun : comes host (status s l) .answer ≡ Answered.Refused e → Seen (begun host (status s l)) (comes host (status s l))
+  unfolding comes begun approachOf passed
+  status-begun r = by (host .known) refl
+    where
+      by : (b : Bool) → host .known ≡ b
+          → Seen (passed (cond b (approach (appCommand (limitOf (host .settings)) (host .card .rca))) none) (host .line) s l) (statusCame host s l)
+      by true k =
+          of-refused (starts-last s (tt {0}) (host .line) l (app-steady (λ row o. o) (limitOf (host .settings)) (host .card .rca)))
+          (status-refused-in host s l k e r)
+          (λ g. let same = status-early host s l k e g in (ap (λ (x : Came). x .rows) same, ap (λ (x : Came). x .list) same))
+          (λ g. after-reset (status-refused-in-data host s l k e g r))
+      by false k = of-untouched (status-16 host s l k)
+
+  -- A read.
+  pub read-begun : (index bytes : ℕ) → comes host (read index bytes s l) .answer ≡ Answered.Refused e
+      → Seen (begun host (read index bytes s l)) (comes host (read index bytes s l))
+  unfolding comes begun approachOf passed
+  read-begun index bytes r =
+      by (host .known) (eqb (bytes % 512) 0) (addressOf (host .card .«card_type») (host .card .«block_count» .0) index (bytes / 512)) refl refl refl
+    where
+      whole : bytes % 512 ≡ 0 → 512 * (bytes / 512) ≡ bytes
+      whole z = omega arith
+
+      by : (b d : Bool) (a : AddressAnswer) → host .known ≡ b → eqb (bytes % 512) 0 ≡ d
+          → addressOf (host .card .«card_type») (host .card .«block_count» .0) index (bytes / 512) ≡ a
+          → Seen (passed (cond (b && d) (readApproach host a) none) (host .line) s l) (readCame host index bytes s l)
+      by true true (Address.Address a) k t place =
+          let all = whole (eqb-true (bytes % 512) 0 t) in
+          let r′ : readCame host index (512 * (bytes / 512)) s l .answer ≡ Answered.Refused e = rw all r in
+          of-refused (starts-last s (tt {0}) (host .line) l (ready-steady (λ row o. o) (sourceOf (host .settings)) (host .settings .config) (host .card .rca)))
+          (read-refused-in host index (bytes / 512) a s l k place e r′)
+          (λ g.
+          let same = rw all at (read-early host index (bytes / 512) a s l k place e g) in
+          (ap (λ (x : Came). x .rows) same, ap (λ (x : Came). x .list) same))
+          (λ g. after-reset (rw all at (read-refused-in-data host index (bytes / 512) a s l k place e g r′)))
+      by true true (Address.Refused x) k t place =
+          of-untouched (rw (whole (eqb-true (bytes % 512) 0 t)) at (read-refused host s l index (bytes / 512) x k place))
+      by true false a k t place = of-untouched (read-19-length host s l index bytes k (eqb-false (bytes % 512) 0 t))
+      by false d a k t place = of-untouched (read-16 host s l index bytes k)
