@@ -1,9 +1,9 @@
--- Commands, ready waits and data phases hold nothing new, and are never refused with BadClock: they obey every rule that
--- allows the other errors.
+-- Commands, ready waits and data phases hold nothing new, and are never refused with BadClock; until a reset no row of theirs is
+-- the last reset row. So they obey every rule that allows the other errors, and such rows.
 use Prim.Native.Nat.{ℕ}
-use mathlib.Core.Bool.{Bool, true, false, cond, not, _||_}
+use mathlib.Core.Bool.{Bool, true, false, cond, not, _&&_, _||_}
 use mathlib.Core.List.{List, [], _∷_}
-use mathlib.Core.Path.{_≡_}
+use mathlib.Core.Path.{_≡_, refl}
 use native.Mathlib.Omega.{arith}
 use lib.Dec.{eqb}
 use Rattle.types.specs.declared.config.Config.{Config}
@@ -15,7 +15,9 @@ use Rattle.types.specs.Bits.{clear}
 use Rattle.types.specs.Leaf.{Rule as Masked, firstMatch, dataOf}
 use Rattle.types.specs.Sd.{readyOf}
 use Rattle.tape.specs.Plan.{Nothing, refusing}
-use Rattle.tape.specs.Steps.{waitIdle, resetController, stopData, setClken}
+use Rattle.tape.specs.declared.rows.Row.{Row}
+use Rattle.tape.specs.Rows.{ICR}
+use Rattle.tape.specs.Steps.{row, waitIdle, resetController, stopData, setClken}
 use Rattle.tape.proofs.Walk.{Rule, Obeys, on-handle, on-give, on-fail, on-then, on-look, on-test, on-word, on-row, on-ensure, on-until, on-data}
 use Rattle.bus.specs.declared.response.Form.{Form}
 use Rattle.bus.specs.declared.response.Response.{Response}
@@ -30,12 +32,19 @@ use Rattle.bus.specs.Transfer.{Polled, arm, startData, heeded, clean, po
 abbrev pub Other : Error → Type 0
 Other e = errorTold e .number ≡ 17 → ⊥
 
+-- a row other than the last of the reset rows
+abbrev pub Ordinary : Row → Type 0
+Ordinary r = (eqb (r .register) ICR && eqb (r .value) 0x00c0_07ff) ≡ false
+
 -- those of a table of masks
 unfoldable Others : List Masked → Type 0
 Others [] = Unit {0}
 Others (r ∷ rs) = Other (r .error) × Others rs
 
-module _ (rule : Rule) (others : (e : Error) → Other e → rule .refuses e) where
+module _ (rule : Rule) (others : (e : Error) → Other e → rule .refuses e) (rows : (r : Row) → Ordinary r → rule .writes r) where
+  ordinary : (register value : ℕ) → Ordinary (record { register = register; value = value }) → Obeys rule Nothing (row register value)
+  ordinary register value o = on-row register value (rows (record { register = register; value = value }) o)
+
   late : rule .refuses E.SoftwareTimeout
   unfolding errorTold
   late = others E.SoftwareTimeout (λ z. omega arith)
@@ -78,7 +87,7 @@ module _ (rule : Rule) (others : (e : Error) → Other e → rule .refuses e) wh
 
   pub clken-obeys : (on : Bool) → Obeys rule Nothing (setClken on)
   unfolding setClken
-  clken-obeys on = on-look (λ line i. on-row _ _)
+  clken-obeys on = on-look (λ line i. ordinary _ _ refl)
 
   complete-obeys : (limit index : ℕ) (form : Form) → Obeys rule (List ℕ) (complete limit index form)
   unfolding complete waitCompletion pollCompletion answer echo responseWords judge
@@ -96,7 +105,7 @@ module _ (rule : Rule) (others : (e : Error) → Other e → rule .refuses e) wh
   unfolding commandInner issue
   inner-obeys limit index argument response =
       on-then (idle-obeys limit false)
-      (λ _. on-then (on-then (on-row _ _) (λ _. on-then (on-row _ _) (λ _. on-row _ _))) (λ _. complete-obeys limit index (formOf response)))
+      (λ _. on-then (on-then (ordinary _ _ refl) (λ _. on-then (ordinary _ _ refl) (λ _. ordinary _ _ refl))) (λ _. complete-obeys limit index (formOf response)))
 
   pub command-obeys : (limit index argument : ℕ) (response : Response) → Obeys rule (List ℕ) (command limit index argument response)
   unfolding command
@@ -113,7 +122,7 @@ module _ (rule : Rule) (others : (e : Error) → Other e → rule .refuses e) wh
 
   pub retry-obeys : (source : ℕ) → Obeys rule Nothing (retryDelay source)
   unfolding retryDelay
-  retry-obeys source = on-row _ _
+  retry-obeys source = ordinary _ _ refl
 
   pub ready-obeys : (source : ℕ) (config : Config) (rca : ℕ) → Obeys rule Nothing (waitReady source config rca)
   unfolding waitReady tryReady readStatus
@@ -126,7 +135,7 @@ module _ (rule : Rule) (others : (e : Error) → Other e → rule .refuses e) wh
 
   pub configure-obeys : (limit : ℕ) (clock : Clock) (wide on : Bool) → Obeys rule Nothing (configureClock limit clock wide on)
   unfolding configureClock
-  configure-obeys limit clock wide on = on-then (idle-obeys limit true) (λ _. on-row _ _)
+  configure-obeys limit clock wide on = on-then (idle-obeys limit true) (λ _. ordinary _ _ refl)
 
   -- what `data_error` says of a status word
   heeded-obeys : (word : ℕ) (rs : List Masked) → Others rs → Obeys rule Nothing (heeded (firstMatch word rs))
@@ -164,14 +173,14 @@ module _ (rule : Rule) (others : (e : Error) → Other e → rule .refuses e) wh
 
   stop-obeys : Obeys rule Nothing stopData
   unfolding stopData
-  stop-obeys = on-then (on-row _ _) (λ _. on-then (on-row _ _) (λ _. on-row _ _))
+  stop-obeys = on-then (ordinary _ _ refl) (λ _. on-then (ordinary _ _ refl) (λ _. ordinary _ _ refl))
 
   start-obeys : (config : Config) (transfer : Transfer) → Obeys rule Nothing (startData config transfer)
   unfolding startData arm
   start-obeys config transfer =
       on-then (idle-obeys _ true)
       (λ _. on-then
-      (on-then (on-row _ _) (λ _. on-then stop-obeys (λ _. on-then (on-row _ _) (λ _. on-then (on-row _ _) (λ _. on-row _ _)))))
+      (on-then (ordinary _ _ refl) (λ _. on-then stop-obeys (λ _. on-then (ordinary _ _ refl) (λ _. on-then (ordinary _ _ refl) (λ _. ordinary _ _ refl)))))
       (λ _. on-then (clken-obeys true) (λ _. on-then (inner-obeys _ _ _ _) (λ _. on-give))))
 
   end-obeys : (source : ℕ) (config : Config) (index rca : ℕ) → Obeys rule Nothing (endData source config index rca)
@@ -182,16 +191,17 @@ module _ (rule : Rule) (others : (e : Error) → Other e → rule .refuses e) wh
       (λ _. on-then (on-test (eqb index 18) (on-then (command-obeys _ 12 _ _) (λ _. on-give)) on-give)
       (λ _. ready-obeys source config rca)))
 
-  pub reset-obeys : Obeys rule Nothing resetController
+  -- The reset rows are not ordinary.
+  pub reset-obeys : ((r : Row) → rule .writes r) → Obeys rule Nothing resetController
   unfolding resetController
-  reset-obeys =
-      on-then (on-row _ _) (λ _. on-then (on-row _ _) (λ _. on-then (on-row _ _) (λ _. on-then (on-row _ _) (λ _. on-then (on-row _ _)
-      (λ _. on-then (on-row _ _) (λ _. on-then (on-row _ _) (λ _. on-then (on-row _ _) (λ _. on-then (on-row _ _) (λ _. on-row _ _)))))))))
+  reset-obeys any =
+      on-then (on-row _ _ (any _)) (λ _. on-then (on-row _ _ (any _)) (λ _. on-then (on-row _ _ (any _)) (λ _. on-then (on-row _ _ (any _)) (λ _. on-then (on-row _ _ (any _))
+      (λ _. on-then (on-row _ _ (any _)) (λ _. on-then (on-row _ _ (any _)) (λ _. on-then (on-row _ _ (any _)) (λ _. on-then (on-row _ _ (any _)) (λ _. on-row _ _ (any _))))))))))
 
-  pub data-obeys : (source : ℕ) (config : Config) (transfer : Transfer) (rca : ℕ) → Obeys rule (List ℕ) (blockingData source config transfer rca)
+  pub data-obeys : ((r : Row) → rule .writes r) → (source : ℕ) (config : Config) (transfer : Transfer) (rca : ℕ) → Obeys rule (List ℕ) (blockingData source config transfer rca)
   unfolding blockingData transferData
-  data-obeys source config transfer rca =
+  data-obeys any source config transfer rca =
       on-handle (refusing resetController)
       (on-then (start-obeys config transfer)
       (λ _. on-then (receive-obeys _ _) (λ ws. on-then (end-obeys source config _ rca) (λ _. on-give))))
-      (λ ws. on-give) (λ e r. on-then reset-obeys (λ _. on-fail r))
+      (λ ws. on-give) (λ e r. on-then (reset-obeys any) (λ _. on-fail r))

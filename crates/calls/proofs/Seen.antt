@@ -18,7 +18,9 @@ use Rattle.tape.specs.declared.progress.Halt.the-variants.{Refused}
 use Rattle.tape.specs.declared.progress.Pace.the-variants.{Going, Stopped}
 use Rattle.tape.specs.Rows.{ICR, placeOf, wordsOf}
 use Rattle.tape.specs.Run.{State}
+use Rattle.tape.proofs.Walk.{Rule, LastRow, starts-last}
 use Rattle.bus.specs.Command.{appCommand}
+use Rattle.bus.proofs.Walks.{Ordinary, app-obeys, ready-obeys}
 use Rattle.init.specs.Initialise.{sourceOf, limitOf}
 use Rattle.host.specs.declared.host.Sdmmc.{Sdmmc}
 use Rattle.host.specs.Calls.{Came, untouched, readCame, statusCame}
@@ -28,7 +30,6 @@ use Rattle.refusals.proofs.DataRefusals as R
 use Rattle.refusals.proofs.DataRefusals.{RefusedIn, read-early, read-refused-in, read-refused-in-data, status-early, status-refused-in, status-refused-in-data}
 use Rattle.refusals.proofs.Untouched.{read-16, read-19-length, read-refused, status-16}
 use Rattle.calls.specs.Serve.{read, status, comes, approach, none, approachOf, readApproach, going, passed, begun}
-use Rattle.calls.proofs.Steady.{Ordinary, LastRow, starts-last, app-steady, ready-steady}
 
 -- the last ten of the rows that a call wrote are the reset rows
 pub record ResetLast (x : Came) : Type 0 where
@@ -39,6 +40,10 @@ pub record ResetLast (x : Came) : Type 0 where
 pub record Seen (begun : Bool) (x : Came) : Type 0 where
   pub shown : begun ≡ true → ResetLast x
   pub only : ResetLast x → begun ≡ true
+
+-- an approach writes ordinary rows alone
+abbrev approachRule : Rule
+approachRule = record { holds = λ h. Unit {0}; writes = Ordinary; refuses = λ e. Unit {0}; noted = λ r h i. tt }
 
 -- where the last row is an ordinary one they are not
 word-there : (l : List ℕ) (n i : ℕ) → i < 20 → take 20 (drop n l) ≡ wordsOf resetRows → getD l (n + i) 0 ≡ getD (wordsOf resetRows) i 0
@@ -82,7 +87,7 @@ module _ (host : Sdmmc) (s l : List ℕ) (e : Error) where
       by : (b : Bool) → host .known ≡ b
           → Seen (passed (cond b (approach (appCommand (limitOf (host .settings)) (host .card .rca))) none) (host .line) s l) (statusCame host s l)
       by true k =
-          of-refused (starts-last s (tt {0}) (host .line) l (app-steady (λ row o. o) (limitOf (host .settings)) (host .card .rca)))
+          of-refused (starts-last approachRule s (tt {0}) (host .line) l (app-obeys approachRule (λ x o. tt) (λ row o. o) (limitOf (host .settings)) (host .card .rca)) tt)
           (status-refused-in host s l k e r)
           (λ g. let same = status-early host s l k e g in (ap (λ (x : Came). x .rows) same, ap (λ (x : Came). x .list) same))
           (λ g. after-reset (status-refused-in-data host s l k e g r))
@@ -104,7 +109,7 @@ module _ (host : Sdmmc) (s l : List ℕ) (e : Error) where
       by true true (Address.Address a) k t place =
           let all = whole (eqb-true (bytes % 512) 0 t) in
           let r′ : readCame host index (512 * (bytes / 512)) s l .answer ≡ Answered.Refused e = rw all r in
-          of-refused (starts-last s (tt {0}) (host .line) l (ready-steady (λ row o. o) (sourceOf (host .settings)) (host .settings .config) (host .card .rca)))
+          of-refused (starts-last approachRule s (tt {0}) (host .line) l (ready-obeys approachRule (λ x o. tt) (λ row o. o) (sourceOf (host .settings)) (host .settings .config) (host .card .rca)) tt)
           (read-refused-in host index (bytes / 512) a s l k place e r′)
           (λ g.
           let same = rw all at (read-early host index (bytes / 512) a s l k place e g) in

@@ -34,7 +34,7 @@ use Rattle.tape.specs.Steps.{holdGated, holdClock, holdSignalling, resetControl
 use Rattle.tape.proofs.Walk.{Rule, Obeys, on-handle, on-give, on-fail, on-then, on-look, on-hold, on-test, on-row, on-ensure, on-until}
 use Rattle.bus.specs.Clock.{configureClock, clockDelay}
 use Rattle.bus.proofs.Delays.{Fair, fair, delay-is-a-row}
-use Rattle.bus.proofs.Walks.{Other, unsupported, clken-obeys, command-obeys, app-obeys, retry-obeys, ready-obeys, configure-obeys, reset-obeys, data-obeys}
+use Rattle.bus.proofs.Walks.{Other, Ordinary, unsupported, clken-obeys, command-obeys, app-obeys, retry-obeys, ready-obeys, configure-obeys, reset-obeys, data-obeys}
 use Rattle.init.specs.declared.settings.Settings.{Settings}
 use Rattle.init.specs.Initialise.{sourceOf, limitOf, version, timedOut, late, cardVersion, powerOn, beginInit, powerUp, poweredUp, tryPowerUp, waitPowerUp}
 use Rattle.init.specs.Initialise.{counted, select, publish, identify, blockLength, readScr, setWidth, clocked, setClock, rated, transferClock}
@@ -49,6 +49,7 @@ abbrev pub clockRule : Settings → Rule
 clockRule set =
     record {
       holds = λ h. Fair (sourceOf set) (h .clock .0);
+      writes = λ r. Unit {0};
       refuses = λ e. errorTold e .number ≡ 17
           → (requested : ℕ) × (clockOf (sourceOf set) requested (set .config .«allow_clock_bypass») ≡ Clocked.Refused e);
       noted = fair-noted (sourceOf set);
@@ -83,6 +84,13 @@ module _ (set : Settings) (from2 : 2 ≤ sourceOf set) where
   unfolding rule
   others e o = λ z. absurd (o z)
 
+  row-any : (r : Row) → rule .writes r
+  unfolding rule
+  row-any r = tt
+
+  any : (r : Row) → Ordinary r → rule .writes r
+  any r o = row-any r
+
   waits : rule .refuses E.SoftwareTimeout
   unfolding errorTold
   waits = others E.SoftwareTimeout (λ z. omega arith)
@@ -104,10 +112,10 @@ module _ (set : Settings) (from2 : 2 ≤ sourceOf set) where
   switching = others E.SignalingSwitchFailed (λ z. omega arith)
 
   kind : rule .refuses E.UnsupportedCardType
-  kind = unsupported rule others
+  kind = unsupported rule others any
 
   delay-obeys : (clock cycles : ℕ) → Fair (sourceOf set) clock → cycles ≤ 80 → Obeys rule Nothing (clockDelay (sourceOf set) clock cycles)
-  delay-obeys clock cycles f h = rw (delay-is-a-row (sourceOf set) cycles clock f h) (on-row _ _)
+  delay-obeys clock cycles f h = rw (delay-is-a-row (sourceOf set) cycles clock f h) (on-row _ _ (row-any _))
 
   version-obeys : (w : ℕ) → Obeys rule Bool (version w)
   unfolding version
@@ -116,25 +124,25 @@ module _ (set : Settings) (from2 : 2 ≤ sourceOf set) where
   card-version-obeys : Obeys rule Bool (cardVersion (limitOf set))
   unfolding cardVersion late
   card-version-obeys =
-      on-handle late (command-obeys rule others _ 8 _ _) (λ ws. version-obeys _) (λ e r. on-test (timedOut e) on-give (on-fail r))
+      on-handle late (command-obeys rule others any _ 8 _ _) (λ ws. version-obeys _) (λ e r. on-test (timedOut e) on-give (on-fail r))
 
   begin-obeys : (initial : Clock) → Fair (sourceOf set) (initial .frequency .0) → Obeys rule Bool (beginInit set initial)
   unfolding beginInit powerOn
   begin-obeys initial f =
       on-then
-      (on-then (reset-obeys rule others)
-      (λ _. on-then (configure-obeys rule others _ initial false false)
-      (λ _. on-then (on-row _ _) (λ _. on-then (clken-obeys rule others true) (λ _. delay-obeys _ 80 f (omega arith))))))
-      (λ _. on-then (command-obeys rule others _ 0 _ _) (λ _. card-version-obeys))
+      (on-then (reset-obeys rule others any row-any)
+      (λ _. on-then (configure-obeys rule others any _ initial false false)
+      (λ _. on-then (on-row _ _ (row-any _)) (λ _. on-then (clken-obeys rule others any true) (λ _. delay-obeys _ 80 f (omega arith))))))
+      (λ _. on-then (command-obeys rule others any _ 0 _ _) (λ _. card-version-obeys))
 
   power-up-obeys : (version2 : Bool) → Obeys rule ℕ (waitPowerUp set version2)
   unfolding waitPowerUp tryPowerUp powerUp
   power-up-obeys version2 =
       on-until _ _ waits
       (on-then
-      (on-then (app-obeys rule others _ 0)
-      (λ _. on-then (command-obeys rule others _ 41 _ _) (λ ws. on-then (on-ensure _ E.UnsupportedCardType kind) (λ _. on-give))))
-      (λ ocr. on-test (poweredUp ocr) on-give (on-then (retry-obeys rule others _) (λ _. on-give))))
+      (on-then (app-obeys rule others any _ 0)
+      (λ _. on-then (command-obeys rule others any _ 41 _ _) (λ ws. on-then (on-ensure _ E.UnsupportedCardType kind) (λ _. on-give))))
+      (λ ocr. on-test (poweredUp ocr) on-give (on-then (retry-obeys rule others any _) (λ _. on-give))))
 
   counted-obeys : (csd : ℕ) → Obeys rule BlockCount (counted (countOf csd))
   counted-obeys csd = by (countOf csd) refl
@@ -153,30 +161,30 @@ module _ (set : Settings) (from2 : 2 ≤ sourceOf set) where
   identify-obeys : (ocr : ℕ) → Obeys rule Card (identify (limitOf set) ocr)
   unfolding identify publish select
   identify-obeys ocr =
-      on-then (command-obeys rule others _ 2 _ _)
-      (λ cid. on-then (on-then (command-obeys rule others _ 3 _ _) (λ ws. on-give))
+      on-then (command-obeys rule others any _ 2 _ _)
+      (λ cid. on-then (on-then (command-obeys rule others any _ 3 _ _) (λ ws. on-give))
       (λ rca. on-then (on-ensure _ E.ResponseMismatch mismatch)
-      (λ _. on-then (command-obeys rule others _ 9 _ _)
+      (λ _. on-then (command-obeys rule others any _ 9 _ _)
       (λ csd. on-then (on-ensure _ E.UnsupportedCardType kind)
-      (λ _. on-then (counted-obeys _) (λ blocks. on-then (command-obeys rule others _ 7 _ _) (λ _. on-give)))))))
+      (λ _. on-then (counted-obeys _) (λ blocks. on-then (command-obeys rule others any _ 7 _ _) (λ _. on-give)))))))
 
   block-length-obeys : (class : CardCapacity) → Obeys rule Nothing (blockLength (limitOf set) class)
   unfolding blockLength
-  block-length-obeys SDSC = on-then (command-obeys rule others _ 16 _ _) (λ _. on-give)
+  block-length-obeys SDSC = on-then (command-obeys rule others any _ 16 _ _) (λ _. on-give)
   block-length-obeys SDHC = on-give
 
   scr-obeys : (card : Card) → Obeys rule ℕ (readScr set card)
   unfolding readScr
   scr-obeys card =
-      on-then (ready-obeys rule others _ _ _)
+      on-then (ready-obeys rule others any _ _ _)
       (λ _. on-then (block-length-obeys (card .«card_type»))
-      (λ _. on-then (app-obeys rule others _ _) (λ _. on-then (data-obeys rule others _ _ _ _) (λ ws. on-give))))
+      (λ _. on-then (app-obeys rule others any _ _) (λ _. on-then (data-obeys rule others any row-any _ _ _ _) (λ ws. on-give))))
 
   width-obeys : (rca scr : ℕ) → Obeys rule Nothing (setWidth set rca scr)
   unfolding setWidth
   width-obeys rca scr =
       on-then (on-ensure _ E.UnsupportedBusWidth width)
-      (λ _. on-then (app-obeys rule others _ _) (λ _. on-then (command-obeys rule others _ 6 _ _) (λ _. on-give)))
+      (λ _. on-then (app-obeys rule others any _ _) (λ _. on-then (command-obeys rule others any _ 6 _ _) (λ _. on-give)))
 
   hold-clock-obeys : (clock : Hertz) → Fair (sourceOf set) (clock .0) → Obeys rule Nothing (holdClock clock)
   unfolding holdClock rule
@@ -194,7 +202,7 @@ module _ (set : Settings) (from2 : 2 ≤ sourceOf set) where
       by : (a : ClockAnswer) → clockOf (sourceOf set) requested (set .config .«allow_clock_bypass») ≡ a
           → Obeys rule Nothing (clocked a then λ clock. configureClock (limitOf set) clock (set .wide) false then λ _. holdClock (clock .frequency) then λ _. holdGated true)
       by (Clocked.Set c) g =
-          on-then (configure-obeys rule others _ c _ false)
+          on-then (configure-obeys rule others any _ c _ false)
           (λ _. on-then (hold-clock-obeys _ (fair _ requested _ c from2 g)) (λ _. hold-gated-obeys true))
       by (Clocked.Refused e) g = on-fail (λ z. (requested, g))
 
@@ -205,7 +213,7 @@ module _ (set : Settings) (from2 : 2 ≤ sourceOf set) where
   take-obeys : (frequency rca : ℕ) → Obeys rule Nothing (takeSwitch set frequency rca)
   unfolding takeSwitch rule
   take-obeys frequency rca =
-      on-then (data-obeys rule others _ _ _ _)
+      on-then (data-obeys rule others any row-any _ _ _ _)
       (λ ws. on-then (on-ensure _ E.SignalingSwitchFailed switching)
       (λ _. on-then (on-look (λ line i. delay-obeys _ 8 i (omega arith)))
       (λ _. on-then (clock-obeys _) (λ _. signalling-obeys _))))
@@ -214,7 +222,7 @@ module _ (set : Settings) (from2 : 2 ≤ sourceOf set) where
   unfolding switchSpeed askSwitch
   switch-obeys frequency rca scr =
       on-test (ltb 25_000_000 frequency && not (eqb (sdSpec scr) 0))
-      (on-then (data-obeys rule others _ _ _ _) (λ ws. on-test (offered ws) (take-obeys frequency rca) on-give))
+      (on-then (data-obeys rule others any row-any _ _ _ _) (λ ws. on-test (offered ws) (take-obeys frequency rca) on-give))
       on-give
 
   settle-obeys : (frequency : ℕ) (card : Card) → Obeys rule Card (settleCard set frequency card)
@@ -232,4 +240,4 @@ module _ (set : Settings) (from2 : 2 ≤ sourceOf set) where
       on-handle (refusing resetController)
       (on-then (begin-obeys initial f)
       (λ version2. on-then (power-up-obeys version2) (λ ocr. on-then (identify-obeys ocr) (λ card. settle-obeys frequency card))))
-      (λ card. on-give) (λ e r. on-then (reset-obeys rule others) (λ _. on-fail r))
+      (λ card. on-give) (λ e r. on-then (reset-obeys rule others any row-any) (λ _. on-fail r))

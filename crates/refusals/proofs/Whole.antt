@@ -186,7 +186,7 @@ module _ {A : Type 0} (rule : Rule) (d : A) (p : Plan A) (h : Line) (s l : List 
 
 -- reads and status calls are refused with no BadClock
 abbrev unclocked : Rule
-unclocked = record { holds = λ h. Unit {0}; refuses = Other; noted = λ r h i. tt }
+unclocked = record { holds = λ h. Unit {0}; writes = λ r. Unit {0}; refuses = Other; noted = λ r h i. tt }
 
 address-other : (class : CardCapacity) (blocks index count : ℕ) (e : Error) → addressOf class blocks index count ≡ Address.Refused e → Other e
 unfolding addressOf unitsOf errorTold
@@ -209,12 +209,12 @@ module _ (host : Sdmmc) where
       at : (a : AddressAnswer) → addressOf (host .card .«card_type») (host .card .«block_count» .0) index (bytes / 512) ≡ a
           → Obeys unclocked (List ℕ) (readAt host (bytes / 512) a)
       at (Address.Refused e) r = on-fail (address-other _ _ _ _ e r)
-      at (Address.Address a) r = on-then (ready-obeys unclocked (λ e o. o) _ _ _) (λ _. data-obeys unclocked (λ e o. o) _ _ _ _)
+      at (Address.Address a) r = on-then (ready-obeys unclocked (λ e o. o) (λ r o. tt) _ _ _) (λ _. data-obeys unclocked (λ e o. o) (λ r o. tt) (λ r. tt) _ _ _ _)
 
   status-walk : Obeys unclocked (List ℕ) (statusWhole host)
   unfolding statusWhole errorTold
   status-walk =
-      on-test (host .known) (on-then (app-obeys unclocked (λ e o. o) _ _) (λ _. data-obeys unclocked (λ e o. o) _ _ _ _)) (on-fail (λ z. omega arith))
+      on-test (host .known) (on-then (app-obeys unclocked (λ e o. o) (λ r o. tt) _ _) (λ _. data-obeys unclocked (λ e o. o) (λ r o. tt) (λ r. tt) _ _ _ _)) (on-fail (λ z. omega arith))
 
   module _ (s l : List ℕ) where
     -- at 21 every word of the script was used
