@@ -3,7 +3,7 @@ ghost use mathlib.Core.Path.{_≡_};
 ghost use mathlib.Core.List.{_++_};
 ghost use Prim.Native.Nat.{_*_, _≤_};
 ghost use lib.ListN.{length, take, drop};
-ghost use Rattle.host.specs.Calls.{calledOf};
+ghost use Rattle.host.specs.Calls.{calledOf, statusCame};
 ghost use Rattle.calls.specs.Serve.{comes};
 ghost use Rattle.bench.specs.Bench.{settingsIn, asking, bufferAfter};
 use book::layout::Asked;
@@ -14,6 +14,22 @@ use host::host::Sdmmc;
 use init::settings::Settings;
 use types::clock::Hertz;
 use types::config::Config;
+
+// A status call, told as any other: the status that it gives is in the next host's record too, where a book's trace has it.
+fn ask_status(host: Sdmmc, script: &[u32], rows: &mut [u32]) -> Called
+    ensures answered { λ r. ⌜ r ≡ calledOf (statusCame host (now (script .entry)) (now (rows .entry))) ⌝ }
+    ensures listed { λ r. ⌜ now (rows .exit) ≡ statusCame host (now (script .entry)) (now (rows .entry)) .list ⌝ }
+{
+    let read = host.blocking_read_sd_status(script, rows);
+    let answer = read.answer;
+    let next = read.host;
+    Called {
+        answer: answer,
+        words: read.words,
+        rows: read.rows,
+        host: next,
+    }
+}
 
 // One call, with a buffer of its blocks' bytes.
 pub fn ask(host: Sdmmc, words: &[u32], asked: Asked, rows: &mut [u32], buffer: &mut [u8]) -> Called
@@ -32,7 +48,7 @@ pub fn ask(host: Sdmmc, words: &[u32], asked: Asked, rows: &mut [u32], buffer: &
     if kind == 2 {
         return host.blocking_read_blocks(script, rows, a, buffer);
     }
-    host.blocking_read_sd_status(script, rows)
+    ask_status(host, script, rows)
 }
 
 // One call, in the part of the buffer that its blocks take.

@@ -11,6 +11,8 @@ use Rattle.types.specs.declared.card.Card.{Card}
 use Rattle.types.specs.declared.clock.Clock.{Clock}
 use Rattle.types.specs.declared.clock.ClockAnswer.{ClockAnswer}
 use Rattle.types.specs.declared.clock.ClockAnswer.the-variants as Clocked
+use Rattle.types.specs.declared.config.ConfigAnswer.{ConfigAnswer}
+use Rattle.types.specs.declared.config.ConfigAnswer.the-variants as Judged
 use Rattle.types.specs.declared.error.Answer.{Answer}
 use Rattle.types.specs.declared.error.Answer.the-variants as Answered
 use Rattle.types.specs.declared.error.Error.{Error}
@@ -216,14 +218,11 @@ pub made-host : (set : Settings) → made set .answer ≡ Answered.Accepted
 unfolding made judgedHost clockedHost
 made-host set r = by (madeOf (sourceOf set) (set .config)) (clockOf (sourceOf set) 400_000 false) refl r
   where
-    by : (a : Answer) (k : ClockAnswer) → clockOf (sourceOf set) 400_000 false ≡ k → judgedHost set a .answer ≡ Answered.Accepted
+    by : (a : ConfigAnswer) (k : ClockAnswer) → clockOf (sourceOf set) 400_000 false ≡ k → judgedHost set a .answer ≡ Answered.Accepted
         → (c : Clock) × (clockOf (sourceOf set) 400_000 false ≡ Clocked.Set c) × (judgedHost set a .host ≡ hostOf set (freshLine (c .frequency)) false noCard)
-    by Answered.Accepted (Clocked.Set c) e r = (c, e, rw e)
-    by Answered.Accepted (Clocked.Refused x) e r = let no : Answered.Refused x ≡ Answered.Accepted = rw e at r in let z : _≡_ {A = ℕ} 0 1 = cc in absurd (omega arith)
-    by (Answered.Refused x) k e r = let z : _≡_ {A = ℕ} 0 1 = cc in absurd (omega arith)
-    by Answered.ScriptEnded k e r = let z : _≡_ {A = ℕ} 0 1 = cc in absurd (omega arith)
-    by Answered.TraceFull k e r = let z : _≡_ {A = ℕ} 0 1 = cc in absurd (omega arith)
-    by Answered.BadBook k e r = let z : _≡_ {A = ℕ} 0 1 = cc in absurd (omega arith)
+    by Judged.Sound (Clocked.Set c) e r = (c, e, rw e)
+    by Judged.Sound (Clocked.Refused x) e r = let no : Answered.Refused x ≡ Answered.Accepted = rw e at r in let z : _≡_ {A = ℕ} 0 1 = cc in absurd (omega arith)
+    by (Judged.Refused x) k e r = let z : _≡_ {A = ℕ} 0 1 = cc in absurd (omega arith)
 
 pub made-clockable : (set : Settings) → made set .answer ≡ Answered.Accepted → Clockable (made set .host .settings)
 unfolding Clockable

@@ -12,7 +12,8 @@ use Rattle.types.specs.declared.card.AddressAnswer.the-variants as Address
 use Rattle.types.specs.declared.clock.ClockAnswer.{ClockAnswer}
 use Rattle.types.specs.declared.clock.ClockAnswer.the-variants as Clocked
 use Rattle.types.specs.declared.config.Config.{Config}
-use Rattle.types.specs.declared.error.Answer.{Answer}
+use Rattle.types.specs.declared.config.ConfigAnswer.{ConfigAnswer}
+use Rattle.types.specs.declared.config.ConfigAnswer.the-variants as Judged
 use Rattle.types.specs.declared.error.Answer.the-variants as Answered
 use Rattle.types.specs.declared.error.Error.{Error}
 use Rattle.types.specs.declared.error.Error.the-variants as E
@@ -36,13 +37,10 @@ unfolding clockedHost
 clocked-no-host set e (Clocked.Set c) r = let z : _≡_ {A = ℕ} 0 1 = cc in absurd (omega arith)
 clocked-no-host set e (Clocked.Refused x) r = refl
 
-judged-no-host : (set : Settings) (e : Error) (a : Answer) → judgedHost set a .answer ≡ Answered.Refused e → judgedHost set a .host ≡ noHost
+judged-no-host : (set : Settings) (e : Error) (a : ConfigAnswer) → judgedHost set a .answer ≡ Answered.Refused e → judgedHost set a .host ≡ noHost
 unfolding judgedHost
-judged-no-host set e Answered.Accepted r = clocked-no-host set e (clockOf (sourceOf set) 400_000 false) r
-judged-no-host set e (Answered.Refused x) r = refl
-judged-no-host set e Answered.ScriptEnded r = refl
-judged-no-host set e Answered.TraceFull r = refl
-judged-no-host set e Answered.BadBook r = refl
+judged-no-host set e Judged.Sound r = clocked-no-host set e (clockOf (sourceOf set) 400_000 false) r
+judged-no-host set e (Judged.Refused x) r = refl
 
 -- whatever it is refused with, there is no host
 pub making-refused : (set : Settings) (e : Error) → made set .answer ≡ Answered.Refused e → made set .host ≡ noHost
@@ -78,7 +76,7 @@ making-18 set (dataTimeout e) = rw (eq-eqb _ _ e) (simp or-true)
 making-18 set (softwareTimeout e) = rw (eq-eqb _ _ e) (simp or-true)
 
 none-zero : (source : ℕ) (config : Config) → NoneZero config
-    → madeOf source config ≡ cond (ltb source 2 || ltb 102_800_000 source) (Answered.Refused E.BadClock) Answered.Accepted
+    → madeOf source config ≡ cond (ltb source 2 || ltb 102_800_000 source) (Judged.Refused E.BadClock) Judged.Sound
 unfolding madeOf
 none-zero source config z =
     rw (

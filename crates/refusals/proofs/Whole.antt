@@ -1,39 +1,53 @@
 -- Theorems about whole calls. Each call does what its one plan does (`initialise-ran`, `read-ran`, `status-ran`); from that, of
 -- every call: when it answers 22, and how many rows it has then written; that at 21 all words were used; whence a 17 comes; and
 -- that an accepted read has filled its whole buffer.
-use Prim.Native.Nat.{ℕ, _+_, _*_, _-_, _/_, _%_, _≤_, _<_, min}
+use Prim.Native.Nat.{ℕ, _+_, _*_, _-_, _/_, _%_, _≤_, _<_, _^_, min}
 use mathlib.Core.Bool.{Bool, true, false, cond, _||_}
-use mathlib.Core.List.{List, [], _++_}
+use mathlib.Core.List.{List, [], append-nil}
 use mathlib.Core.Path.{_≡_, refl, ap, sym, _∙_}
 use native.Mathlib.Omega.{arith}
 use native.Mathlib.Decide.{decLe}
 use lib.Dec.{eqb, ltb}
-use lib.ListN.{length, take, drop}
-use borrow.Author.Tests.{le-ltb, lt-ltb}
+use lib.ListN.{length, take, drop, drop-of-length-le}
+use lib.Seq.{take-all}
+use borrow.Author.Tests.{le-ltb, lt-ltb, eqb-true}
 use Rattle.types.specs.declared.card.AddressAnswer.{AddressAnswer}
 use Rattle.types.specs.declared.card.AddressAnswer.the-variants as Address
+use Rattle.types.specs.declared.card.Card.{Card}
+use Rattle.types.specs.declared.card.CardCapacity.{CardCapacity}
+use Rattle.types.specs.declared.card.CardCapacity.the-variants.{SDSC, SDHC}
+use Rattle.types.specs.declared.clock.Clock.{Clock}
 use Rattle.types.specs.declared.clock.ClockAnswer.{ClockAnswer}
 use Rattle.types.specs.declared.clock.ClockAnswer.the-variants as Clocked
 use Rattle.types.specs.declared.error.Answer.{Answer}
 use Rattle.types.specs.declared.error.Answer.the-variants as Answered
 use Rattle.types.specs.declared.error.Error.{Error}
 use Rattle.types.specs.declared.error.Error.the-variants as E
-use Rattle.types.specs.Leaf.{addressOf, clockOf}
+use Rattle.types.specs.Answer.{errorTold}
+use Rattle.types.specs.Leaf.{addressOf, clockOf, unitsOf}
+use Rattle.types.specs.Words.{bytesOf}
 use Rattle.tape.specs.declared.progress.Halt.{Halt}
 use Rattle.tape.specs.declared.progress.Halt.the-variants.{Refused, ScriptEnded, TraceFull}
 use Rattle.tape.specs.declared.progress.Line.{Line}
 use Rattle.tape.specs.declared.progress.Pace.{Pace}
 use Rattle.tape.specs.declared.progress.Pace.the-variants.{Going, Stopped}
-use Rattle.tape.specs.Plan.{Nothing, Plan, refuse, _then_}
+use Rattle.tape.specs.Plan.{Nothing, Plan, refuse, fail, _then_}
 use Rattle.tape.specs.Rows.{roomOf}
 use Rattle.tape.specs.Run.{State, After, run, runFrom, nextAt}
-use Rattle.tape.proofs.Laws.{by-cases, run-handle}
+use Rattle.tape.proofs.Laws.{by-cases, from-going, run-handle}
+use Rattle.tape.proofs.Room.{free, isFull, run-fits, run-full, full-exactly}
+use Rattle.tape.proofs.Values.{given}
+use Rattle.tape.proofs.Walk.{Rule, Obeys, Obeyed, run-obeys, on-fail, on-test, on-then}
 use Rattle.bus.specs.Command.{appCommand}
 use Rattle.bus.specs.Ready.{waitReady}
+use Rattle.bus.proofs.Bounds.{gives-words}
+use Rattle.bus.proofs.Delays.{fair}
+use Rattle.bus.proofs.Walks.{Other, app-obeys, ready-obeys, data-obeys}
 use Rattle.init.specs.Initialise.{sourceOf, limitOf, noCard, initialise}
+use Rattle.init.proofs.Walks.{clockRule, initialise-obeys}
 use Rattle.host.specs.declared.host.Sdmmc.{Sdmmc}
 use Rattle.host.specs.Calls.{Came, untouched, holding, dropped, kept, ends, freshLine, initFrom, initialised}
-use Rattle.host.specs.Calls.{transferred, approached, served, readNext, readPlan, readFrom, readKnown, readCame}
+use Rattle.host.specs.Calls.{transferred, approached, served, readNext, readTransfer, readPlan, readFrom, readKnown, readCame, blocksFilled, bufferOf}
 use Rattle.host.specs.Calls.{statusNext, statusPlan, statusFrom, statusCame}
 use Rattle.refusals.specs.Whole.{initAt, initWhole, readAt, readWhole, statusWhole, answerOf, Ran}
 
@@ -174,27 +188,36 @@ ended-pace (Stopped (Refused x)) r = let z : _≡_ {A = ℕ} 0 1 = cc in absurd 
 ended-pace (Stopped ScriptEnded) r = refl
 ended-pace (Stopped TraceFull) r = let z : _≡_ {A = ℕ} 0 1 = cc in absurd (omega arith)
 
-module _ {A : Type 0} (rule : Rule) (d : A) (p : Plan A) (h : Line) (s l : List ℕ) (x : Came) (ran : Ran x (run s d p 0 0 h l)) (walk : Obeys rule A p) (held : rule .holds h) where
-  obeyed : Obeyed rule s 0 (run s d p 0 0 h l)
-  obeyed = run-obeys rule s d p 0 0 h l (walk .each) held
+all-used : {A : Type 0} {rule : Rule} {s : List ℕ} {x : Came} {y : After A} → Ran x y → Obeyed rule s 0 y
+    → x .answer ≡ Answered.ScriptEnded → x .words ≡ length s
+all-used ran o r = ran .words ∙ o .ended (ended-pace _ (sym (ran .answer) ∙ r)) (omega arith)
 
-  all-used : x .answer ≡ Answered.ScriptEnded → x .words ≡ length s
-  all-used r = ran .words ∙ obeyed .ended (ended-pace _ (sym (ran .answer) ∙ r)) (omega arith)
-
-  allowed-error : (e : Error) → x .answer ≡ Answered.Refused e → rule .refuses e
-  allowed-error e r = obeyed .refused e (refused-pace _ e (sym (ran .answer) ∙ r))
+allowed-error : {A : Type 0} {rule : Rule} {s : List ℕ} {x : Came} {y : After A} → Ran x y → Obeyed rule s 0 y
+    → (e : Error) → x .answer ≡ Answered.Refused e → rule .refuses e
+allowed-error ran o e r = o .refused e (refused-pace _ e (sym (ran .answer) ∙ r))
 
 -- reads and status calls are refused with no BadClock
 abbrev unclocked : Rule
 unclocked = record { holds = λ h. Unit {0}; writes = λ r. Unit {0}; refuses = Other; noted = λ r h i. tt }
 
-address-other : (class : CardCapacity) (blocks index count : ℕ) (e : Error) → addressOf class blocks index count ≡ Address.Refused e → Other e
-unfolding addressOf unitsOf errorTold
-address-other class blocks index count e r z = by (eqb count 0 || ltb 511 count) (ltb blocks (index + count)) class (ltb (512 * index) (2 ^ 32)) r
+units-other : (class : CardCapacity) (index : ℕ) (e : Error) → unitsOf class index ≡ Address.Refused e → Other e
+unfolding unitsOf errorTold
+units-other SDSC index e r z = by (ltb (512 * index) (2 ^ 32)) r
   where
-    by : (a b : Bool) (k : CardCapacity) (f : Bool)
+    by : (b : Bool) → cond b (Address.Address (512 * index)) (Address.Refused E.AddressOutOfRange) ≡ Address.Refused e → ⊥
+    by true r = let no : _≡_ {A = ℕ} 0 1 = cc in omega arith
+    by false r = let same : e ≡ E.AddressOutOfRange = cc in omega (arith, rw same at z)
+units-other SDHC index e r z = let no : _≡_ {A = ℕ} 0 1 = cc in omega arith
+
+address-other : (class : CardCapacity) (blocks index count : ℕ) (e : Error) → addressOf class blocks index count ≡ Address.Refused e → Other e
+unfolding addressOf errorTold
+address-other class blocks index count e r z = by (eqb count 0 || ltb 511 count) (ltb blocks (index + count)) r
+  where
+    by : (a b : Bool)
         → cond a (Address.Refused E.InvalidBufferLength) (cond b (Address.Refused E.AddressOutOfRange) (unitsOf class index)) ≡ Address.Refused e → ⊥
-    by a b k f r = ?
+    by true b r = let same : e ≡ E.InvalidBufferLength = cc in omega (arith, rw same at z)
+    by false true r = let same : e ≡ E.AddressOutOfRange = cc in omega (arith, rw same at z)
+    by false false r = units-other class index e r z
 
 module _ (host : Sdmmc) where
   read-walk : (index bytes : ℕ) → Obeys unclocked (List ℕ) (readWhole host index bytes)
@@ -217,20 +240,25 @@ module _ (host : Sdmmc) where
       on-test (host .known) (on-then (app-obeys unclocked (λ e o. o) (λ r o. tt) _ _) (λ _. data-obeys unclocked (λ e o. o) (λ r o. tt) (λ r. tt) _ _ _ _)) (on-fail (λ z. omega arith))
 
   module _ (s l : List ℕ) where
+    read-obeyed : (index bytes : ℕ) → Obeyed unclocked s 0 (run s [] (readWhole host index bytes) 0 0 (host .line) l)
+    read-obeyed index bytes = run-obeys unclocked s [] (readWhole host index bytes) 0 0 (host .line) l (read-walk index bytes .each) tt
+
+    status-obeyed : Obeyed unclocked s 0 (run s [] (statusWhole host) 0 0 (host .line) l)
+    status-obeyed = run-obeys unclocked s [] (statusWhole host) 0 0 (host .line) l (status-walk .each) tt
+
     -- at 21 every word of the script was used
     pub read-21 : (index bytes : ℕ) → readCame host index bytes s l .answer ≡ Answered.ScriptEnded → readCame host index bytes s l .words ≡ length s
-    read-21 index bytes = all-used unclocked [] (readWhole host index bytes) (host .line) s l _ (read-ran host s l index bytes) (read-walk index bytes) tt
+    read-21 index bytes = all-used (read-ran host s l index bytes) (read-obeyed index bytes)
 
     pub status-21 : statusCame host s l .answer ≡ Answered.ScriptEnded → statusCame host s l .words ≡ length s
-    status-21 = all-used unclocked [] (statusWhole host) (host .line) s l _ (status-ran host s l) status-walk tt
+    status-21 = all-used (status-ran host s l) status-obeyed
 
     -- neither is refused with 17
     pub read-not-17 : (index bytes : ℕ) (e : Error) → readCame host index bytes s l .answer ≡ Answered.Refused e → errorTold e .number ≡ 17 → ⊥
-    read-not-17 index bytes =
-        allowed-error unclocked [] (readWhole host index bytes) (host .line) s l _ (read-ran host s l index bytes) (read-walk index bytes) tt
+    read-not-17 index bytes = allowed-error (read-ran host s l index bytes) (read-obeyed index bytes)
 
     pub status-not-17 : (e : Error) → statusCame host s l .answer ≡ Answered.Refused e → errorTold e .number ≡ 17 → ⊥
-    status-not-17 = allowed-error unclocked [] (statusWhole host) (host .line) s l _ (status-ran host s l) status-walk tt
+    status-not-17 = allowed-error (status-ran host s l) status-obeyed
 
 -- An initialisation, of a host such as is made: its source is 2 Hz or more and has a clock of identification.
 
@@ -240,16 +268,93 @@ pub data Whence17 (host : Sdmmc) (frequency : ℕ) : Type 0 where
   setting : (requested : ℕ) → clockOf (sourceOf (host .settings)) requested (host .settings .config .«allow_clock_bypass») ≡ Clocked.Refused E.BadClock → Whence17 host frequency
 
 module _ (host : Sdmmc) (from2 : 2 ≤ sourceOf (host .settings)) (c : Clock) (clocked : clockOf (sourceOf (host .settings)) 400_000 false ≡ Clocked.Set c) (frequency : ℕ) (s l : List ℕ) where
-  -- of allowed frequency
-  init-walk : Obeys (clockRule (host .settings)) Card (initAt host frequency (Clocked.Set c))
-  unfolding initAt
-  init-walk =
+  -- one of allowed frequency
+  steps : After Card
+  steps = run s noCard (initialise (host .settings) c frequency) 0 0 (freshLine (c .frequency)) l
+
+  steps-ran : Ran (initFrom host frequency (Clocked.Set c) s l) steps
+  unfolding initFrom steps
+  steps-ran = ends-ran (steps .value) host (dropped host (steps .state)) (holding host (steps .state) (steps .value)) [] (steps .state)
+
+  steps-obeyed : Obeyed (clockRule (host .settings)) s 0 steps
+  unfolding steps
+  steps-obeyed =
       let f = fair _ 400_000 false c from2 clocked in
-      on-hold f (initialise-obeys (host .settings) from2 c frequency f)
+      run-obeys (clockRule (host .settings)) s noCard (initialise (host .settings) c frequency) 0 0 (freshLine (c .frequency)) l
+      (initialise-obeys (host .settings) from2 c frequency f .each) f
 
-  steps : Came
-  steps = initFrom host frequency (Clocked.Set c) s l
+  -- at 21 every word of the script was used
+  pub initialise-21 : initialised host frequency s l .answer ≡ Answered.ScriptEnded → initialised host frequency s l .words ≡ length s
+  unfolding initialised
+  initialise-21 r = rw clocked (by (eqb frequency 0 || ltb 50_000_000 frequency) (rw clocked at r))
+    where
+      by : (b : Bool) → cond b (untouched host E.BadClock l) (initFrom host frequency (Clocked.Set c) s l) .answer ≡ Answered.ScriptEnded
+          → cond b (untouched host E.BadClock l) (initFrom host frequency (Clocked.Set c) s l) .words ≡ length s
+      by true r = let z : _≡_ {A = ℕ} 0 1 = cc in absurd (omega arith)
+      by false r = all-used steps-ran steps-obeyed r
 
-  begun-walk : {P : Came → Type 0} → P (untouched host E.BadClock l) → P steps → P (initialised host frequency s l)
-  unfolding initialised steps
-  begun-walk {P} no yes = rw clocked (by-cases P (eqb frequency 0 || ltb 50_000_000 frequency) _ _ no yes)
+  -- and a 17 is never the delay's own
+  pub initialise-17 : initialised host frequency s l .answer ≡ Answered.Refused E.BadClock → Whence17 host frequency
+  unfolding initialised errorTold
+  initialise-17 r = by (eqb frequency 0 || ltb 50_000_000 frequency) refl (rw clocked at r)
+    where
+      by : (b : Bool) → (eqb frequency 0 || ltb 50_000_000 frequency) ≡ b
+          → cond b (untouched host E.BadClock l) (initFrom host frequency (Clocked.Set c) s l) .answer ≡ Answered.Refused E.BadClock → Whence17 host frequency
+      by true t r = asked t
+      by false t r = let told = allowed-error steps-ran steps-obeyed E.BadClock r refl in setting (told .0) (told .1)
+
+-- An accepted read has taken exactly 128 words a block,
+Exact : ℕ → Came → Type 0
+Exact bytes x = x .answer ≡ Answered.Accepted → (bytes % 512 ≡ 0) × (length (x .taken) ≡ 128 * (bytes / 512))
+
+ends-exact : (host refused accepted : Sdmmc) (words : List ℕ) (bytes : ℕ) (q : Pace) (w : State)
+    → (q ≡ Going → (bytes % 512 ≡ 0) × (length words ≡ 128 * (bytes / 512))) → Exact bytes (ends host refused accepted words q w)
+unfolding Exact ends
+ends-exact host refused accepted words bytes Going w e = λ r. e refl
+ends-exact host refused accepted words bytes (Stopped (Refused x)) w e = λ r. let z : _≡_ {A = ℕ} 0 1 = cc in absurd (omega arith)
+ends-exact host refused accepted words bytes (Stopped ScriptEnded) w e = λ r. let z : _≡_ {A = ℕ} 0 1 = cc in absurd (omega arith)
+ends-exact host refused accepted words bytes (Stopped TraceFull) w e = λ r. let z : _≡_ {A = ℕ} 0 1 = cc in absurd (omega arith)
+
+untouched-exact : (host : Sdmmc) (e : Error) (l : List ℕ) (bytes : ℕ) → Exact bytes (untouched host e l)
+unfolding Exact
+untouched-exact host e l bytes = λ r. let z : _≡_ {A = ℕ} 0 1 = cc in absurd (omega arith)
+
+module _ (host : Sdmmc) (index bytes : ℕ) (s l : List ℕ) where
+  from-exact : bytes % 512 ≡ 0 → (a : AddressAnswer) → Exact bytes (readFrom host (bytes / 512) a s l)
+  unfolding readFrom served approached transferred
+  from-exact whole (Address.Refused e) = untouched-exact host e l bytes
+  from-exact whole (Address.Address a) = by (w .progress .pace) refl
+    where
+      w : State
+      w = run s (tt {0}) (waitReady (sourceOf (host .settings)) (host .settings .config) (host .card .rca)) 0 0 (host .line) l .state
+
+      by : (q : Pace) → w .progress .pace ≡ q → Exact bytes (approached host (readPlan host a (bytes / 512)) (readNext host) s q w)
+      by Going g =
+          let x = runFrom s [] (readPlan host a (bytes / 512)) w in
+          let gave = from-going {s = s} {d = []} {p = readPlan host a (bytes / 512)} {w = w} {v = x .value} {w′ = x .state} g refl in
+          let words = gives-words (sourceOf (host .settings)) (host .settings .config) (readTransfer a (bytes / 512)) (host .card .rca) in
+          ends-exact host (dropped host (x .state)) (readNext host (x .state) (x .value)) (x .value) bytes (x .state .progress .pace) (x .state)
+          (λ through. (whole, given words gave through))
+      by (Stopped h) g = ends-exact host (kept host w) host [] bytes (Stopped h) w (λ through. let z : _≡_ {A = ℕ} 0 1 = cc in absurd (omega arith))
+
+  pub read-exact : readCame host index bytes s l .answer ≡ Answered.Accepted
+      → (bytes % 512 ≡ 0) × (length (readCame host index bytes s l .taken) ≡ 128 * (bytes / 512))
+  unfolding readCame readKnown Exact
+  read-exact = by-cases (Exact bytes) (host .known) _ _ (by (eqb (bytes % 512) 0) refl) (untouched-exact host E.NoCard l bytes)
+    where
+      by : (b : Bool) → eqb (bytes % 512) 0 ≡ b
+          → Exact bytes (cond b (readFrom host (bytes / 512) (addressOf (host .card .«card_type») (host .card .«block_count» .0) index (bytes / 512)) s l) (untouched host E.InvalidBufferLength l))
+      by true t = from-exact (eqb-true (bytes % 512) 0 t) (addressOf (host .card .«card_type») (host .card .«block_count» .0) index (bytes / 512))
+      by false t = untouched-exact host E.InvalidBufferLength l bytes
+
+  -- so it has filled every byte of a buffer of its length: nothing in it is stale
+  pub read-filled : (buffer : List ℕ) → length buffer ≡ bytes → readCame host index bytes s l .answer ≡ Answered.Accepted
+      → bufferOf (readCame host index bytes s l) buffer ≡ bytesOf (readCame host index bytes s l .taken)
+  unfolding blocksFilled
+  read-filled buffer long r =
+      let ws = readCame host index bytes s l .taken in
+      let exact = read-exact r in
+      let blocks : min (length ws / 128) (length buffer / 512) ≡ bytes / 512 = omega (arith, exact .0, exact .1) in
+      let words : take (128 * (bytes / 512)) ws ≡ ws = take-all (128 * (bytes / 512)) ws (omega (arith, exact .1)) in
+      let rest : drop (512 * (bytes / 512)) buffer ≡ [] = drop-of-length-le buffer {i = 512 * (bytes / 512)} (omega (arith, exact .0)) in
+      rw (blocks, words, rest) (append-nil (bytesOf ws))

@@ -1,13 +1,8 @@
 -- A line for each public function of `bus`.
 use Prim.Native.Nat.{ℕ}
 use mathlib.Core.List.{List, []}
-use mathlib.Core.Path.{_≡_}
-use contract.Lifetimes.{Lfts}
-use borrow.Fn.Kinds.{Dens}
-use Rattle.tape.specs.declared.progress.Halt.{Halt}
-use Rattle.tape.specs.declared.progress.Pace.the-variants.{Stopped}
+use mathlib.Core.Path.{ap}
 use Rattle.tape.specs.Run.{After}
-use Rattle.tape.proofs.Laws.{from-stopped}
 use Rattle.bus.specs.declared.response.Words.{Words}
 use Rattle.bus.proofs.clock
 use Rattle.bus.proofs.command
@@ -15,9 +10,9 @@ use Rattle.bus.proofs.poll
 use Rattle.bus.proofs.ready
 use Rattle.bus.proofs.response
 use Rattle.bus.proofs.transfer
-use Rattle.unique.specs.Unique.{Allows, Unique, UniqueIn}
-use Rattle.unique.proofs.Determined.{determined, part-determined}
-use Rattle.unique.proofs.Steps.{dataIn, data-same, listed, on, on-any, toFlag, toProgress, toWord}
+use Rattle.unique.specs.Unique.{Unique}
+use Rattle.unique.proofs.Determined.{determined}
+use Rattle.unique.proofs.Steps.{lies-at, listed, on, on-any, toFlag, toProgress, toWord}
 
 abbrev toWords : After (List ℕ) → Words
 toWords x = record { progress = x .state .progress; words = x .value }
@@ -64,14 +59,6 @@ response-give-words = determined _ λ _ _ _ p i. toWords (p [] [] .same i)
 transfer-start-data : Unique transfer.start_data.Kinds.ps transfer.start_data.Kinds.r transfer.start_data.Reads.Learnt
 transfer-start-data = determined _ λ _ _ _ p i. listed toProgress (p .same i)
 
--- An exception: what it gives are data words of the script. What they are is promised, and not where they lie.
-
-transfer-blocking-data : UniqueIn transfer.blocking_data.Kinds.ps transfer.blocking_data.Kinds.r transfer.blocking_data.Reads.Learnt
-    (λ _ a x. dataIn (x .0) (a .1 .0 .now) (x .1 .1 .1 .0))
-transfer-blocking-data = part-determined _ λ _ _ x p. data-same (x .0) p
-
--- so a call that has stopped may give its no words at every place k
-blocking-no-data : (κs : Lfts 2) (a : Dens κs transfer.blocking_data.Kinds.ps) (h : Halt) (k : ℕ) → a .0 .pace ≡ Stopped h
-    → Allows transfer.blocking_data.Kinds.ps transfer.blocking_data.Kinds.r transfer.blocking_data.Reads.Learnt κs a
-    (record { progress = a .0; place = k; count = 0 }, (tt, (tt, (a .1 .1 .0 .now, (tt, (tt, (tt, (tt, tt))))))))
-blocking-no-data κs a h k q = from-stopped q
+transfer-blocking-data : Unique transfer.blocking_data.Kinds.ps transfer.blocking_data.Kinds.r transfer.blocking_data.Reads.Learnt
+transfer-blocking-data =
+    determined _ λ _ _ _ p i. (listed toProgress (p .0 .same i) .0, lies-at (ap toProgress (p .0 .same)) (p .1) i)

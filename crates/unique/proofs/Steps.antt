@@ -2,14 +2,13 @@
 use Prim.Native.Nat.{ℕ}
 use mathlib.Core.Bool.{Bool}
 use mathlib.Core.List.{List, []}
-use mathlib.Core.Path.{_≡_}
-use lib.ListN.{take, drop}
+use mathlib.Core.Path.{_≡_, ap, _∙_}
 use Rattle.tape.specs.declared.progress.Flag.{Flag}
 use Rattle.tape.specs.declared.progress.Progress.{Progress}
 use Rattle.tape.specs.declared.progress.Word.{Word}
 use Rattle.tape.specs.declared.script.Data.{Data}
 use Rattle.tape.specs.Plan.{Plan}
-use Rattle.tape.specs.Run.{State, at, After, does, Behind, Gave}
+use Rattle.tape.specs.Run.{State, at, After, keptAt, does, Behind, Gave, Lies}
 use Rattle.tape.proofs.Behind.{behind, is-behind}
 
 -- a step that reads and writes
@@ -37,15 +36,10 @@ toFlag x = record { progress = x .state .progress; flag = x .value }
 abbrev pub listed : {A Z : Type 0} → (After A → Z) → After A → List ℕ × Z
 listed result x = (x .state .list, result x)
 
--- the data words that a step gives, on a script, with its progress and the row list
-abbrev pub dataIn : Data → List ℕ → List ℕ → After (List ℕ)
-dataIn r s l = record { value = take (r .count) (drop (r .place) s); state = at (r .progress) l }
+-- data words are told by where they lie, which goes by whether the call is going
+abbrev pub lying : ℕ → ℕ → Progress → Data
+lying from n p = record { progress = p; place = keptAt 0 from (p .pace); count = keptAt 0 n (p .pace) }
 
--- the same where r lies behind the first n words
-abbrev pub dataBehind : (n : ℕ) (r : List ℕ) → Data → (s l : List ℕ) → Behind n r s → After (List ℕ)
-dataBehind n r x s l part = dataIn x s l
-
--- they are what its plan gives
-pub data-same : {s l : List ℕ} {p : Plan (List ℕ)} {w : State} (r : Data)
-    → Gave s (List ℕ) [] p w (take (r .count) (drop (r .place) s)) (at (r .progress) l) → dataIn r s l ≡ does s [] p w
-data-same r e = e .same
+pub lies-at : {from n : ℕ} {r : Data} {p : Progress} → r .progress ≡ p → Lies from n r → r ≡ lying from n p
+lies-at {from} {n} {r} e lies =
+    (λ i. record { progress = r .progress; place = lies .place i; count = lies .count i }) ∙ ap (lying from n) e

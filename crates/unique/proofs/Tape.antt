@@ -1,21 +1,14 @@
 -- A line for each public function of `tape`.
-use Prim.Native.Nat.{ℕ}
 use mathlib.Core.List.{[]}
-use mathlib.Core.Path.{_≡_}
-use contract.Lifetimes.{Lfts}
-use borrow.Fn.Kinds.{Dens}
-use Rattle.tape.specs.declared.progress.Halt.{Halt}
-use Rattle.tape.specs.declared.progress.Pace.the-variants.{Stopped}
+use mathlib.Core.Path.{ap}
 use Rattle.tape.specs.declared.script.Reading.the-variants.{Status}
-use Rattle.tape.specs.Run.{at}
-use Rattle.tape.proofs.Laws.{from-stopped}
 use Rattle.tape.proofs.progress
 use Rattle.tape.proofs.rows
 use Rattle.tape.proofs.script
 use Rattle.tape.proofs.steps
-use Rattle.unique.specs.Unique.{Allows, Unique, UniqueIn}
+use Rattle.unique.specs.Unique.{Unique, UniqueIn}
 use Rattle.unique.proofs.Determined.{determined, part-determined}
-use Rattle.unique.proofs.Steps.{dataIn, dataBehind, data-same, listed, on-any, toFlag, toProgress, toWord}
+use Rattle.unique.proofs.Steps.{lies-at, listed, on-any, toFlag, toProgress, toWord}
 
 progress-line-noted : Unique progress.Line.noted.Kinds.ps progress.Line.noted.Kinds.r progress.Line.noted.Reads.Learnt
 progress-line-noted = determined _ λ _ _ _ p. p
@@ -95,26 +88,12 @@ steps-hold-clock = determined _ λ _ _ _ p i. toProgress (p [] [] .same i)
 steps-hold-signalling : Unique steps.hold_signalling.Kinds.ps steps.hold_signalling.Kinds.r steps.hold_signalling.Reads.Learnt
 steps-hold-signalling = determined _ λ _ _ _ p i. toProgress (p [] [] .same i)
 
--- Exceptions: what these give is lent, or lies in the script. What it holds is promised, and not where it lies.
+script-give-data : Unique script.give_data.Kinds.ps script.give_data.Kinds.r script.give_data.Reads.Learnt
+script-give-data = determined _ λ _ _ _ p. lies-at (ap toProgress (p .0 [] [] .same)) (p .1)
 
+script-take-data : Unique script.take_data.Kinds.ps script.take_data.Kinds.r script.take_data.Reads.Learnt
+script-take-data = determined _ λ _ _ _ p. lies-at (ap toProgress (on-any (p .0))) (p .1)
+
+-- An exception: what it gives is lent. What it holds is promised, and not where it lies.
 script-rest : UniqueIn script.rest.Kinds.ps script.rest.Kinds.r script.rest.Reads.Learnt (λ _ _ x. x .0 .now)
 script-rest = part-determined _ λ _ _ _ p. p .0 .part
-
-script-give-data : UniqueIn script.give_data.Kinds.ps script.give_data.Kinds.r script.give_data.Reads.Learnt
-    (λ _ _ x. dataIn (x .0))
-script-give-data = part-determined _ λ _ _ x p i s l. data-same (x .0) (p s l) i
-
-script-take-data : UniqueIn script.take_data.Kinds.ps script.take_data.Kinds.r script.take_data.Reads.Learnt
-    (λ _ a x. dataBehind (a .1 .1 .0) (a .1 .0 .now) (x .0))
-script-take-data = part-determined _ λ _ _ x p i s l part. data-same (x .0) (p s l part) i
-
--- so a call that has stopped may give its no words at every place k
-give-no-data : (κs : Lfts 0) (a : Dens κs script.give_data.Kinds.ps) (h : Halt) (k : ℕ) → a .0 .pace ≡ Stopped h
-    → Allows script.give_data.Kinds.ps script.give_data.Kinds.r script.give_data.Reads.Learnt κs a
-    (record { progress = a .0; place = k; count = 0 }, (tt, (tt, (tt, tt))))
-give-no-data κs a h k q s l = from-stopped {w = at (a .0) l} q
-
-take-no-data : (κs : Lfts 1) (a : Dens κs script.take_data.Kinds.ps) (h : Halt) (k : ℕ) → a .0 .pace ≡ Stopped h
-    → Allows script.take_data.Kinds.ps script.take_data.Kinds.r script.take_data.Reads.Learnt κs a
-    (record { progress = a .0; place = k; count = 0 }, (tt, (tt, (tt, (tt, tt)))))
-take-no-data κs a h k q s l part = from-stopped {w = at (a .0) l} q

@@ -47,7 +47,7 @@ returns-3 c =
     let host = args .host in
     let buffer = args .buffer .now in
     let call = asks-status (args .rows .now) (length buffer) (callAsked (args .words .now) (args .asked)) (c .before .before .before .before .before .if1 .left) (c .before .before .before .before .if2 .left) in
-    let done = rw (c .before .before .before .before .before .before .part .ensures) at (c .before .before .blocking-read-sd-status .ensures) in (
+    let done = rw (c .before .before .before .before .before .before .part .ensures) at (c .before .before .ask-status .ensures) in (
       done .0 ∙ ap (λ (x : S.Call). calledOf (comes host x)) call,
       (
         done .1 ∙ ap (λ (x : S.Call). comes host x .list) call,
