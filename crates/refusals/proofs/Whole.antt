@@ -69,21 +69,25 @@ untouched-ran : {A : Type 0} (d : A) (host : Sdmmc) (e : Error) (s l : List ℕ)
 unfolding run
 untouched-ran d host e s l = record { answer = refl; words = refl; rows = refl; list = refl }
 
+-- the same run, told otherwise
+as-run : {A : Type 0} {x : Came} {y z : After A} → z ≡ y → Ran x y → Ran x z
+as-run e ran = rw e ran
+
 -- two plans, one after the other
 served-ran : (host : Sdmmc) (approach : Plan Nothing) (transfer : Plan (List ℕ)) (next : State → List ℕ → Sdmmc) (s l : List ℕ)
     → Ran (served host approach transfer next s l) (run s [] (approach then λ _. transfer) 0 0 (host .line) l)
 unfolding served approached transferred nextAt run ends
 served-ran host approach transfer next s l =
-    rw (run-handle s (tt {0}) [] (λ _. transfer) refuse approach 0 0 (host .line) l) (by (w .progress .pace) refl)
+    as-run (run-handle s (tt {0}) [] (λ _. transfer) refuse approach 0 0 (host .line) l) (by (w .progress .pace))
   where
     w : State
     w = run s (tt {0}) approach 0 0 (host .line) l .state
 
-    by : (q : Pace) → w .progress .pace ≡ q → Ran (approached host transfer next s q w) (nextAt s [] (λ _. transfer) refuse tt q w)
-    by Going g = let x = runFrom s [] transfer w in ends-ran (x .value) host (dropped host (x .state)) (next (x .state) (x .value)) (x .value) (x .state)
-    by (Stopped (Refused e)) g = record { answer = refl; words = refl; rows = refl; list = refl }
-    by (Stopped ScriptEnded) g = record { answer = refl; words = refl; rows = refl; list = refl }
-    by (Stopped TraceFull) g = record { answer = refl; words = refl; rows = refl; list = refl }
+    by : (q : Pace) → Ran (approached host transfer next s q w) (nextAt s [] (λ (_ : Nothing). transfer) refuse tt q w)
+    by Going = let x = runFrom s [] transfer w in ends-ran (x .value) host (dropped host (x .state)) (next (x .state) (x .value)) (x .value) (x .state)
+    by (Stopped (Refused e)) = record { answer = refl; words = refl; rows = refl; list = refl }
+    by (Stopped ScriptEnded) = record { answer = refl; words = refl; rows = refl; list = refl }
+    by (Stopped TraceFull) = record { answer = refl; words = refl; rows = refl; list = refl }
 
 both : {X Y : Type 0} (P : X → Y → Type 0) (b : Bool) {x x′ : X} {y y′ : Y} → P x y → P x′ y′ → P (cond b x x′) (cond b y y′)
 both P true e e′ = e
@@ -94,7 +98,7 @@ module _ (host : Sdmmc) (s l : List ℕ) where
   does d x p = Ran x (run s d p 0 0 (host .line) l)
 
   pub initialise-ran : (frequency : ℕ) → Ran (initialised host frequency s l) (run s noCard (initWhole host frequency) 0 0 (host .line) l)
-  unfolding initialised initWhole
+  unfolding initialised initWhole initFrom initAt run
   initialise-ran frequency =
       both (does noCard) (eqb frequency 0 || ltb 50_000_000 frequency) (untouched-ran noCard host E.BadClock s l)
       (at (clockOf (sourceOf (host .settings)) 400_000 false))
@@ -142,16 +146,19 @@ answered-full (Stopped (Refused x)) e = let z : _≡_ {A = ℕ} 0 1 = cc in absu
 answered-full (Stopped ScriptEnded) e = let z : _≡_ {A = ℕ} 0 1 = cc in absurd (omega arith)
 answered-full (Stopped TraceFull) e = refl
 
+not-both : {b : Bool} → b ≡ true → b ≡ false → ⊥
+not-both t f = let z : _≡_ {A = ℕ} 0 1 = cc in omega arith
+
 room : {A : Type 0} (d : A) (p : Plan A) (h : Line) (s l : List ℕ) (x : Came) → Ran x (run s d p 0 0 h l) → Roomed l (wouldWrite s d p h) x
 room {A} d p h s l x ran = by (decLe (wouldWrite s d p h) (roomOf l))
   where
     by : Dec (wouldWrite s d p h ≤ roomOf l) → Roomed l (wouldWrite s d p h) x
     by (yes fits) =
-        let all = run-fits s d p 0 0 h l fits in
+        let all = run-fits s d p 0 0 h l (omega arith) in
         record {
           full = λ f.
-              let told = sym (answered-full _ (sym (ran .answer) ∙ f)) ∙ full-exactly s d p 0 0 h l (omega arith) ∙ le-ltb (roomOf l) (wouldWrite s d p h) fits in
-              let z : _≡_ {A = ℕ} 0 1 = cc in absurd (omega arith);
+              absurd (not-both (answered-full (run s d p 0 0 h l .state .progress .pace) (sym (ran .answer) ∙ f))
+              (full-exactly s d p 0 0 h l (omega arith) ∙ le-ltb (roomOf l) (0 + wouldWrite s d p h) (omega arith)));
           over = λ less. absurd (omega arith);
           rows = ran .rows ∙ ap (λ (y : After A). y .state .progress .rows) all ∙ omega arith;
         }
