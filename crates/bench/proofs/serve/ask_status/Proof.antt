@@ -12,7 +12,7 @@ told x = record { answer = x .answer; words = x .words; rows = x .rows; host = x
 returns : tie.Need-returns
 unfolding told
 returns c =
-    let read = c .before .before .before .before in
+    let read = c .before .before .before in
     (ap told (read .blocking-read-sd-status .ensures .0), read .blocking-read-sd-status .ensures .1)
 
 pub ask-status-spec : {M : Type 1} → statement M
