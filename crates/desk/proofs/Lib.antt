@@ -1,3 +1,4 @@
 pub mod Inputs
 pub mod Piles
+pub mod Refusals
 pub mod Rooms
