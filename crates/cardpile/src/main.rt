@@ -3,6 +3,7 @@
 use desk::pile;
 use desk::pile::Next;
 use desk::room;
+use desk::room::Program;
 use desk::room::Room;
 use libc::STDERR_FILENO;
 use libc::STDOUT_FILENO;
@@ -64,7 +65,7 @@ fn run(room: usize, buffer: &mut [u8], words: &mut [u32], out: &mut [u8]) {
 // The book's buffer has room for one word more than a book may have, and the text's for the longest that a call has:
 // 4,096 rows of 18 bytes, 16 blocks of 1,031, and a few lines.
 fn main() {
-    let Room::Rows(rows) = room::asked(b"cardpile") else {
+    let Room::Rows(rows) = room::asked(Program::Cardpile) else {
         return;
     };
     let mut buffer = [0u8; 16388];
