@@ -44,7 +44,7 @@ behind-onward room held left limit h l false e =
 
 part-onward : (room held left limit : ℕ) → held ≤ room → left + 1 < limit → (part : Part) → Onward room limit (partRead part held left)
 unfolding partRead behindOf
-part-onward room held left limit h l P.Whole = behind-onward room held left limit h l (eqb left 0) refl
+part-onward room held left limit h l (P.Whole n) = behind-onward room held left limit h l (eqb left 0) refl
 part-onward room held left limit h l P.Cut = record { stands = tt; less = omega arith }
 part-onward room held left limit h l P.Failed = record { stands = tt; less = omega arith }
 
@@ -61,15 +61,18 @@ length-onward room size h I.Failed = record { stands = tt; less = omega arith }
 pub onward : (task : Task) (room : ℕ) (r : Stage) → Asks task room → Follows task room r → Onward room (dueFor task) r
 unfolding Follows
 onward T.Length room r a f = rw (f .3) (length-onward room (f .1) (f .2) (f .0))
-onward (T.Held held left) room r a f = rw (f .1) (part-onward room held left (left + 3) a (omega arith) (f .0))
-onward (T.Behind held now later) room r a f = rw (f .1) (part-onward room held later (now + later + 1) (a .0) (omega arith) (f .0))
+onward (T.Held held left) room r a f = rw (f .2) (part-onward room held left (left + 3) a (omega arith) (f .0))
+onward (T.Behind held now later) room r a f = rw (f .2) (part-onward room held later (now + later + 1) (a .0) (omega arith) (f .0))
 
 -- in a buffer that is as long as before
 pub stands-in : (r : Stage) (a b : ℕ) → a ≡ b → Stands r a → Stands r b
 stands-in r a b e s = rw e at s
 
 -- a part whose reading gave this
-pub fills : (input : Input) (room : ℕ) → Within input room → Fills (partOf input) room
-fills I.Full room w = tt
+pub fills : (input : Input) (room : ℕ) → Within input room → Fills (partOf input room) room
+fills I.Full room w = refl
 fills (I.All n) room w = omega arith
 fills I.Failed room w = w
+
+pub fills-in : (part : Part) (a b : ℕ) → a ≡ b → Fills part a → Fills part b
+fills-in part a b e f = rw e at f

@@ -34,11 +34,11 @@ announcedOf I.Full size room = bookOf size room
 announcedOf (I.All n) size room = cond (eqb n 0) (S.Over N.End) (S.Over N.Cut)
 announcedOf I.Failed size room = S.Over N.Failed
 
--- a part of a book was to be read whole: an input that ends before is cut short
-abbrev pub partOf : Input → Part
-partOf I.Full = P.Whole
-partOf (I.All n) = P.Cut
-partOf I.Failed = P.Failed
+-- so many bytes were to be read: an input that ends before is cut short
+abbrev pub partOf : Input → ℕ → Part
+partOf I.Full room = P.Whole room
+partOf (I.All n) room = P.Cut
+partOf I.Failed room = P.Failed
 
 -- so many bytes of a book are in the buffer, and so many have to be read past, at most 4,096 at once. With none left the book
 -- is there
@@ -48,21 +48,21 @@ behindOf held left =
 
 -- with that part of it, so many bytes of the book are in the buffer, and so many left to be read past
 unfoldable pub partRead : Part → ℕ → ℕ → Stage
-partRead P.Whole held left = behindOf held left
+partRead (P.Whole n) held left = behindOf held left
 partRead P.Cut held left = S.Over N.Cut
 partRead P.Failed held left = S.Over N.Failed
+
+-- what a reading of so many bytes can give: all of them; and of none nothing is missing
+abbrev pub Fills : Part → ℕ → Type 0
+Fills (P.Whole n) room = n ≡ room
+Fills P.Cut room = 0 < room
+Fills P.Failed room = 0 < room
 
 -- WHAT FOLLOWS: what the reading gave decides, and nothing else
 unfoldable pub Follows : Task → ℕ → Stage → Type 0
 Follows T.Length room r = (input : Input) × (size : ℕ) × (size < 2 ^ 32) × (r ≡ announcedOf input size room)
-Follows (T.Held held left) room r = (part : Part) × (r ≡ partRead part held left)
-Follows (T.Behind held now later) room r = (part : Part) × (r ≡ partRead part held later)
-
--- nothing is read into no room, so that nothing is missing
-abbrev pub Fills : Part → ℕ → Type 0
-Fills P.Whole room = Unit {0}
-Fills P.Cut room = 0 < room
-Fills P.Failed room = 0 < room
+Follows (T.Held held left) room r = (part : Part) × Fills part held × (r ≡ partRead part held left)
+Follows (T.Behind held now later) room r = (part : Part) × Fills part now × (r ≡ partRead part held later)
 
 -- the book's bytes lie within the buffer
 abbrev pub Holds : Next → ℕ → Type 0

@@ -30,6 +30,13 @@ fn filled_to(done: usize, buffer: &[u8]) -> Filling
     Filling::Over(Input::Full)
 }
 
+// None have come yet.
+fn begun(buffer: &[u8]) -> Filling
+    ensures { λ r. ⌜ r ≡ filledTo 0 (length (now (buffer .entry))) ⌝ }
+{
+    filled_to(0, buffer)
+}
+
 // Whether `read` failed, by what it answered.
 fn failed(got: isize) -> bool
     ensures { λ r. ⌜ r ≡ ltZ got (pos 0) ⌝ }
@@ -65,7 +72,7 @@ fn read_at(done: usize, buffer: &mut [u8]) -> Filling
 pub fn read_all(buffer: &mut [u8]) -> Input
     ensures { λ r. ⌜ Within r (length (now (buffer .exit))) ⌝ }
 {
-    let mut filling = filled_to(0, buffer);
+    let mut filling = begun(buffer);
     loop {
         match filling {
             Filling::At(done) => {

@@ -16,9 +16,9 @@ pub enum Next {
     Failed,
 }
 
-// What became of a reading of so many bytes.
+// What became of a part that was to be read: it came whole, so many bytes; the input ended before; or a reading failed.
 enum Part {
-    Whole,
+    Whole(usize),
     Cut,
     Failed,
 }
@@ -60,12 +60,12 @@ fn little(bytes: [u8; 4]) -> usize
     joined(bytes[0], bytes[1], bytes[2], bytes[3])
 }
 
-// A part that was to be read whole, by what a reading of it gave.
-fn part_of(input: Input) -> Part
-    ensures { λ r. ⌜ r ≡ partOf input ⌝ }
+// A buffer was to be filled, by what a reading of it gave.
+fn part_of(input: Input, buffer: &[u8]) -> Part
+    ensures { λ r. ⌜ r ≡ partOf input (length (now (buffer .entry))) ⌝ }
 {
     match input {
-        Input::Full => Part::Whole,
+        Input::Full => Part::Whole(buffer.len()),
         Input::All(_) => Part::Cut,
         Input::Failed => Part::Failed,
     }
@@ -112,7 +112,7 @@ fn part_read(part: Part, held: usize, left: usize) -> Stage
     ensures { λ r. ⌜ r ≡ partRead part held left ⌝ }
 {
     match part {
-        Part::Whole => behind(held, left),
+        Part::Whole(_) => behind(held, left),
         Part::Cut => Stage::Over(Next::Cut),
         Part::Failed => Stage::Over(Next::Failed),
     }
@@ -120,9 +120,10 @@ fn part_read(part: Part, held: usize, left: usize) -> Stage
 
 // Reads as many bytes as there is room for, and no fewer.
 fn fill(buffer: &mut [u8]) -> Part
-    ensures { λ r. ⌜ Fills r (length (now (buffer .exit))) ⌝ }
+    ensures { λ r. ⌜ Fills r (length (now (buffer .entry))) ⌝ }
 {
-    part_of(input::read_all(buffer))
+    let input = input::read_all(buffer);
+    part_of(input, buffer)
 }
 
 fn read_length(buffer: &[u8]) -> Stage
@@ -136,6 +137,7 @@ fn read_length(buffer: &[u8]) -> Stage
 // Reads past so many bytes.
 fn skip(count: usize) -> Part
     requires { ⌜ count ≤ 4096 ⌝ }
+    ensures { λ r. ⌜ Fills r count ⌝ }
 {
     let mut chunk = [0u8; 4096];
     fill(&mut chunk[..count])

@@ -13,7 +13,7 @@ abbrev μ-loop : tie.MeasureT-loop
 μ-loop buffer₀ filling₀ buffer filling = left filling (length buffer₀)
 
 loop-holds : tie.Need-loop-holds Inv-loop μ-loop
-loop-holds c = (rw (c .filled-to .ensures) (begins (length (c .before .before .before .args .buffer .now))), search needs)
+loop-holds c = (rw (c .begun .ensures) (begins (length (c .before .before .before .args .buffer .now))), search needs)
 
 -- where so many bytes have come, there is room for more
 read-at-requires : tie.Need-read-at-requires Inv-loop μ-loop

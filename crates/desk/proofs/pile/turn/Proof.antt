@@ -1,6 +1,7 @@
 use mathlib.Core.Path.{sym}
 use native.Mathlib.Omega.{arith}
 use lib.Seq.{length-take-le}
+use Rattle.desk.proofs.Piles.{fills-in}
 use borrow.Author.Needs.{needs}
 use Rattle.desk.specs.Pile.{Follows}
 use Rattle.desk.proofs.pile.turn.Statement.{statement}
@@ -24,11 +25,13 @@ returns-2 : tie.Need-returns-2
 unfolding Follows
 returns-2 c =
     let filled = c .before .before .before in
-    rw (filled .before .before .before .task .given .1) (filled .fill .result, c .part-read .ensures)
+    let known = filled .before .before .before in
+    let room = rw (known .task .given .1) at (known .before .before .before .pre) in
+    rw (known .task .given .1) (filled .fill .result, fills-in (filled .fill .result) _ _ (length-take-le _ _ room) (filled .fill .ensures), c .part-read .ensures)
 
 returns-3 : tie.Need-returns-3
 unfolding Follows
-returns-3 c = rw (c .before .before .before .task2 .given .1) (c .before .skip .result, c .part-read2 .ensures)
+returns-3 c = rw (c .before .before .before .task2 .given .1) (c .before .skip .result, c .before .skip .ensures, c .part-read2 .ensures)
 
 pub turn-spec : {M : Type 1} → statement M
 turn-spec = tie.close (tie.spec (λ c. search needs) (λ c κs. search needs) (λ c. search needs) slice-relend-prefix-fill slice-aggregate-fill (λ c κs. search needs) (λ c κs. search needs) (λ c. search needs) skip-requires (λ c κs. search needs) (λ c. search needs) returns (λ c. search needs) returns-2 returns-3)
