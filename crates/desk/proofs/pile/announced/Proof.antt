@@ -7,7 +7,7 @@ use Rattle.desk.proofs.pile.announced.Tie as tie
 
 returns : tie.Need-returns
 unfolding announcedOf
-returns c = rw (c .before .before .input .given .1, eq-eqb _ _ (c .if1 .taken))
+returns c = rw (c .before .before .input .given .1, eq-eqb (c .before .before .input .given .0 .0) 0 (c .if1 .taken))
 
 returns-2 : tie.Need-returns-2
 unfolding announcedOf

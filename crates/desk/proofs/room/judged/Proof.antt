@@ -7,11 +7,13 @@ use Rattle.desk.proofs.room.judged.Tie as tie
 
 returns : tie.Need-returns
 unfolding wishOf
-returns c = rw (lt-ltb _ _ (c .if1 .taken))
+returns c = rw (lt-ltb (c .before .before .args .count) 2 (c .if1 .taken))
 
 returns-2 : tie.Need-returns-2
 unfolding wishOf
-returns-2 c = rw (le-ltb _ _ (c .before .if1 .left), lt-ltb _ _ (c .if2 .taken))
+returns-2 c =
+    let count = c .before .before .before .args .count in
+    rw (le-ltb count 2 (c .before .if1 .left), lt-ltb 2 count (c .if2 .taken))
 
 returns-3 : tie.Need-returns-3
 unfolding wishOf
