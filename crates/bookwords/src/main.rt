@@ -4,40 +4,50 @@
 
 ghost use Prim.Native.Nat.{_≤_};
 ghost use lib.ListN.{length};
+ghost use Rattle.text.specs.Ink.{Laid};
+ghost use Rattle.bookwords.specs.Said.{causeText, refusalText};
 use desk::input;
 use desk::input::Input;
 use libc::STDERR_FILENO;
 use libc::STDOUT_FILENO;
+use text::pen;
 use wordtext::book;
 use wordtext::book::Reading;
 use wordtext::place::Place;
 use wordtext::token::Cause;
 
 // Names the cause of a refusal.
-fn say(cause: Cause) {
+fn put_cause(out: &mut [u8], at: usize, cause: Cause) -> usize
+    ensures { λ r. ⌜ Laid at (causeText cause) (now (out .entry)) r (now (out .exit)) ⌝ }
+{
     match cause {
-        Cause::NotANumber => io::write_all(
-            STDERR_FILENO,
+        Cause::NotANumber => pen::put(
+            out,
+            at,
             b"not a number, in decimal or with 0x in hexadecimal",
         ),
-        Cause::TooLarge => io::write_all(STDERR_FILENO, b"too large for 32 bits"),
-        Cause::TooMany => io::write_all(
-            STDERR_FILENO,
-            b"one word too many, a book holds at most 4096",
-        ),
+        Cause::TooLarge => pen::put(out, at, b"too large for 32 bits"),
+        Cause::TooMany => pen::put(out, at, b"one word too many, a book holds at most 4096"),
     }
-    ;
 }
 
-// One line on standard error: where, and what is wrong.
-fn refuse(cause: Cause, place: Place) {
-    io::write_all(STDERR_FILENO, b"bookwords: line ");
-    io::print_decimal(STDERR_FILENO, place.line as u64);
-    io::write_all(STDERR_FILENO, b", column ");
-    io::print_decimal(STDERR_FILENO, place.column as u64);
-    io::write_all(STDERR_FILENO, b": ");
-    say(cause);
-    io::write_all(STDERR_FILENO, b"\n");
+// One line: where, and what is wrong.
+fn put_refusal(out: &mut [u8], cause: Cause, place: Place) -> usize
+    ensures { λ r. ⌜ Laid 0 (refusalText cause place) (now (out .entry)) r (now (out .exit)) ⌝ }
+{
+    let named = pen::put(out, 0, b"bookwords: line ");
+    let line = pen::put_decimal(out, named, place.line as u64);
+    let then = pen::put(out, line, b", column ");
+    let column = pen::put_decimal(out, then, place.column as u64);
+    let placed = pen::put(out, column, b": ");
+    let told = put_cause(out, placed, cause);
+    pen::put_byte(out, told, b'\n')
+}
+
+// Writes it on standard error, by way of a buffer.
+fn refuse(cause: Cause, place: Place, out: &mut [u8]) {
+    let n = put_refusal(out, cause, place);
+    io::write_all(STDERR_FILENO, &out[..n]);
 }
 
 // Writes the book of a text, by way of bytes that have room for it.
@@ -50,7 +60,7 @@ fn convert(text: &[u8], bytes: &mut [u8])
                 os::fail(b"bookwords: standard output");
             }
         }
-        Reading::Refused(cause, place) => refuse(cause, place),
+        Reading::Refused(cause, place) => refuse(cause, place, bytes),
     }
 }
 

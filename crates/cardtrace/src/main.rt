@@ -3,6 +3,7 @@
 use desk::input;
 use desk::input::Input;
 use desk::room;
+use desk::room::Program;
 use desk::room::Room;
 
 // Traces a book.
@@ -23,7 +24,7 @@ fn run(room: usize, buffer: &mut [u8], words: &mut [u32], out: &mut [u8]) {
 
 // The text's buffer holds the longest that a call has: 4,096 rows of 18 bytes, 16 blocks of 1,031, and a few lines.
 fn main() {
-    let Room::Rows(rows) = room::asked(b"cardtrace") else {
+    let Room::Rows(rows) = room::asked(Program::Cardtrace) else {
         return;
     };
     let mut buffer = [0u8; 16388];

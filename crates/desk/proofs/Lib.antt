@@ -1,2 +1,4 @@
+pub mod Inputs
 pub mod Piles
+pub mod Refusals
 pub mod Rooms

@@ -5,13 +5,15 @@ use mathlib.Core.List.{List, [], _∷_}
 use mathlib.Core.Path.{_≡_, refl}
 use native.Mathlib.Numerals.{add-one}
 use native.Mathlib.Omega.{arith}
-use lib.Dec.{eqb, leb}
+use lib.Dec.{eqb, leb, ltb}
 use lib.ListN.{length, getD, drop}
 use lib.Seq.{drop-cons}
 use borrow.Author.Tests.{eq-eqb, ne-eqb, le-leb, lt-leb, leb-true}
 use Rattle.desk.specs.declared.room.Room.{Room}
 use Rattle.desk.specs.declared.room.Room.the-variants.{Rows, Bad}
-use Rattle.desk.specs.Room.{areDigits, valueFrom, roomFrom, roomOf, Fits}
+use Rattle.desk.specs.declared.room.Wish.{Wish}
+use Rattle.desk.specs.declared.room.Wish.the-variants as W
+use Rattle.desk.specs.Room.{areDigits, valueFrom, roomFrom, roomOf, wishBy, wishOf, Wishes, grantedOf, Fits}
 
 -- more digits make no number smaller
 no-less : (value : ℕ) (bs : List ℕ) → value ≤ valueFrom value bs
@@ -73,3 +75,16 @@ fits-by false room f = tt
 pub fits : (word : List ℕ) → Fits (roomOf word)
 unfolding roomOf
 fits word = fits-by (not (eqb (length word) 0) && leb (length word) 4) (roomFrom 0 word) (fits-from (valueFrom 0 word) (areDigits word) (leb (valueFrom 0 word) 4_096) refl)
+
+-- and so is one that is granted
+wish-fits : (count : ℕ) (room : Room) (few many : Bool) → Fits room → Fits (grantedOf (cond few (W.Rows 4_096) (cond many W.TooMany (wishBy room))))
+wish-fits count (Rows n) true many f = omega arith
+wish-fits count (Rows n) false true f = tt
+wish-fits count (Rows n) false false f = f
+wish-fits count Bad true many f = omega arith
+wish-fits count Bad false true f = tt
+wish-fits count Bad false false f = tt
+
+pub granted-fits : (count : ℕ) (wish : Wish) → Wishes count wish → Fits (grantedOf wish)
+unfolding wishOf
+granted-fits count wish w = rw (w .1) (wish-fits count (roomOf (w .0)) (ltb count 2) (ltb 2 count) (fits (w .0)))

@@ -1,4 +1,5 @@
 pub mod Cases
 pub mod Input
 pub mod Pile
+pub mod Refusal
 pub mod Room

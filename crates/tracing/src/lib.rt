@@ -1,4 +1,10 @@
 // A book traced on standard output, for the programs that trace books.
+ghost use mathlib.Core.Path.{_≡_};
+ghost use lib.ListN.{length};
+ghost use Rattle.text.specs.Ink.{inked};
+ghost use Rattle.book.specs.Layout.{wordsOf};
+ghost use Rattle.book.specs.Readers.{openedOf};
+ghost use Rattle.tracing.specs.Traced.{Traces, startOf, callsOf};
 use bench::print::Turn;
 use bench::trace;
 use host::host::Sdmmc;
@@ -13,7 +19,9 @@ fn trace_calls(
     script_at: usize,
     room: usize,
     out: &mut [u8],
-) -> bool {
+) -> bool
+    ensures { λ r. ⌜ Traces (now (words .entry)) room (record { host = host; place = «script_at»; out = now (out .entry) }) calls r (now (out .exit)) ⌝ }
+{
     let mut turn = Turn {
         host: host,
         script_at: script_at,
@@ -34,7 +42,10 @@ fn trace_calls(
 
 // Traces a file's bytes as a book, with so many rows of room for each call, by way of a list for its words and a buffer
 // for the text of a call. Answers whether all of it was written.
-pub fn trace_book(bytes: &[u8], room: usize, words: &mut [u32], out: &mut [u8]) -> bool {
+pub fn trace_book(bytes: &[u8], room: usize, words: &mut [u32], out: &mut [u8]) -> bool
+    ensures loaded { λ r. ⌜ now (words .exit) ≡ inked 0 (wordsOf (now (bytes .entry))) (now (words .entry)) ⌝ }
+    ensures traced { λ r. ⌜ Traces (wordsOf (now (bytes .entry))) room (startOf (openedOf (now (bytes .entry)) (length (now (words .entry)))) (wordsOf (now (bytes .entry))) (now (out .entry))) (callsOf (openedOf (now (bytes .entry)) (length (now (words .entry)))) (wordsOf (now (bytes .entry)))) r (now (out .exit)) ⌝ }
+{
     let opening = trace::open(bytes, words, out);
     let at = opening.at;
     if !io::write_all(STDOUT_FILENO, &out[..at]) {

@@ -6,10 +6,10 @@ use Rattle.cardpile.proofs.put_book.Statement.{statement}
 use Rattle.cardpile.proofs.put_book.Tie as tie
 
 slice-reshare-prefix-write-all : tie.Need-slice-reshare-prefix-write-all
-slice-reshare-prefix-write-all c = stands-within (c .before .before .put-byte .ensures)
+slice-reshare-prefix-write-all c = stands-within (c .before .before .lay-book .ensures)
 
 slice-aggregate-write-all : tie.Need-slice-aggregate-write-all
-slice-aggregate-write-all c = sym (length-take-le _ _ (stands-within (c .before .before .before .put-byte .ensures)))
+slice-aggregate-write-all c = sym (length-take-le _ _ (stands-within (c .before .before .before .lay-book .ensures)))
 
 pub put-book-spec : {M : Type 1} → statement M
-put-book-spec = tie.close (tie.spec (λ c. search needs) (λ c κs. search needs) (λ c κs. search needs) (λ c κs. search needs) slice-reshare-prefix-write-all slice-aggregate-write-all (λ c κs. search needs) (λ c. search needs) (λ c. search needs))
+put-book-spec = tie.close (tie.spec (λ c κs. search needs) slice-reshare-prefix-write-all slice-aggregate-write-all (λ c κs. search needs) (λ c. search needs) (λ c. search needs))
