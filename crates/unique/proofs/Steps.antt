@@ -43,3 +43,8 @@ lying from n p = record { progress = p; place = keptAt 0 from (p .pace); count =
 pub lies-at : {from n : ℕ} {r : Data} {p : Progress} → r .progress ≡ p → Lies from n r → r ≡ lying from n p
 lies-at {from} {n} {r} e lies =
     (λ i. record { progress = r .progress; place = lies .place i; count = lies .count i }) ∙ ap (lying from n) e
+
+-- a step that gives data words of the script
+pub data-on : {n : ℕ} {r : List ℕ} {p : Plan (List ℕ)} {a b : Progress} {v : List ℕ → List ℕ}
+    → ((s l : List ℕ) → Behind n r s → Gave s (List ℕ) [] p (at a l) (v s) (at b l)) → b ≡ does (behind n r) [] p (at a []) .state .progress
+data-on {n} {r} e = ap (λ (x : After (List ℕ)). x .state .progress) (e (behind n r) [] (is-behind n r) .same)

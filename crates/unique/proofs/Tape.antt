@@ -8,7 +8,7 @@ use Rattle.tape.proofs.script
 use Rattle.tape.proofs.steps
 use Rattle.unique.specs.Unique.{Unique, UniqueIn}
 use Rattle.unique.proofs.Determined.{determined, part-determined}
-use Rattle.unique.proofs.Steps.{lies-at, listed, on-any, toFlag, toProgress, toWord}
+use Rattle.unique.proofs.Steps.{data-on, lies-at, listed, on-any, toFlag, toProgress, toWord}
 
 progress-line-noted : Unique progress.Line.noted.Kinds.ps progress.Line.noted.Kinds.r progress.Line.noted.Reads.Learnt
 progress-line-noted = determined _ λ _ _ _ p. p
@@ -92,7 +92,7 @@ script-give-data : Unique script.give_data.Kinds.ps script.give_data.Kinds.r scr
 script-give-data = determined _ λ _ _ _ p. lies-at (ap toProgress (p .0 [] [] .same)) (p .1)
 
 script-take-data : Unique script.take_data.Kinds.ps script.take_data.Kinds.r script.take_data.Reads.Learnt
-script-take-data = determined _ λ _ _ _ p. lies-at (ap toProgress (on-any (p .0))) (p .1)
+script-take-data = determined _ λ _ _ _ p. lies-at (data-on (p .0)) (p .1)
 
 -- An exception: what it gives is lent. What it holds is promised, and not where it lies.
 script-rest : UniqueIn script.rest.Kinds.ps script.rest.Kinds.r script.rest.Reads.Learnt (λ _ _ x. x .0 .now)
