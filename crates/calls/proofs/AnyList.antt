@@ -146,7 +146,7 @@ read-follows host index bytes s l =
     by false d a = refl
 
 -- a host whose source has a clock of identification, as every one that is made
-pub Clockable : Settings → Type 0
+unfoldable pub Clockable : Settings → Type 0
 Clockable set = (c : Clock) × (clockOf (sourceOf set) 400_000 false ≡ Clocked.Set c)
 
 -- One call: what is held after it is what is expected from what was held before.

@@ -2,3 +2,4 @@ pub mod AnyList
 pub mod Order
 pub mod Seen
 pub mod Steady
+pub mod Whole
