@@ -6,9 +6,11 @@ use lib.Dec.{ltb, leb}
 use borrow.Author.Tests.{ltb-true, ltb-false, le-leb, lt-leb}
 use Rattle.types.specs.declared.card.CardCapacity.{CardCapacity}
 use Rattle.types.specs.declared.card.CardCapacity.the-variants.{SDSC, SDHC}
-use Rattle.types.specs.Answer.{Told, errorTold, clockTold, countTold, sizeTold, rateTold, addressTold, dataTold}
+use Rattle.types.specs.declared.config.Config.{Config}
+use Rattle.types.specs.Answer.{Told, errorTold, clockTold, countTold, sizeTold, rateTold, addressTold, configTold, dataTold}
 use Rattle.types.specs.Leaf.{clockOf, firstMatch, dataOf, countOf, rateOf, unitsOf, addressOf, sizeOf}
-use Rattle.types.specs.Rules.{clockRule, dataRule, countRule, rateRule, unitsRule, addressRule, sizeRule}
+use Rattle.types.specs.Settings.{madeOf}
+use Rattle.types.specs.Rules.{clockRule, dataRule, countRule, rateRule, unitsRule, addressRule, sizeRule, madeRule}
 
 -- what is told of a choice
 of-choice : {A : Type 0} (f : A → Told) (b : Bool) (x y : A) → f (cond b x y) ≡ cond b (f x) (f y)
@@ -62,3 +64,7 @@ address class blocks index count = simp (of-choice addressTold, units)
 pub size : (count : ℕ) → sizeTold (sizeOf count) ≡ sizeRule count
 unfolding sizeOf sizeTold errorTold sizeRule
 size count = simp (of-choice sizeTold)
+
+pub settings : (source : ℕ) (config : Config) → configTold (madeOf source config) ≡ madeRule source config
+unfolding madeOf configTold errorTold madeRule
+settings source config = simp (of-choice configTold)

@@ -9,6 +9,8 @@ use Rattle.types.specs.declared.card.AddressAnswer.{AddressAnswer}
 use Rattle.types.specs.declared.card.AddressAnswer.the-variants as Address
 use Rattle.types.specs.declared.clock.ClockAnswer.{ClockAnswer}
 use Rattle.types.specs.declared.clock.ClockAnswer.the-variants as Clock
+use Rattle.types.specs.declared.config.ConfigAnswer.{ConfigAnswer}
+use Rattle.types.specs.declared.config.ConfigAnswer.the-variants as Config
 use Rattle.types.specs.declared.error.Answer.{Answer}
 use Rattle.types.specs.declared.error.Answer.the-variants.{Accepted, Refused, ScriptEnded, TraceFull, BadBook}
 use Rattle.types.specs.declared.register.CountAnswer.{CountAnswer}
@@ -92,6 +94,10 @@ rateTold (Rate.Refused e) = errorTold e
 unfoldable pub addressTold : AddressAnswer → Told
 addressTold (Address.Address a) = told 0 (a ∷ [])
 addressTold (Address.Refused e) = errorTold e
+
+unfoldable pub configTold : ConfigAnswer → Told
+configTold Config.Sound = told 0 []
+configTold (Config.Refused e) = errorTold e
 
 unfoldable pub dataTold : DataAnswer → Told
 dataTold Data.Clean = told 0 []

@@ -1,5 +1,5 @@
--- Document 01, 'Leaf rules', told as it tells answers: a number, and values where it is 0. THESE ARE TO BE BELIEVED of the
--- plain functions. Leaf.antt has the same rules in the driver's enums, for contracts and plans to cite; proofs/Told.antt shows
+-- Document 01, 'Leaf rules' and the order at making, told as it tells answers: a number, and values where it is 0. THESE ARE TO
+-- BE BELIEVED of the plain functions. Leaf.antt has the same rules in the driver's enums, for contracts and plans to cite; proofs/Told.antt shows
 -- that its answers are told so, and `unique` that the functions' are. So no name of an enum's case has to be believed.
 use Prim.Native.Nat.{ℕ, _+_, _*_, _-_, _/_, _^_}
 use mathlib.Core.Bool.{Bool, not, cond, _||_, _&&_}
@@ -8,6 +8,7 @@ use lib.Dec.{eqb, ltb, leb}
 use lib.ListN.{getD}
 use Rattle.types.specs.declared.card.CardCapacity.{CardCapacity}
 use Rattle.types.specs.declared.card.CardCapacity.the-variants.{SDSC, SDHC}
+use Rattle.types.specs.declared.config.Config.{Config}
 use Rattle.types.specs.Answer.{Told, told}
 use Rattle.types.specs.Bits.{bits, bit, clear}
 use Rattle.types.specs.Leaf.{divisorOf, rateUnits, rateTenths}
@@ -57,3 +58,11 @@ addressRule class blocks index count =
 -- Size: bytes. A count over 4,294,967,296: 20
 unfoldable pub sizeRule : ℕ → Told
 sizeRule count = cond (ltb 4_294_967_296 count) (told 20 []) (told 0 ((512 * count) ∷ []))
+
+-- Order at making: any of the four numeric settings 0: 18. Source 0, source 1 or source over 102,800,000: 17
+unfoldable pub madeRule : ℕ → Config → Told
+madeRule source config =
+    cond
+    (eqb (config .«poll_limit») 0 || eqb (config .«card_ready_attempts») 0 || eqb (config .«data_transfer_timeout») 0 || eqb (config .«software_timeout_ms») 0)
+    (told 18 [])
+    (cond (ltb source 2 || ltb 102_800_000 source) (told 17 []) (told 0 []))

@@ -1,10 +1,11 @@
 -- The answers of the plain functions, told by document 01's leaf rules (types/specs/Rules.antt): a line for each.
 use mathlib.Core.Path.{ap, _∙_}
-use Rattle.types.specs.Answer.{clockTold, countTold, sizeTold, rateTold, addressTold, dataTold}
-use Rattle.types.specs.Rules.{clockRule, dataRule, countRule, rateRule, addressRule, sizeRule}
+use Rattle.types.specs.Answer.{clockTold, countTold, sizeTold, rateTold, addressTold, configTold, dataTold}
+use Rattle.types.specs.Rules.{clockRule, dataRule, countRule, rateRule, addressRule, sizeRule, madeRule}
 use Rattle.types.specs.Sd.{wideOf}
 use Rattle.types.proofs.card
 use Rattle.types.proofs.clock
+use Rattle.types.proofs.config
 use Rattle.types.proofs.register
 use Rattle.types.proofs.status
 use Rattle.types.proofs.Told as T
@@ -42,3 +43,8 @@ bytes-told = record { says = λ _ a _ p. ap sizeTold p ∙ T.size (a .0 .0) }
 pub size-told : Tells card.Card.size.Kinds.ps card.Card.size.Kinds.r card.Card.size.Reads.Learnt
     (λ _. sizeTold) (λ _ a. sizeRule (a .0 .«block_count» .0))
 size-told = record { says = λ _ a _ p. ap sizeTold p ∙ T.size (a .0 .«block_count» .0) }
+
+-- settings, and the source
+pub judge-told : Tells config.Config.judge.Kinds.ps config.Config.judge.Kinds.r config.Config.judge.Reads.Learnt
+    (λ _. configTold) (λ _ a. madeRule (a .1 .0 .0) (a .0))
+judge-told = record { says = λ _ a _ p. ap configTold p ∙ T.settings (a .1 .0 .0) (a .0) }
