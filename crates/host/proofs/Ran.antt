@@ -17,9 +17,8 @@ use Rattle.host.specs.declared.host.Called.{Called}
 use Rattle.host.specs.declared.host.Sdmmc.{Sdmmc}
 use Rattle.types.specs.Words.{sdStatusOf}
 use Rattle.tape.proofs.Laws.{by-cases}
-use Rattle.host.specs.declared.host.StatusRead.{StatusRead}
 use Rattle.host.specs.Calls.{Came, calledOf, ends, dropped, kept, transferred, approached, served}
-use Rattle.host.specs.Calls.{untouched, statusPlan, statusNext, statusCame, statusGiven, statusReadOf}
+use Rattle.host.specs.Calls.{statusPlan, statusNext, statusCame, statusGiven, statusReadOf}
 
 -- a choice by a test that is known
 pub if-true : {A : Type 0} {b : Bool} {x : A} (y : A) → b ≡ true → x ≡ cond b x y

@@ -1,9 +1,8 @@
 -- An initialisation of a source of 2 Hz or more: whatever it is refused with, it is not the BadClock that `clock_delay` has
 -- beside the Rust's. The clock held on the way is always one that `clock_setting` gave, so each delay is a row; a BadClock is
 -- `clock_setting`'s own, for a request that it refuses.
-use Prim.Native.Nat.{ℕ, _+_, _≤_, min}
+use Prim.Native.Nat.{ℕ, _≤_}
 use mathlib.Core.Bool.{Bool, true, false, cond, not, _&&_, _||_}
-use mathlib.Core.List.{List}
 use mathlib.Core.Path.{_≡_, refl}
 use native.Mathlib.Omega.{arith}
 use lib.Dec.{eqb, ltb}
@@ -25,10 +24,10 @@ use Rattle.types.specs.declared.register.RateAnswer.the-variants as Rated
 use Rattle.types.specs.Answer.{errorTold}
 use Rattle.types.specs.Bits.{bits, bit}
 use Rattle.types.specs.Leaf.{clockOf, countOf, rateOf}
-use Rattle.types.specs.Sd.{wideOf, sdSpec}
+use Rattle.types.specs.Sd.{sdSpec}
 use Rattle.tape.specs.declared.progress.Line.{Line}
 use Rattle.tape.specs.declared.rows.Row.{Row}
-use Rattle.tape.specs.Plan.{Nothing, refusing, handle, give, _then_}
+use Rattle.tape.specs.Plan.{Nothing, refusing, handle, _then_}
 use Rattle.tape.specs.Run.{noted}
 use Rattle.tape.specs.Steps.{holdGated, holdClock, holdSignalling, resetController}
 use Rattle.tape.proofs.Walk.{Rule, Obeys, on-handle, on-give, on-fail, on-then, on-look, on-hold, on-test, on-row, on-ensure, on-until}

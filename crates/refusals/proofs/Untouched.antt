@@ -19,7 +19,7 @@ use Rattle.types.specs.declared.error.Error.{Error}
 use Rattle.types.specs.declared.error.Error.the-variants as E
 use Rattle.types.specs.Leaf.{addressOf, clockOf}
 use Rattle.types.specs.Settings.{madeOf}
-use Rattle.tape.specs.declared.progress.Halt.the-variants.{Refused, ScriptEnded, TraceFull}
+use Rattle.tape.specs.declared.progress.Halt.the-variants.{Refused}
 use Rattle.tape.specs.Run.{at}
 use Rattle.tape.specs.declared.progress.Line.{Line}
 use Rattle.refusals.proofs.Guards.{first}

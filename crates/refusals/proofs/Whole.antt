@@ -10,7 +10,7 @@ use native.Mathlib.Decide.{decLe}
 use lib.Dec.{eqb, ltb}
 use lib.ListN.{length, take, drop, drop-of-length-le}
 use lib.Seq.{take-all}
-use borrow.Author.Tests.{le-ltb, lt-ltb, eqb-true}
+use borrow.Author.Tests.{le-ltb, eqb-true}
 use Rattle.types.specs.declared.card.AddressAnswer.{AddressAnswer}
 use Rattle.types.specs.declared.card.AddressAnswer.the-variants as Address
 use Rattle.types.specs.declared.card.Card.{Card}
@@ -19,14 +19,12 @@ use Rattle.types.specs.declared.card.CardCapacity.the-variants.{SDSC, SDHC}
 use Rattle.types.specs.declared.clock.Clock.{Clock}
 use Rattle.types.specs.declared.clock.ClockAnswer.{ClockAnswer}
 use Rattle.types.specs.declared.clock.ClockAnswer.the-variants as Clocked
-use Rattle.types.specs.declared.error.Answer.{Answer}
 use Rattle.types.specs.declared.error.Answer.the-variants as Answered
 use Rattle.types.specs.declared.error.Error.{Error}
 use Rattle.types.specs.declared.error.Error.the-variants as E
 use Rattle.types.specs.Answer.{errorTold}
 use Rattle.types.specs.Leaf.{addressOf, clockOf, unitsOf}
 use Rattle.types.specs.Words.{bytesOf}
-use Rattle.tape.specs.declared.progress.Halt.{Halt}
 use Rattle.tape.specs.declared.progress.Halt.the-variants.{Refused, ScriptEnded, TraceFull}
 use Rattle.tape.specs.declared.progress.Line.{Line}
 use Rattle.tape.specs.declared.progress.Pace.{Pace}
@@ -48,7 +46,7 @@ use Rattle.init.proofs.Walks.{clockRule, initialise-obeys}
 use Rattle.host.specs.declared.host.Sdmmc.{Sdmmc}
 use Rattle.host.specs.Calls.{Came, untouched, holding, dropped, kept, ends, freshLine, initFrom, initialised}
 use Rattle.host.specs.Calls.{transferred, approached, served, readNext, readTransfer, readPlan, readFrom, readKnown, readCame, blocksFilled, bufferOf}
-use Rattle.host.specs.Calls.{statusNext, statusPlan, statusFrom, statusCame}
+use Rattle.host.specs.Calls.{statusNext, statusPlan, statusCame}
 use Rattle.refusals.specs.Whole.{initAt, initWhole, readAt, readWhole, statusWhole, answerOf, Ran}
 
 -- Each call does what its plan does.

@@ -15,7 +15,6 @@ use Rattle.types.specs.declared.error.Error.{Error}
 use Rattle.types.specs.declared.error.Error.the-variants as E
 use Rattle.tape.specs.declared.progress.Halt.the-variants.{Refused, ScriptEnded, TraceFull}
 use Rattle.tape.specs.declared.progress.Line.{Line}
-use Rattle.tape.specs.declared.progress.Pace.{Pace}
 use Rattle.tape.specs.declared.progress.Pace.the-variants.{Going, Stopped}
 use Rattle.tape.specs.declared.rows.Row.{Row}
 use Rattle.tape.specs.declared.script.Reading.{Reading}

@@ -1,5 +1,4 @@
 use mathlib.Core.Path.{sym}
-use native.Mathlib.Omega.{arith}
 use lib.Seq.{length-take-le}
 use Rattle.desk.proofs.Piles.{fills-in}
 use borrow.Author.Needs.{needs}

@@ -1,4 +1,3 @@
-use native.Mathlib.Omega.{arith}
 use Rattle.text.proofs.Ink.{and-then}
 use Rattle.desk.specs.Refusal.{refusalText}
 use Rattle.desk.proofs.Refusals.{said, nothing}
