@@ -27,7 +27,7 @@ use Rattle.types.specs.Leaf.{clockOf, countOf, rateOf}
 use Rattle.types.specs.Sd.{sdSpec}
 use Rattle.tape.specs.declared.progress.Line.{Line}
 use Rattle.tape.specs.declared.rows.Row.{Row}
-use Rattle.tape.specs.Plan.{Nothing, refusing, handle, _then_}
+use Rattle.tape.specs.Plan.{Nothing, guard, refusing, handle, _then_}
 use Rattle.tape.specs.Run.{noted}
 use Rattle.tape.specs.Steps.{holdGated, holdClock, holdSignalling, resetController}
 use Rattle.tape.proofs.Walk.{Rule, Obeys, on-handle, on-give, on-fail, on-then, on-look, on-hold, on-test, on-row, on-ensure, on-until}
@@ -232,11 +232,24 @@ module _ (set : Settings) (from2 : 2 ≤ sourceOf set) where
       (λ _. on-then (on-then (rated-obeys _) (λ rate. clock-obeys _))
       (λ _. on-then (switch-obeys frequency _ scr) (λ _. on-give))))
 
+  steps-obey : (initial : Clock) (frequency : ℕ) → Fair (sourceOf set) (initial .frequency .0) → Obeys rule Card (initCard set initial frequency)
+  unfolding initCard
+  steps-obey initial frequency f =
+      on-then (begin-obeys initial f)
+      (λ version2. on-then (power-up-obeys version2) (λ ocr. on-then (identify-obeys ocr) (λ card. settle-obeys frequency card)))
+
+  guarded-obey : (initial : Clock) (frequency : ℕ) → Fair (sourceOf set) (initial .frequency .0)
+      → Obeys rule Card (guard resetController (initCard set initial frequency))
+  guarded-obey initial frequency f =
+      on-handle (refusing resetController) (steps-obey initial frequency f) (λ card. on-give)
+      (λ e r. on-then (reset-obeys rule others any row-any) (λ _. on-fail r))
+
+  -- the plan is that, under its guard
+  whole : (initial : Clock) (frequency : ℕ) → initialise set initial frequency ≡ guard resetController (initCard set initial frequency)
+  unfolding initialise
+  whole initial frequency = refl
+
   pub initialise-obeys : (initial : Clock) (frequency : ℕ) → Fair (sourceOf set) (initial .frequency .0)
       → Obeys (clockRule set) Card (initialise set initial frequency)
-  unfolding initialise initCard rule
-  initialise-obeys initial frequency f =
-      on-handle (refusing resetController)
-      (on-then (begin-obeys initial f)
-      (λ version2. on-then (power-up-obeys version2) (λ ocr. on-then (identify-obeys ocr) (λ card. settle-obeys frequency card))))
-      (λ card. on-give) (λ e r. on-then (reset-obeys rule others any row-any) (λ _. on-fail r))
+  unfolding rule
+  initialise-obeys initial frequency f = rw (whole initial frequency) (guarded-obey initial frequency f)
