@@ -8,6 +8,8 @@ use Rattle.types.specs.Leaf.{roundedUp}
 use Rattle.tape.specs.Plan.{Nothing, Plan, _then_, fail}
 use Rattle.tape.specs.Rows.{CLKCR, DELAY, clkcrOf}
 use Rattle.tape.specs.Steps.{row, waitIdle}
+use Rattle.bus.specs.declared.clock.DelayAnswer.{DelayAnswer}
+use Rattle.bus.specs.declared.clock.DelayAnswer.the-variants as Delay
 
 unfoldable pub configureClock : ℕ → Clock → Bool → Bool → Plan Nothing
 configureClock limit clock wide on = waitIdle limit true then λ _. row CLKCR (clkcrOf clock wide on)
@@ -22,3 +24,8 @@ unfoldable pub clockDelay : ℕ → ℕ → ℕ → Plan Nothing
 clockDelay source clock cycles =
     cond (eqb clock 0) (fail BadClock)
     (cond (ltb (spinsOf source clock cycles) (2 ^ 32)) (row DELAY (spinsOf source clock cycles)) (fail BadClock))
+
+-- the row of a delay, or its refusal
+unfoldable pub delayed : DelayAnswer → Plan Nothing
+delayed (Delay.Spins n) = row DELAY n
+delayed (Delay.Refused e) = fail e

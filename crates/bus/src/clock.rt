@@ -3,7 +3,7 @@ ghost use mathlib.Core.Path.{_≡_};
 ghost use mathlib.Core.List.{List};
 ghost use Prim.Native.Nat.{ℕ, _≤_};
 ghost use Rattle.tape.specs.Run.{at, Did};
-ghost use Rattle.bus.specs.Clock.{configureClock, spinsOf, clockDelay};
+ghost use Rattle.bus.specs.Clock.{configureClock, spinsOf, clockDelay, delayed};
 use tape::progress;
 use tape::progress::Progress;
 use tape::rows;
@@ -40,6 +40,27 @@ fn spins(source: Hertz, clock: Hertz, cycles: u32) -> u64
     (source.0 as u64 + (clock.0 as u64 - 1)) / clock.0 as u64 * cycles as u64
 }
 
+// The spins of a delay, unless there is no clock or they are too many.
+pub enum DelayAnswer {
+    Spins(u32),
+    Refused(Error),
+}
+
+// The spins of so many cycles of the card clock.
+pub fn delay(source: Hertz, clock: Hertz, cycles: u32) -> DelayAnswer
+    ensures { λ r. ⌜ delayed r ≡ clockDelay (source .0) (clock .0) cycles ⌝ }
+{
+    if clock.0 == 0 {
+        return DelayAnswer::Refused(Error::BadClock);
+    }
+    let count = spins(source, clock, cycles);
+    if count < 0x1_0000_0000 {
+        DelayAnswer::Spins(count as u32)
+    } else {
+        DelayAnswer::Refused(Error::BadClock)
+    }
+}
+
 // Waits for so many cycles of the card clock.
 pub fn clock_delay(
     p: Progress,
@@ -50,13 +71,9 @@ pub fn clock_delay(
 ) -> Progress
     ensures { λ r. ⌜ ((s : List ℕ) → Did s (clockDelay (source .0) (clock .0) cycles) (at p (now (rows .entry))) (at r (now (rows .exit)))) ⌝ }
 {
-    if clock.0 == 0 {
-        return progress::refuse(p, Error::BadClock);
-    }
-    let count = spins(source, clock, cycles);
-    if count < 0x1_0000_0000 {
-        rows::write_row(p, rows, Row::DELAY, count as u32)
-    } else {
-        progress::refuse(p, Error::BadClock)
+    let answer = delay(source, clock, cycles);
+    match answer {
+        DelayAnswer::Spins(count) => rows::write_row(p, rows, Row::DELAY, count),
+        DelayAnswer::Refused(error) => progress::refuse(p, error),
     }
 }

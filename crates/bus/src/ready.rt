@@ -20,7 +20,7 @@ use types::error::Error;
 use types::status::CardStatus;
 
 // A thousandth of a second, in spins of the source clock, rounded up.
-fn millisecond(source: Hertz) -> u32
+pub fn millisecond(source: Hertz) -> u32
     ensures { λ r. ⌜ r ≡ roundedUp (source .0) 1000 ⌝ }
 {
     ((source.0 as u64 + 999) / 1000) as u32

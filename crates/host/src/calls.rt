@@ -35,7 +35,7 @@ use types::error::Error;
 use types::words;
 
 // The record with another SD status.
-fn with_status(card: Card, status: [u32; 16]) -> Card
+pub fn with_status(card: Card, status: [u32; 16]) -> Card
     ensures { λ r. ⌜ r ≡ withStatus card status ⌝ }
 {
     let mut read = card;

@@ -51,7 +51,7 @@ fn version(p: Progress, word: u32) -> Flag
 }
 
 // Whether no answer came in time: Timeout, and no other error.
-fn timed_out(e: Error) -> bool
+pub fn timed_out(e: Error) -> bool
     ensures { λ r. ⌜ r ≡ timedOut e ⌝ }
 {
     match e {

@@ -84,7 +84,7 @@ fn read_scr(
 }
 
 // The record with its SCR.
-fn with_scr(card: Card, scr: Scr) -> Card
+pub fn with_scr(card: Card, scr: Scr) -> Card
     ensures { λ r. ⌜ r ≡ withScr card (scr .0) ⌝ }
 {
     let mut found = card;

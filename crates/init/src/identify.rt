@@ -61,7 +61,7 @@ pub struct Published {
 }
 
 // What ACMD41 asks for.
-fn condition(version2: bool) -> u32
+pub fn condition(version2: bool) -> u32
     ensures { λ r. ⌜ r ≡ 0x0030_0000 + cond version2 0x4000_0000 0 ⌝ }
 {
     if version2 {
@@ -164,7 +164,7 @@ pub fn no_card() -> Card
 }
 
 // The record of a card that said this of itself.
-fn described(ocr: u32, rca: u16, cid: [u32; 4], csd: [u32; 4], blocks: BlockCount) -> Card
+pub fn described(ocr: u32, rca: u16, cid: [u32; 4], csd: [u32; 4], blocks: BlockCount) -> Card
     ensures { λ r. ⌜ r ≡ cardOf ocr rca cid csd blocks ⌝ }
 {
     Card {
@@ -228,7 +228,7 @@ fn count_blocks(p: Progress, csd: Wide) -> Counted
 }
 
 // Whether CSD and OCR tell of the same kind of card.
-fn agree(ocr: u32, csd: Wide) -> bool
+pub fn agree(ocr: u32, csd: Wide) -> bool
     ensures { λ r. ⌜ r ≡ same (highCapacity ocr) (eqb (bits (wideOf csd) 127 126) 1) ⌝ }
 {
     if ocr & Ocr::HIGH_CAPACITY != 0 {
@@ -268,7 +268,7 @@ fn select(
 }
 
 // The address that a card has given itself, in the answer to CMD3.
-fn address(published: u32) -> u16
+pub fn address(published: u32) -> u16
     ensures { λ r. ⌜ r ≡ published / 2 ^ 16 ⌝ }
 {
     (published / 0x1_0000) as u16

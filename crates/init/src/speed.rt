@@ -58,14 +58,14 @@ impl Switch {
     pub const SDR25_TAKEN: u8 = 0x1;
 }
 
-fn lesser(a: u32, b: u32) -> u32
+pub fn lesser(a: u32, b: u32) -> u32
     ensures { λ r. ⌜ r ≡ min a b ⌝ }
 {
     if a < b { a } else { b }
 }
 
 // Whether the card has the lines that are connected.
-fn fits(scr: Scr, wide: bool) -> bool
+pub fn fits(scr: Scr, wide: bool) -> bool
     ensures { λ r. ⌜ r ≡ (oneLine (scr .0) && (not wide || fourLines (scr .0))) ⌝ }
 {
     if scr.bus_width_one() {
@@ -76,7 +76,7 @@ fn fits(scr: Scr, wide: bool) -> bool
 }
 
 // What ACMD6 asks for.
-fn width(wide: bool) -> u32
+pub fn width(wide: bool) -> u32
     ensures { λ r. ⌜ r ≡ cond wide 2 0 ⌝ }
 {
     if wide { 2 } else { 0 }
@@ -201,7 +201,7 @@ pub fn transfer_clock(
 }
 
 // Whether a switch status offers SDR25.
-fn offers(words: [u32; 16]) -> bool
+pub fn offers(words: [u32; 16]) -> bool
     ensures { λ r. ⌜ r ≡ offered words ⌝ }
 {
     let bytes = words::status_bytes(words);
@@ -213,7 +213,7 @@ fn offers(words: [u32; 16]) -> bool
 }
 
 // Whether a switch status says that SDR25 was switched to.
-fn took(words: [u32; 16]) -> bool
+pub fn took(words: [u32; 16]) -> bool
     ensures { λ r. ⌜ r ≡ switched words ⌝ }
 {
     let bytes = words::status_bytes(words);
@@ -278,7 +278,7 @@ fn ask_switch(
 }
 
 // Whether more than SDR12 is asked for, of a card that has CMD6.
-fn fast(frequency: Hertz, scr: Scr) -> bool
+pub fn fast(frequency: Hertz, scr: Scr) -> bool
     ensures { λ r. ⌜ r ≡ (ltb 25_000_000 (frequency .0) && not (eqb (sdSpec (scr .0)) 0)) ⌝ }
 {
     if frequency.0 > Switch::SDR12 {

@@ -1,0 +1,422 @@
+-- How a data phase goes on from each of its places.
+use Prim.Native.Nat.{ℕ, suc, _+_, _-_, _*_, _%_, _^_, _<_, _≤_}
+use mathlib.Core.Path.{_≡_, refl, ap, sym, _∙_}
+use mathlib.Core.Bool.{Bool, true, false, cond, not, _||_}
+use mathlib.Core.List.{List, [], _∷_, _++_, append-nil}
+use native.Mathlib.Omega.{arith}
+use lib.Dec.{eqb}
+use lib.ListN.{take}
+use Rattle.types.specs.Bits.{clear}
+use Rattle.types.specs.Leaf.{dataOf}
+use Rattle.types.specs.declared.config.Config.{Config}
+use Rattle.types.specs.declared.error.Error.{Error}
+use Rattle.types.specs.declared.error.Error.the-variants as E
+use Rattle.types.specs.declared.status.DataAnswer.the-variants.{Clean, Failed}
+use Rattle.tape.specs.declared.progress.Line.{Line}
+use Rattle.tape.specs.declared.rows.Row.{Row}
+use Rattle.tape.specs.declared.script.Reading.{Reading}
+use Rattle.tape.specs.declared.script.Reading.the-variants as Reading
+use Rattle.tape.specs.Plan.{Nothing, Plan, failed, give, fail, handle, _then_, ensure, until}
+use Rattle.tape.specs.Run.{noted}
+use Rattle.tape.specs.Steps.{word, row, waitIdle, stopData, resetController, setClken, dataFrom, dataWords}
+use Rattle.bus.specs.declared.response.Response.the-variants.{R1}
+use Rattle.bus.specs.declared.transfer.Transfer.{Transfer}
+use Rattle.bus.specs.Command.{commandInner, command}
+use Rattle.bus.specs.Ready.{waitReady}
+use Rattle.bus.specs.Transfer.{arm, startData, clean, pollTransfer, drained, settle, dataComplete, waitData, receive, closeGate, stopTransmission, endData, transferData, blockingData}
+use Rattle.step.specs.Next.{Next, tells, over, refused, next, heard, told, wantOf, waits, lineAfter, Handed}
+use Rattle.step.specs.Context.{Context, plug, plugNext, andThen, next-plug}
+use Rattle.step.specs.Command.{commandPlan, commandNext, endNext, listOf, begunPlan, begunNext}
+use Rattle.step.specs.Rows.{rowsFrom, resetRows, armRows, stopRows}
+use Rattle.step.specs.Reset.{resetRow, restLeft, rowsLeft, stepLeft, all-rows}
+use Rattle.step.specs.Arm.{armRow, armRest, armLeft, armNext, all-arm, stopRow, stopRest, stopLeft, stopNext, all-stop}
+use Rattle.step.specs.Ready.{limitAt, readyPlan, readyNext}
+use Rattle.step.specs.Transfer.{transferOf, topOf, placeOf, afterOf, allOf, readingAt, phasePlan, guarded, received, started, armed, startSite, ending, stopping, gated, stopSite, closing, refusal, idling, polling, taking, readsPlan, stopped, writesPlan, rowAt, toldPlan, dataPlan, dataNext}
+use Rattle.step.specs.declared.arm.Arm.{Arm}
+use Rattle.step.specs.declared.arm.Arm.the-variants as Ar
+use Rattle.step.specs.declared.arm.ArmStep.the-variants as ArS
+use Rattle.step.specs.declared.arm.Stop.{Stop}
+use Rattle.step.specs.declared.arm.Stop.the-variants as St
+use Rattle.step.specs.declared.arm.StopStep.the-variants as StS
+use Rattle.step.specs.declared.reset.Reset.{Reset}
+use Rattle.step.specs.declared.reset.Reset.the-variants as Re
+use Rattle.step.specs.declared.reset.ResetStep.the-variants as ReS
+use Rattle.step.specs.declared.command.Begun.the-variants as B
+use Rattle.step.specs.declared.command.Command.{Command}
+use Rattle.step.specs.declared.command.CommandStep.{CommandStep}
+use Rattle.step.specs.declared.command.CommandStep.the-variants as C
+use Rattle.step.specs.declared.command.Ended.the-variants as X
+use Rattle.step.specs.declared.command.Words.{Words}
+use Rattle.step.specs.declared.ready.Bus.{Bus}
+use Rattle.step.specs.declared.ready.Ready.{Ready}
+use Rattle.step.specs.declared.ready.ReadyStep.the-variants as RS
+use Rattle.step.specs.declared.transfer.Phase.{Phase}
+use Rattle.step.specs.declared.transfer.Reads.{Reads}
+use Rattle.step.specs.declared.transfer.Reads.the-variants as R
+use Rattle.step.specs.declared.transfer.Writes.{Writes}
+use Rattle.step.specs.declared.transfer.Writes.the-variants as W
+use Rattle.step.specs.declared.transfer.Data.{Data}
+use Rattle.step.specs.declared.transfer.Data.the-variants as D
+use Rattle.step.specs.declared.wants.Wants.the-variants as Wa
+use Rattle.step.proofs.Inside.{same-plug, command-waits, inside-waits, inside-line}
+use Rattle.step.proofs.Parts as parts
+use Rattle.step.proofs.Readying.{ready-waits}
+use Rattle.step.proofs.Words.{appends, then-give, some-words}
+
+-- the blocks of rows are the plans of the tape
+reset-rows : resetController ≡ rowsFrom resetRows
+unfolding resetController row handle rowsFrom
+reset-rows = refl
+
+arm-rows : (timeout : ℕ) (transfer : Transfer) → arm timeout transfer ≡ rowsFrom (armRows timeout transfer)
+unfolding arm stopData row handle rowsFrom
+arm-rows timeout transfer = refl
+
+stop-rows : stopData ≡ rowsFrom stopRows
+unfolding stopData row handle rowsFrom
+stop-rows = refl
+
+module _ (bus : Bus) (phase : Phase) (h : Line) where
+  abbrev timeout : ℕ
+  timeout = bus .config .«data_transfer_timeout»
+
+  abbrev telling : List ℕ → Writes → Next (List ℕ)
+  telling ws t = next (writesPlan bus phase ws t) h
+
+  abbrev asking : List ℕ → Reads → Next (List ℕ)
+  asking ws r = next (readsPlan bus phase ws r) h
+
+  -- it begins with all polls of its idle wait
+  pub begins : next (idling bus phase (limitAt bus)) h ≡ next (phasePlan bus phase) h
+  unfolding idling blockingData transferData startData plug
+  begins = refl
+
+  -- a refusal: the guard's reset rows, and then the refusal
+  pub refusing : (ws : List ℕ) (e : Error) → telling ws (W.Reset Re.Mask e) ≡ next (refusal bus phase e) h
+  unfolding writesPlan refusal plug handle
+  refusing ws e = ap (λ (rs : List Row). next (plug (closing bus phase e) (rowsFrom rs)) h) all-rows ∙ rw (← reset-rows)
+
+  pub idle-over : next (refusal bus phase E.SoftwareTimeout) h ≡ next (idling bus phase 0) h
+  unfolding refusal idling waitIdle until handle plug
+  idle-over = refl
+
+  pub idle-goes : (ws : List ℕ) (n : ℕ) → asking ws (R.Idle n) ≡ next (idling bus phase (suc n)) h
+  unfolding readsPlan
+  idle-goes ws n = refl
+
+  pub polls-over : next (refusal bus phase E.SoftwareTimeout) h ≡ next (polling bus phase 0) h
+  unfolding refusal polling until handle plug
+  polls-over = refl
+
+  pub polls-go : (ws : List ℕ) (n : ℕ) → asking ws (R.First n) ≡ next (polling bus phase (suc n)) h
+  unfolding readsPlan
+  polls-go ws n = refl
+
+  -- the data command
+  pub starts-on : (ws : List ℕ) (c : Command) → begunNext (B.On c) h ≡ next (begunPlan (limitAt bus) (transferOf phase .index) (transferOf phase .argument) R1 false) h
+      → next (dataPlan bus phase ws (D.Start c)) h ≡ next (toldPlan bus phase ws W.Open) h
+  unfolding dataPlan toldPlan begunNext
+  starts-on ws c e =
+      same-plug (startSite bus phase) _ _ h
+      (e ∙ ap (λ (p : Plan (List ℕ)). next p h) (parts.begins-inner (limitAt bus) (transferOf phase .index) (transferOf phase .argument) R1))
+
+  pub starts-failed : (ws : List ℕ) (x : Error) → begunNext (B.Failed x) h ≡ next (begunPlan (limitAt bus) (transferOf phase .index) (transferOf phase .argument) R1 false) h
+      → next (refusal bus phase x) h ≡ next (toldPlan bus phase ws W.Open) h
+  unfolding refusal toldPlan begunNext startSite handle plug
+  starts-failed ws x e =
+      same-plug (startSite bus phase) (fail x) _ h
+      (e ∙ ap (λ (p : Plan (List ℕ)). next p h) (parts.begins-inner (limitAt bus) (transferOf phase .index) (transferOf phase .argument) R1))
+
+  pub starting-on : (ws : List ℕ) (c : Command) → next (dataPlan bus phase ws (D.Start c)) h ≡ plugNext (startSite bus phase) (commandNext (C.On c) h)
+  unfolding dataPlan commandNext
+  starting-on ws c = next-plug (startSite bus phase) (commandPlan c) h
+
+  pub starting-well : (w : Words) → next (polling bus phase (limitAt bus)) h ≡ plugNext (startSite bus phase) (commandNext (C.Over (X.Well w)) h)
+  unfolding polling startSite commandNext endNext plugNext receive waitData handle plug next
+  starting-well w = refl
+
+  pub starting-badly : (e : Error) → next (refusal bus phase e) h ≡ plugNext (startSite bus phase) (commandNext (C.Over (X.Badly e)) h)
+  unfolding refusal startSite commandNext endNext plugNext handle plug next
+  starting-badly e = refl
+
+  -- the closing ready wait
+  pub waiting-on : (ws : List ℕ) (r : Ready) → next (dataPlan bus phase ws (D.Ready r)) h ≡ plugNext (ending bus phase ws) (readyNext bus (RS.On r) h)
+  unfolding dataPlan readyNext
+  waiting-on ws r = next-plug (ending bus phase ws) (readyPlan bus r) h
+
+  pub waiting-done : (ws : List ℕ) → over h (allOf phase ws) ≡ plugNext (ending bus phase ws) (readyNext bus RS.Done h)
+  unfolding readyNext ending plugNext handle plug next
+  waiting-done ws = refl
+
+  pub waiting-failed : (ws : List ℕ) (e : Error) → next (refusal bus phase e) h ≡ plugNext (ending bus phase ws) (readyNext bus (RS.Failed e) h)
+  unfolding readyNext refusal ending plugNext handle plug
+  waiting-failed ws e = refl
+
+  -- the end of a data phase: CMD12 after CMD18, and the ready wait
+  abbrev ready : Plan Nothing
+  ready = waitReady (bus .source .0) (bus .config) (bus .rca)
+
+  pub stopping-on : (ws : List ℕ) (c : Command) → next (dataPlan bus phase ws (D.Stop c)) h ≡ plugNext (stopSite bus phase ws) (commandNext (C.On c) h)
+  unfolding dataPlan commandNext
+  stopping-on ws c = next-plug (stopSite bus phase ws) (commandPlan c) h
+
+  pub stopping-well : (ws : List ℕ) (w : Words) → plugNext (ending bus phase ws) (next ready h) ≡ plugNext (stopSite bus phase ws) (commandNext (C.Over (X.Well w)) h)
+  unfolding stopSite commandNext endNext plugNext handle plug next
+  stopping-well ws w = sym (next-plug (ending bus phase ws) ready h)
+
+  pub stopping-badly : (ws : List ℕ) (e : Error) → next (refusal bus phase e) h ≡ plugNext (stopSite bus phase ws) (commandNext (C.Over (X.Badly e)) h)
+  unfolding refusal stopSite ending commandNext endNext plugNext handle plug next
+  stopping-badly ws e = refl
+
+  pub stops-other : (ws : List ℕ) → eqb (transferOf phase .index) 18 ≡ false
+      → plugNext (ending bus phase ws) (next ready h) ≡ next (plug (gated bus phase ws) (give tt)) h
+  unfolding gated stopTransmission handle plug
+  stops-other ws e = rw e (sym (next-plug (ending bus phase ws) ready h))
+
+  module _ (ws : List ℕ) (gate : h .gated ≡ bus .gated) where
+    stops : eqb (transferOf phase .index) 18 ≡ true
+        → next (plug (stopSite bus phase ws) (begunPlan (limitAt bus) 12 0 R1 (bus .gated))) h ≡ next (plug (gated bus phase ws) (give tt)) h
+    unfolding gated stopSite stopTransmission handle plug
+    stops e = same-plug (stopSite bus phase ws) _ _ h (parts.begins (limitAt bus) 12 0 R1 (bus .gated) h (sym gate)) ∙ rw e
+
+    pub stops-on : (c : Command) → eqb (transferOf phase .index) 18 ≡ true → begunNext (B.On c) h ≡ next (begunPlan (limitAt bus) 12 0 R1 (bus .gated)) h
+        → next (dataPlan bus phase ws (D.Stop c)) h ≡ next (plug (gated bus phase ws) (give tt)) h
+    unfolding dataPlan begunNext
+    stops-on c e b = same-plug (stopSite bus phase ws) _ _ h b ∙ stops e
+
+    pub stops-failed : (x : Error) → eqb (transferOf phase .index) 18 ≡ true → begunNext (B.Failed x) h ≡ next (begunPlan (limitAt bus) 12 0 R1 (bus .gated)) h
+        → next (refusal bus phase x) h ≡ next (plug (gated bus phase ws) (give tt)) h
+    unfolding begunNext refusal stopSite ending handle plug
+    stops-failed x e b = same-plug (stopSite bus phase ws) (fail x) _ h b ∙ stops e
+
+    pub closes-gated : bus .gated ≡ true → telling ws W.Gate ≡ next (stopped bus phase ws) h
+    unfolding writesPlan gated ending stopped rowsFrom closeGate handle plug next
+    closes-gated e = rw (gate ∙ e)
+
+    pub closes-open : bus .gated ≡ false → next (plug (gated bus phase ws) (give tt)) h ≡ next (stopped bus phase ws) h
+    unfolding gated ending stopped rowsFrom closeGate handle plug next
+    closes-open e = rw (gate ∙ e)
+
+  -- after a row
+  module _ (ws : List ℕ) where
+    pub reset-on : (r r′ : Reset) (e : Error) → stepLeft (ReS.At r′) ≡ restLeft r → telling ws (W.Reset r′ e) ≡ next (toldPlan bus phase ws (W.Reset r e)) h
+    unfolding writesPlan toldPlan stepLeft
+    reset-on r r′ e p = ap (λ (rs : List Row). next (plug (closing bus phase e) (rowsFrom rs)) h) p
+
+    pub reset-done : (r : Reset) (e : Error) → stepLeft ReS.Done ≡ restLeft r → refused h (failed e) ≡ next (toldPlan bus phase ws (W.Reset r e)) h
+    unfolding toldPlan stepLeft plug handle rowsFrom next
+    reset-done r e p = ap (λ (rs : List Row). next (plug (closing bus phase e) (rowsFrom rs)) h) p
+
+    pub arm-on : (r r′ : Arm) → armNext timeout (transferOf phase) (ArS.At r′) ≡ armRest timeout (transferOf phase) r
+        → telling ws (W.Arm r′) ≡ next (toldPlan bus phase ws (W.Arm r)) h
+    unfolding writesPlan toldPlan armNext
+    arm-on r r′ p = ap (λ (rs : List Row). next (plug (armed bus phase) (rowsFrom rs)) h) p
+
+    pub arm-done : (r : Arm) → armNext timeout (transferOf phase) ArS.Done ≡ armRest timeout (transferOf phase) r
+        → telling ws W.Open ≡ next (toldPlan bus phase ws (W.Arm r)) h
+    unfolding writesPlan toldPlan armNext rowsFrom plug handle
+    arm-done r p = ap (λ (rs : List Row). next (plug (armed bus phase) (rowsFrom rs)) h) p
+
+    pub stop-on : (r r′ : Stop) → stopNext (StS.At r′) ≡ stopRest r → telling ws (W.Stop r′) ≡ next (toldPlan bus phase ws (W.Stop r)) h
+    unfolding writesPlan toldPlan stopNext
+    stop-on r r′ p = ap (λ (rs : List Row). next (plug (stopping bus phase ws) (rowsFrom rs)) h) p
+
+    pub stop-done : (r : Stop) → stopNext StS.Done ≡ stopRest r → next (stopped bus phase ws) h ≡ next (toldPlan bus phase ws (W.Stop r)) h
+    unfolding stopped toldPlan stopNext
+    stop-done r p = ap (λ (rs : List Row). next (plug (stopping bus phase ws) (rowsFrom rs)) h) p
+
+    -- after a word
+    pub idle-ends : (n w : ℕ) → clear 0x3800 w ≡ true → telling ws (W.Arm Ar.Dctrl2) ≡ heard (asking ws (R.Idle n)) w
+    unfolding writesPlan readsPlan idling waitIdle until word handle plug next heard
+    idle-ends n w e = ap (λ (rs : List Row). next (plug (armed bus phase) (rowsFrom rs)) h) (all-arm timeout (transferOf phase)) ∙ rw (e, ← arm-rows)
+
+    pub idle-on : (n w : ℕ) → clear 0x3800 w ≡ false → next (idling bus phase n) h ≡ heard (asking ws (R.Idle n)) w
+    unfolding readsPlan idling waitIdle until word handle plug next heard
+    idle-on n w e = rw e
+
+    pub first-clean : (n w : ℕ) → dataOf w ≡ Clean → asking ws (R.FirstDma n w) ≡ heard (asking ws (R.First n)) w
+    unfolding readsPlan polling until dataComplete pollTransfer clean word handle plug next heard
+    first-clean n w e = rw e
+
+    pub first-bad : (n w : ℕ) (x : Error) → dataOf w ≡ Failed x → next (refusal bus phase x) h ≡ heard (asking ws (R.First n)) w
+    unfolding readsPlan refusal polling until dataComplete pollTransfer clean word handle plug next heard
+    first-bad n w x e = rw e
+
+    pub dma-bad : (n v w : ℕ) → clear 0x8000_0000 w ≡ false → next (refusal bus phase E.Dma) h ≡ heard (asking ws (R.FirstDma n v)) w
+    unfolding readsPlan refusal ensure word handle plug next heard
+    dma-bad n v w e = rw e
+
+    pub dma-runs : (n v w : ℕ) → clear 0x8000_0000 w ≡ true → clear 0x4000_0000 w ≡ false → next (polling bus phase n) h ≡ heard (asking ws (R.FirstDma n v)) w
+    unfolding readsPlan polling ensure word handle plug next heard
+    dma-runs n v w e f = rw (e, f)
+
+    pub dma-done : (n v w : ℕ) → clear 0x8000_0000 w ≡ true → clear 0x4000_0000 w ≡ true → asking ws (R.Again n) ≡ heard (asking ws (R.FirstDma n v)) w
+    unfolding readsPlan ensure word handle plug next heard
+    dma-done n v w e f = rw (e, f)
+
+    pub again-clean : (n w : ℕ) → dataOf w ≡ Clean → asking ws (R.AgainDma n w) ≡ heard (asking ws (R.Again n)) w
+    unfolding readsPlan settle pollTransfer clean word handle plug next heard
+    again-clean n w e = rw e
+
+    pub again-bad : (n w : ℕ) (x : Error) → dataOf w ≡ Failed x → next (refusal bus phase x) h ≡ heard (asking ws (R.Again n)) w
+    unfolding readsPlan refusal settle pollTransfer clean word handle plug next heard
+    again-bad n w x e = rw e
+
+    pub settle-bad : (n v w : ℕ) → clear 0x8000_0000 w ≡ false → next (refusal bus phase E.Dma) h ≡ heard (asking ws (R.AgainDma n v)) w
+    unfolding readsPlan refusal ensure word handle plug next heard
+    settle-bad n v w e = rw e
+
+    pub settle-goes : (n v w : ℕ) → clear 0x8000_0000 w ≡ true → (clear 0x100 v || not (clear 0x3000 v)) ≡ true
+        → next (polling bus phase n) h ≡ heard (asking ws (R.AgainDma n v)) w
+    unfolding readsPlan polling ensure word handle plug next heard
+    settle-goes n v w e f = rw (e, f)
+
+    pub settle-remains : (n v w : ℕ) → clear 0x8000_0000 w ≡ true → (clear 0x100 v || not (clear 0x3000 v)) ≡ false
+        → eqb (w % 2 ^ 16) 0 ≡ false → next (refusal bus phase E.IncompleteTransfer) h ≡ heard (asking ws (R.AgainDma n v)) w
+    unfolding readsPlan refusal drained ensure word handle plug next heard
+    settle-remains n v w e f z = rw (e, f, z)
+
+    pub settle-drained : (n v w : ℕ) → clear 0x8000_0000 w ≡ true → (clear 0x100 v || not (clear 0x3000 v)) ≡ false
+        → eqb (w % 2 ^ 16) 0 ≡ true → asking ws (R.Count n) ≡ heard (asking ws (R.AgainDma n v)) w
+    unfolding readsPlan drained ensure word handle plug next heard
+    settle-drained n v w e f z = rw (e, f, z)
+
+    pub count-bad : (n w : ℕ) → eqb w 0 ≡ false → next (refusal bus phase E.IncompleteTransfer) h ≡ heard (asking ws (R.Count n)) w
+    unfolding readsPlan refusal ensure word handle plug next heard
+    count-bad n w e = rw e
+
+    count-on : (n w : ℕ) → eqb w 0 ≡ true → next (plug (received bus phase) (dataWords (transferOf phase .words))) h ≡ heard (asking ws (R.Count n)) w
+    unfolding readsPlan ensure word handle plug next heard
+    count-on n w e = rw e
+
+    take-begins : next (taking bus phase 0 (transferOf phase .words) []) h ≡ next (plug (received bus phase) (dataWords (transferOf phase .words))) h
+    unfolding plug
+    take-begins = ap (λ (p : Plan (List ℕ)). next (plug (received bus phase) p) h) (then-give (dataWords (transferOf phase .words)))
+
+    pub count-good : (n w : ℕ) → eqb w 0 ≡ true → asking ws (R.Word (topOf phase)) ≡ heard (asking ws (R.Count n)) w
+    unfolding readsPlan
+    count-good n w e =
+        let some = some-words phase in
+        let zeroth : placeOf phase (topOf phase) ≡ 0 = omega arith in
+        let all : suc (topOf phase - 0) ≡ transferOf phase .words = omega arith in
+        rw (zeroth, all) (take-begins ∙ count-on n w e)
+
+-- a data word: the next one, or the stop rows
+module _ (bus : Bus) (phase : Phase) (h : Line) (ws ws′ : List ℕ) (m w : ℕ)
+    (more : take (placeOf phase m + 1) ws′ ≡ take (placeOf phase m) ws ++ (w ∷ [])) where
+  abbrev k : ℕ
+  k = placeOf phase m
+
+  take-goes : (k n : ℕ) (ws : List ℕ)
+      → next (taking bus phase (k + 1) n (ws ++ (w ∷ []))) h ≡ heard (next (taking bus phase k (suc n) ws) h) w
+  unfolding dataFrom word handle plug next heard
+  take-goes k n ws = ap (λ (p : Plan (List ℕ)). next (plug (received bus phase) p) h) (sym (appends ws w (dataFrom (k + 1) n)))
+
+  goes : next (taking bus phase (k + 1) (afterOf phase m) (take (k + 1) ws′)) h ≡ heard (next (readsPlan bus phase ws (R.Word m)) h) w
+  unfolding readsPlan
+  goes = ap (λ (l : List ℕ). next (taking bus phase (k + 1) (afterOf phase m) l) h) more ∙ take-goes k (afterOf phase m) (take k ws)
+
+  pub word-goes : k < topOf phase → next (readsPlan bus phase ws′ (R.Word (topOf phase - k - 1))) h ≡ heard (next (readsPlan bus phase ws (R.Word m)) h) w
+  unfolding readsPlan
+  word-goes small =
+      let place : placeOf phase (topOf phase - k - 1) ≡ k + 1 = omega arith in
+      let left : suc (topOf phase - (k + 1)) ≡ afterOf phase m = omega arith in
+      ap (λ (i : ℕ). next (taking bus phase i (suc (topOf phase - i)) (take i ws′)) h) place
+      ∙ ap (λ (n : ℕ). next (taking bus phase (k + 1) n (take (k + 1) ws′)) h) left ∙ goes
+
+  take-ends : (k : ℕ) (ws : List ℕ) → next (plug (received bus phase) (give ws)) h ≡ next (taking bus phase k 0 ws) h
+  unfolding dataFrom handle plug
+  take-ends k ws = ap (λ (x : List ℕ). next (plug (received bus phase) (give x)) h) (sym (append-nil ws))
+
+  words-end : next (writesPlan bus phase ws′ (W.Stop St.Mask)) h ≡ next (plug (received bus phase) (give (allOf phase ws′))) h
+  unfolding writesPlan ending endData plug handle
+  words-end = ap (λ (rs : List Row). next (plug (stopping bus phase ws′) (rowsFrom rs)) h) all-stop ∙ rw (← stop-rows)
+
+  pub word-ends : topOf phase ≤ k → next (writesPlan bus phase ws′ (W.Stop St.Mask)) h ≡ heard (next (readsPlan bus phase ws (R.Word m)) h) w
+  word-ends last =
+      let some = some-words phase in
+      let none : 0 ≡ afterOf phase m = omega arith in
+      let all : transferOf phase .words ≡ k + 1 = omega arith in
+      words-end
+      ∙ ap (λ (i : ℕ). next (plug (received bus phase) (give (take i ws′))) h) all
+      ∙ take-ends (k + 1) (take (k + 1) ws′)
+      ∙ ap (λ (n : ℕ). next (taking bus phase (k + 1) n (take (k + 1) ws′)) h) none ∙ goes
+
+-- what it waits for, and what it does unasked
+module _ (bus : Bus) (phase : Phase) (ws : List ℕ) (h : Line) where
+  pub reads-want : (r : Reads) → Wa.Read (readingAt phase r) ≡ wantOf (next (readsPlan bus phase ws r) h)
+  unfolding readsPlan readingAt idling polling waitIdle until dataComplete pollTransfer settle dataFrom word handle plug next wantOf
+  reads-want (R.Idle n) = refl
+  reads-want (R.First n) = refl
+  reads-want (R.FirstDma n v) = refl
+  reads-want (R.Again n) = refl
+  reads-want (R.AgainDma n v) = refl
+  reads-want (R.Count n) = refl
+  reads-want (R.Word m) = refl
+
+  reads-wait : (r : Reads) → waits (next (readsPlan bus phase ws r) h) ≡ true
+  unfolding readsPlan idling polling waitIdle until dataComplete pollTransfer settle dataFrom word handle plug next waits
+  reads-wait (R.Idle n) = refl
+  reads-wait (R.First n) = refl
+  reads-wait (R.FirstDma n v) = refl
+  reads-wait (R.Again n) = refl
+  reads-wait (R.AgainDma n v) = refl
+  reads-wait (R.Count n) = refl
+  reads-wait (R.Word m) = refl
+
+  pub reads-told : (r : Reads) → next (readsPlan bus phase ws r) (lineAfter (next (readsPlan bus phase ws r) h)) ≡ told (next (readsPlan bus phase ws r) h)
+  unfolding readsPlan idling polling waitIdle until dataComplete pollTransfer settle dataFrom word handle plug next told lineAfter
+  reads-told (R.Idle n) = refl
+  reads-told (R.First n) = refl
+  reads-told (R.FirstDma n v) = refl
+  reads-told (R.Again n) = refl
+  reads-told (R.AgainDma n v) = refl
+  reads-told (R.Count n) = refl
+  reads-told (R.Word m) = refl
+
+  -- each of its rows is a row in a context
+  record Rowed (t : Writes) : Type 0 where
+    rest : Plan (List ℕ)
+    same : next (writesPlan bus phase ws t) h ≡ tells h (rowAt bus phase h t) rest
+    after : next (toldPlan bus phase ws t) (noted (rowAt bus phase h t) h) ≡ next rest (noted (rowAt bus phase h t) h)
+
+  rowed : (t : Writes) → Rowed t
+  unfolding writesPlan toldPlan rowAt gated ending startSite rowsFrom setClken row handle plug next
+  rowed (W.Reset r e) = record { rest = _; same = refl; after = refl }
+  rowed (W.Arm a) = record { rest = _; same = refl; after = refl }
+  rowed W.Open = record { rest = _; same = refl; after = refl }
+  rowed (W.Stop s) = record { rest = _; same = refl; after = refl }
+  rowed W.Gate = record { rest = _; same = refl; after = refl }
+
+  pub writes-want : (t : Writes) → Wa.Write (rowAt bus phase h t) ≡ wantOf (next (writesPlan bus phase ws t) h)
+  unfolding wantOf
+  writes-want t = sym (ap wantOf (rowed t .same))
+
+  writes-wait : (t : Writes) → waits (next (writesPlan bus phase ws t) h) ≡ true
+  unfolding waits
+  writes-wait t = ap waits (rowed t .same)
+
+  pub writes-heard : (t : Writes) (w : ℕ) → next (writesPlan bus phase ws t) h ≡ heard (next (writesPlan bus phase ws t) h) w
+  unfolding heard
+  writes-heard t w = rowed t .same ∙ sym (ap (λ (x : Next (List ℕ)). heard x w) (rowed t .same))
+
+  writes-line : (t : Writes) → lineAfter (next (writesPlan bus phase ws t) h) ≡ noted (rowAt bus phase h t) h
+  unfolding lineAfter
+  writes-line t = ap lineAfter (rowed t .same)
+
+  pub writes-gated : (t : Writes) → lineAfter (next (writesPlan bus phase ws t) h) .gated ≡ h .gated
+  unfolding noted
+  writes-gated t = ap (λ (l : Line). l .gated) (writes-line t)
+
+  pub writes-told : (t : Writes) → next (toldPlan bus phase ws t) (lineAfter (next (writesPlan bus phase ws t) h)) ≡ told (next (writesPlan bus phase ws t) h)
+  unfolding told
+  writes-told t = ap (λ (l : Line). next (toldPlan bus phase ws t) l) (writes-line t) ∙ rowed t .after ∙ sym (ap told (rowed t .same))
+
+  -- it always waits for something
+  pub data-waits : (d : Data) → waits (next (dataPlan bus phase ws d) h) ≡ true
+  unfolding dataPlan
+  data-waits (D.Asks r) = reads-wait r
+  data-waits (D.Tells t) = writes-wait t
+  data-waits (D.Start c) = inside-waits (startSite bus phase) (commandPlan c) h (command-waits c h)
+  data-waits (D.Stop c) = inside-waits (stopSite bus phase ws) (commandPlan c) h (command-waits c h)
+  data-waits (D.Ready r) = inside-waits (ending bus phase ws) (readyPlan bus r) h (ready-waits bus h r)

@@ -1,0 +1,235 @@
+-- A data phase under way: what is ahead of it at each of its places. It is the plan of the bus, from that place on; `ws` are the
+-- data words that it has come to so far.
+use Prim.Native.Nat.{ℕ, suc, _+_, _-_, _*_, _%_, _^_, min}
+use mathlib.Core.Path.{_≡_}
+use mathlib.Core.Bool.{Bool, cond, not, true, false, _||_}
+use mathlib.Core.List.{List, [], _++_}
+use lib.Dec.{eqb}
+use lib.ListN.{take}
+use Rattle.types.specs.Bits.{clear}
+use Rattle.types.specs.declared.error.Error.{Error}
+use Rattle.types.specs.declared.error.Error.the-variants as E
+use Rattle.types.specs.declared.config.Config.{Config}
+use Rattle.tape.specs.declared.progress.Line.{Line}
+use Rattle.tape.specs.declared.rows.Row.{Row}
+use Rattle.tape.specs.declared.script.Reading.{Reading}
+use Rattle.tape.specs.declared.script.Reading.the-variants as Reading
+use Rattle.tape.specs.Plan.{Nothing, Plan, failed, give, refuse, _then_, refusing, fail, ensure, until}
+use Rattle.tape.specs.Rows.{CLKCR, clkenOf}
+use Rattle.tape.specs.Steps.{word, waitIdle, resetController, setClken, dataFrom, dataWords}
+use Rattle.bus.specs.declared.response.Response.the-variants.{R1}
+use Rattle.bus.specs.declared.transfer.Transfer.{Transfer}
+use Rattle.bus.specs.Command.{commandInner}
+use Rattle.bus.specs.Ready.{waitReady}
+use Rattle.bus.specs.Transfer.{arm, Polled, dataComplete, drained, settle, receive, closeGate, stopTransmission, endData, blockingData}
+use Rattle.init.specs.Initialise.{scrTransfer, switchTransfer}
+use Rattle.host.specs.Calls.{readTransfer, statusTransfer}
+use Rattle.step.specs.Next.{Next, over, refused, next, Handed}
+use Rattle.step.specs.Context.{Context, whole, inside, plug, andThen}
+use Rattle.step.specs.Command.{commandPlan}
+use Rattle.step.specs.Ready.{readyPlan}
+use Rattle.step.specs.Rows.{rowOf, rowsFrom}
+use Rattle.step.specs.Reset.{resetRow, restLeft, rowsLeft}
+use Rattle.step.specs.Arm.{armRow, armRest, armLeft, stopRow, stopRest, stopLeft}
+use Rattle.step.specs.declared.ready.Bus.{Bus}
+use Rattle.step.specs.declared.transfer.Phase.{Phase}
+use Rattle.step.specs.declared.transfer.Phase.the-variants as P
+use Rattle.step.specs.declared.transfer.Reads.{Reads}
+use Rattle.step.specs.declared.transfer.Reads.the-variants as R
+use Rattle.step.specs.declared.transfer.Writes.{Writes}
+use Rattle.step.specs.declared.transfer.Writes.the-variants as W
+use Rattle.step.specs.declared.transfer.Data.{Data}
+use Rattle.step.specs.declared.transfer.Data.the-variants as D
+use Rattle.step.specs.declared.transfer.DataStep.{DataStep}
+use Rattle.step.specs.declared.transfer.DataStep.the-variants as S
+
+-- a read is of 1 to 511 blocks
+unfoldable pub blocksOf : ℕ → ℕ
+blocksOf n = 1 + min (n - 1) 510
+
+unfoldable pub transferOf : Phase → Transfer
+transferOf P.Scr = scrTransfer
+transferOf P.Check = switchTransfer 0x00ff_fff1
+transferOf P.Switch = switchTransfer 0x80ff_fff1
+transferOf P.Status = statusTransfer
+transferOf (P.Blocks address blocks) = readTransfer address (blocksOf blocks)
+
+-- the last place of a data word; the place of the one with so many after it, and how many are after it: any number is one of
+-- these
+abbrev pub topOf : Phase → ℕ
+topOf p = transferOf p .words - 1
+
+abbrev pub placeOf : Phase → ℕ → ℕ
+placeOf p m = topOf p - m
+
+abbrev pub afterOf : Phase → ℕ → ℕ
+afterOf p m = topOf p - placeOf p m
+
+-- all its words
+abbrev pub allOf : Phase → List ℕ → List ℕ
+allOf p ws = take (transferOf p .words) ws
+
+-- what each of its readings reads
+unfoldable pub readingAt : Phase → Reads → Reading
+readingAt p (R.Idle n) = Reading.Status
+readingAt p (R.First n) = Reading.Status
+readingAt p (R.FirstDma n v) = Reading.Dma
+readingAt p (R.Again n) = Reading.Status
+readingAt p (R.AgainDma n v) = Reading.Dma
+readingAt p (R.Count n) = Reading.DCount
+readingAt p (R.Word m) = Reading.Data (placeOf p m)
+
+module _ (bus : Bus) (phase : Phase) where
+  abbrev source : ℕ
+  source = bus .source .0
+
+  abbrev config : Config
+  config = bus .config
+
+  abbrev limit : ℕ
+  limit = config .«poll_limit»
+
+  abbrev transfer : Transfer
+  transfer = transferOf phase
+
+  -- the whole of it
+  abbrev pub phasePlan : Plan (List ℕ)
+  phasePlan = blockingData source config transfer (bus .rca)
+
+  -- CONTEXTS. Under its guard; inside `receive`; inside `startData`
+  abbrev pub guarded : Context (List ℕ) (List ℕ)
+  guarded = inside give (refusing resetController) whole
+
+  abbrev pub received : Context (List ℕ) (List ℕ)
+  received = andThen (λ ws. endData source config (transfer .index) (bus .rca) then λ _. give ws) guarded
+
+  abbrev pub started : Context (List ℕ) Nothing
+  started =
+      andThen
+      (λ _. receive limit (transfer .words) then λ ws. endData source config (transfer .index) (bus .rca) then λ _. give ws)
+      guarded
+
+  -- what follows the rows that ready the data path
+  abbrev pub armed : Context (List ℕ) Nothing
+  armed = andThen (λ _. setClken true then λ _. commandInner limit (transfer .index) (transfer .argument) R1 then λ _. give tt) started
+
+  -- where the data command returns to
+  unfoldable pub startSite : Context (List ℕ) (List ℕ)
+  startSite = andThen (λ _. give (tt {0})) started
+
+  -- where a poll returns to, with so many left
+  abbrev pub polls : Context (List ℕ) Bool
+  polls = andThen (λ _. give (tt {0})) (andThen (λ _. dataWords (transfer .words)) received)
+
+  abbrev pub loop : ℕ → Context (List ℕ) Bool
+  loop n = andThen (λ done. cond done (give done) (until n (λ done. done) dataComplete)) polls
+
+  -- where the end returns to, once all words are there
+  unfoldable pub ending : List ℕ → Context (List ℕ) Nothing
+  ending ws = andThen (λ _. give (allOf phase ws)) guarded
+
+  -- after the rows that stop the data path; after the clock's gate; after CMD12
+  abbrev pub stopping : List ℕ → Context (List ℕ) Nothing
+  stopping ws =
+      andThen (λ _. closeGate then λ _. stopTransmission limit (transfer .index) then λ _. waitReady source config (bus .rca)) (ending ws)
+
+  unfoldable pub gated : List ℕ → Context (List ℕ) Nothing
+  gated ws = andThen (λ _. stopTransmission limit (transfer .index) then λ _. waitReady source config (bus .rca)) (ending ws)
+
+  unfoldable pub stopSite : List ℕ → Context (List ℕ) (List ℕ)
+  stopSite ws = andThen (λ _. give (tt {0})) (andThen (λ _. waitReady source config (bus .rca)) (ending ws))
+
+  -- where a refusal's reset rows lead
+  abbrev pub closing : Error → Context (List ℕ) Nothing
+  closing e = andThen (λ _. refuse (failed e)) whole
+
+  -- PLANS, in order.
+  unfoldable pub refusal : Error → Plan (List ℕ)
+  refusal e = plug guarded (fail e)
+
+  unfoldable pub idling : ℕ → Plan (List ℕ)
+  idling n =
+      plug
+      (andThen (λ _. arm (config .«data_transfer_timeout») transfer then λ _. setClken true then λ _. commandInner limit (transfer .index) (transfer .argument) R1 then λ _. give tt) started)
+      (waitIdle n true)
+
+  abbrev pub opening : Plan (List ℕ)
+  opening = plug started (setClken true then λ _. commandInner limit (transfer .index) (transfer .argument) R1 then λ _. give tt)
+
+  unfoldable pub polling : ℕ → Plan (List ℕ)
+  polling n = plug polls (until n (λ done. done) dataComplete)
+
+  abbrev firstly : Polled → Plan Bool
+  firstly first = cond (clear 0x4000_0000 (first .dma)) settle (give false)
+
+  abbrev afterwards : Polled → Plan Bool
+  afterwards again =
+      cond (clear 0x100 (again .status) || not (clear 0x3000 (again .status))) (give false) (drained (again .dma) then λ _. give true)
+
+  abbrev dmaOf : ℕ → Plan Polled
+  dmaOf status =
+      word Reading.Dma
+      then λ dma. ensure (clear 0x8000_0000 dma) E.Dma
+      then λ _. give (record { status = status; dma = dma })
+
+  abbrev pub counting : ℕ → Plan (List ℕ)
+  counting n = plug (loop n) (word Reading.DCount then (λ w. ensure (eqb w 0) E.IncompleteTransfer) then λ _. give true)
+
+  -- data word k and the rest, after the words so far
+  abbrev pub taking : ℕ → ℕ → List ℕ → Plan (List ℕ)
+  taking k n ws = plug (andThen (λ rest. give (ws ++ rest)) received) (dataFrom k n)
+
+  unfoldable pub readsPlan : List ℕ → Reads → Plan (List ℕ)
+  readsPlan ws (R.Idle n) = idling (suc n)
+  readsPlan ws (R.First n) = polling (suc n)
+  readsPlan ws (R.FirstDma n v) = plug (andThen firstly (loop n)) (dmaOf v)
+  readsPlan ws (R.Again n) = plug (loop n) settle
+  readsPlan ws (R.AgainDma n v) = plug (andThen afterwards (loop n)) (dmaOf v)
+  readsPlan ws (R.Count n) = counting n
+  readsPlan ws (R.Word m) = taking (placeOf phase m) (suc (afterOf phase m)) (take (placeOf phase m) ws)
+
+  -- after the rows that stop the data path
+  unfoldable pub stopped : List ℕ → Plan (List ℕ)
+  stopped ws = plug (stopping ws) (rowsFrom [])
+
+  unfoldable pub writesPlan : List ℕ → Writes → Plan (List ℕ)
+  writesPlan ws (W.Reset r e) = plug (closing e) (rowsFrom (rowsLeft r))
+  writesPlan ws (W.Arm a) = plug armed (rowsFrom (armLeft (config .«data_transfer_timeout») transfer a))
+  writesPlan ws W.Open = opening
+  writesPlan ws (W.Stop s) = plug (stopping ws) (rowsFrom (stopLeft s))
+  writesPlan ws W.Gate = plug (gated ws) (setClken false)
+
+  -- its row, and what is ahead once it is written
+  unfoldable pub rowAt : Line → Writes → Row
+  rowAt h (W.Reset r e) = resetRow r
+  rowAt h (W.Arm a) = armRow (config .«data_transfer_timeout») transfer a
+  rowAt h W.Open = rowOf CLKCR (clkenOf (h .clkcr) true)
+  rowAt h (W.Stop s) = stopRow s
+  rowAt h W.Gate = rowOf CLKCR (clkenOf (h .clkcr) false)
+
+  unfoldable pub toldPlan : List ℕ → Writes → Plan (List ℕ)
+  toldPlan ws (W.Reset r e) = plug (closing e) (rowsFrom (restLeft r))
+  toldPlan ws (W.Arm a) = plug armed (rowsFrom (armRest (config .«data_transfer_timeout») transfer a))
+  toldPlan ws W.Open = plug startSite (commandInner limit (transfer .index) (transfer .argument) R1)
+  toldPlan ws (W.Stop s) = plug (stopping ws) (rowsFrom (stopRest s))
+  toldPlan ws W.Gate = plug (gated ws) (give tt)
+
+  unfoldable pub dataPlan : List ℕ → Data → Plan (List ℕ)
+  dataPlan ws (D.Asks r) = readsPlan ws r
+  dataPlan ws (D.Tells t) = writesPlan ws t
+  dataPlan ws (D.Start c) = plug startSite (commandPlan c)
+  dataPlan ws (D.Stop c) = plug (stopSite ws) (commandPlan c)
+  dataPlan ws (D.Ready r) = plug (ending ws) (readyPlan bus r)
+
+  unfoldable pub dataNext : List ℕ → DataStep → Line → Next (List ℕ)
+  dataNext ws (S.On d) h = next (dataPlan ws d) h
+  dataNext ws S.Done h = over h (allOf phase ws)
+  dataNext ws (S.Failed e) h = refused h (failed e)
+
+-- ws′ has the word w after a reading, where ws were there before it
+unfoldable pub HandedAt : Phase → Data → ℕ → List ℕ → List ℕ → Type 0
+HandedAt p (D.Asks r) w ws ws′ = Handed (readingAt p r) w ws ws′
+HandedAt p (D.Tells t) w ws ws′ = ws′ ≡ ws
+HandedAt p (D.Start c) w ws ws′ = ws′ ≡ ws
+HandedAt p (D.Stop c) w ws ws′ = ws′ ≡ ws
+HandedAt p (D.Ready r) w ws ws′ = ws′ ≡ ws

@@ -1,0 +1,135 @@
+// The wait until the card is ready, answer by answer.
+ghost use mathlib.Core.Path.{_≡_};
+ghost use Prim.Native.Nat.{ℕ};
+ghost use Rattle.tape.specs.declared.progress.Line.{Line};
+ghost use Rattle.tape.specs.Plan.{give, fail};
+ghost use Rattle.bus.specs.Ready.{waitReady};
+ghost use Rattle.step.specs.Next.{next, wantOf, heard, told, lineAfter};
+ghost use Rattle.step.specs.Context.{plug, plugNext};
+ghost use Rattle.step.specs.Command.{commandNext, listOf};
+ghost use Rattle.step.specs.Ready.{attempts, asked, readyPlan, readyNext};
+use crate::command::Begun;
+use crate::command::Command;
+use crate::command::CommandStep;
+use crate::command::Ended;
+use crate::command::Words;
+use crate::wants::Wants;
+use bus::ready;
+use bus::response::Response;
+use tape::progress::Line;
+use tape::rows::Row;
+use types::clock::Hertz;
+use types::config::Config;
+use types::error::Error;
+use types::status::CardStatus;
+
+// What the steps behind a command go by: the source clock, the limits, the card's address, and whether the clock is gated.
+pub struct Bus {
+    pub source: Hertz,
+    pub config: Config,
+    pub rca: u16,
+    pub gated: bool,
+}
+
+// A ready wait under way, with so many attempts left after this one: CMD13, or the delay behind it.
+pub enum Ready {
+    Asks(u32, Command),
+    Delay(u32),
+}
+
+// A ready wait after an answer.
+pub enum ReadyStep {
+    On(Ready),
+    Done,
+    Failed(Error),
+}
+
+impl Bus {
+    // The wait with so many attempts.
+    fn attempt(self, left: u32) -> ReadyStep
+        ensures { λ r. ⌜ ((h : Line) → h .gated ≡ self .gated → readyNext self r h ≡ next (attempts self left) h) ⌝ }
+    {
+        if left == 0 {
+            return ReadyStep::Failed(Error::SoftwareTimeout);
+        }
+        let more = left - 1;
+        let limit = self.config.poll_limit;
+        let argument = self.rca as u32 * 0x1_0000;
+        let begun = Command::begin(limit, 13, argument, Response::R1, self.gated);
+        match begun {
+            Begun::On(command) => ReadyStep::On(Ready::Asks(more, command)),
+            Begun::Failed(error) => ReadyStep::Failed(error),
+        }
+    }
+
+    // The wait at its start.
+    pub fn wait_ready(self) -> ReadyStep
+        ensures { λ r. ⌜ ((h : Line) → h .gated ≡ self .gated → readyNext self r h ≡ next (waitReady (self .source .0) (self .config) (self .rca)) h) ⌝ }
+    {
+        let left = self.config.card_ready_attempts;
+        self.attempt(left as u32)
+    }
+
+    // The card's status came.
+    fn answered(self, left: u32, words: Words) -> ReadyStep
+        ensures { λ r. ⌜ ((h : Line) → readyNext self r h ≡ next (plug (asked self left) (give (listOf words))) h) ⌝ }
+    {
+        let status = CardStatus(words.a);
+        if status.ready() {
+            ReadyStep::Done
+        } else {
+            ReadyStep::On(Ready::Delay(left))
+        }
+    }
+
+    // CMD13 after an answer.
+    fn asking(self, left: u32, step: CommandStep) -> ReadyStep
+        ensures { λ r. ⌜ ((h : Line) → readyNext self r h ≡ plugNext (asked self left) (commandNext step h)) ⌝ }
+    {
+        match step {
+            CommandStep::On(command) => ReadyStep::On(Ready::Asks(left, command)),
+            CommandStep::Over(ended) => match ended {
+                Ended::Well(words) => self.answered(left, words),
+                Ended::Badly(error) => ReadyStep::Failed(error),
+            },
+        }
+    }
+}
+
+impl Ready {
+    // What it waits for.
+    pub fn wants(self, bus: Bus, line: Line) -> Wants
+        ensures { λ r. ⌜ r ≡ wantOf (next (readyPlan bus self) line) ⌝ }
+    {
+        match self {
+            Ready::Asks(_, command) => command.wants(line),
+            Ready::Delay(_) => {
+                let source = bus.source;
+                Wants::Write(Row {
+                    register: Row::DELAY,
+                    value: ready::millisecond(source),
+                })
+            }
+        }
+    }
+
+    // After the word that it asked for; unasked, as it was.
+    pub fn fed(self, bus: Bus, word: u32) -> ReadyStep
+        ensures { λ r. ⌜ ((h : Line) → readyNext bus r h ≡ heard (next (readyPlan bus self) h) word) ⌝ }
+    {
+        match self {
+            Ready::Asks(left, command) => bus.asking(left, command.fed(word)),
+            Ready::Delay(_) => ReadyStep::On(self),
+        }
+    }
+
+    // After its row was written; with none to write, as it was.
+    pub fn went(self, bus: Bus) -> ReadyStep
+        ensures { λ r. ⌜ ((h : Line) → h .gated ≡ bus .gated → readyNext bus r (lineAfter (next (readyPlan bus self) h)) ≡ told (next (readyPlan bus self) h)) ⌝ }
+    {
+        match self {
+            Ready::Asks(left, command) => bus.asking(left, command.went()),
+            Ready::Delay(left) => bus.attempt(left),
+        }
+    }
+}

@@ -1,0 +1,510 @@
+// A data phase, answer by answer: the idle wait, the rows that ready the data path, the command, the polls, the data words, the
+// rows that stop it, CMD12 after CMD18, and the ready wait; and the reset rows of its guard.
+ghost use mathlib.Core.Path.{_≡_};
+ghost use mathlib.Core.List.{List};
+ghost use mathlib.Core.Bool.{not, _||_};
+ghost use Prim.Native.Nat.{ℕ};
+ghost use Rattle.types.specs.Bits.{clear};
+ghost use Rattle.tape.specs.declared.progress.Line.{Line};
+ghost use Rattle.tape.specs.Plan.{give};
+ghost use Rattle.step.specs.Next.{next, wantOf, heard, told, lineAfter, Handed};
+ghost use Rattle.step.specs.Context.{plug, plugNext};
+ghost use Rattle.step.specs.Command.{commandNext};
+ghost use Rattle.step.specs.Ready.{readyNext};
+ghost use Rattle.step.specs.Transfer.{blocksOf, transferOf, topOf, placeOf, phasePlan, refusal, idling, polling, startSite, stopSite, ending, stopped, gated, readsPlan, readingAt, writesPlan, toldPlan, rowAt, dataPlan, dataNext, HandedAt};
+use crate::arm::Arm;
+use crate::arm::ArmStep;
+use crate::arm::Stop;
+use crate::arm::StopStep;
+use crate::command::Begun;
+use crate::command::Command;
+use crate::command::CommandStep;
+use crate::command::Ended;
+use crate::ready::Bus;
+use crate::ready::Ready;
+use crate::ready::ReadyStep;
+use crate::reset::Reset;
+use crate::reset::ResetStep;
+use crate::wants::Wants;
+use bus::response::Response;
+use bus::transfer::Transfer;
+use tape::progress::Line;
+use tape::rows;
+use tape::rows::Row;
+use tape::script::Dma;
+use tape::script::Reading;
+use tape::script::Sta;
+use types::error::Error;
+use types::status;
+use types::status::DataAnswer;
+
+// What a data phase reads: the SCR, a switch status (asked about, or switched), the SD status, or blocks from an address on.
+pub enum Phase {
+    Scr,
+    Check,
+    Switch,
+    Status,
+    Blocks(u32, u16),
+}
+
+// Its readings, with how many polls are left after this one, or how many data words.
+pub enum Reads {
+    Idle(u32),
+    First(u32),
+    FirstDma(u32, u32),
+    Again(u32),
+    AgainDma(u32, u32),
+    Count(u32),
+    Word(u16),
+}
+
+// Its rows outside commands. Those that reset the controller follow a refusal.
+pub enum Writes {
+    Reset(Reset, Error),
+    Arm(Arm),
+    Open,
+    Stop(Stop),
+    Gate,
+}
+
+// A data phase under way.
+pub enum Data {
+    Asks(Reads),
+    Tells(Writes),
+    Start(Command),
+    Stop(Command),
+    Ready(Ready),
+}
+
+// A data phase after an answer.
+pub enum DataStep {
+    On(Data),
+    Done,
+    Failed(Error),
+}
+
+// Whether a status word says that the transfer is not over yet.
+fn unfinished(status: u32) -> bool
+    ensures { λ r. ⌜ r ≡ (clear 0x100 status || not (clear 0x3000 status)) ⌝ }
+{
+    if status & Sta::DATA_ENDED == 0 {
+        true
+    } else {
+        status & Sta::TRANSFER != 0
+    }
+}
+
+// 1 to 511 blocks.
+fn blocks(n: u16) -> u16
+    ensures { λ r. ⌜ r ≡ blocksOf n ⌝ }
+{
+    if n == 0 {
+        return 1;
+    }
+    if n > 511 { 511 } else { n }
+}
+
+// CMD17 for one block, CMD18 for more.
+fn read_blocks(address: u32, n: u16) -> Transfer
+    ensures { λ r. ⌜ r ≡ transferOf (Phase.Blocks address n) ⌝ }
+{
+    let count = blocks(n);
+    if count == 1 {
+        Transfer {
+            index: 17,
+            argument: address,
+            block_size: 9,
+            words: 128,
+        }
+    } else {
+        Transfer {
+            index: 18,
+            argument: address,
+            block_size: 9,
+            words: 128 * count,
+        }
+    }
+}
+
+impl Phase {
+    // What it asks for.
+    pub fn transfer(self) -> Transfer
+        ensures { λ r. ⌜ r ≡ transferOf self ⌝ }
+    {
+        match self {
+            Phase::Scr => Transfer {
+                index: 51,
+                argument: 0,
+                block_size: 3,
+                words: 2,
+            },
+            Phase::Check => Transfer {
+                index: 6,
+                argument: 0x00ff_fff1,
+                block_size: 6,
+                words: 16,
+            },
+            Phase::Switch => Transfer {
+                index: 6,
+                argument: 0x80ff_fff1,
+                block_size: 6,
+                words: 16,
+            },
+            Phase::Status => Transfer {
+                index: 13,
+                argument: 0,
+                block_size: 6,
+                words: 16,
+            },
+            Phase::Blocks(address, n) => read_blocks(address, n),
+        }
+    }
+
+    // The last place of a data word.
+    fn top(self) -> u16
+        ensures { λ r. ⌜ r ≡ topOf self ⌝ }
+    {
+        let transfer = self.transfer();
+        let words = transfer.words;
+        if words == 0 { 0 } else { words - 1 }
+    }
+
+    // The place of the data word with so many after it.
+    fn place(self, after: u16) -> u16
+        ensures { λ r. ⌜ r ≡ placeOf self after ⌝ }
+    {
+        let top = self.top();
+        if after < top { top - after } else { 0 }
+    }
+
+    // What a reading of it reads.
+    fn reading(self, reads: Reads) -> Reading
+        ensures { λ r. ⌜ r ≡ readingAt self reads ⌝ }
+    {
+        match reads {
+            Reads::Idle(_) => Reading::Status,
+            Reads::First(_) => Reading::Status,
+            Reads::FirstDma(_, _) => Reading::Dma,
+            Reads::Again(_) => Reading::Status,
+            Reads::AgainDma(_, _) => Reading::Dma,
+            Reads::Count(_) => Reading::DCount,
+            Reads::Word(after) => {
+                let place = self.place(after);
+                Reading::Data(place as u32)
+            }
+        }
+    }
+}
+
+impl Bus {
+    // A row of a data phase.
+    fn row(self, phase: Phase, line: Line, writes: Writes) -> Row
+        ensures { λ r. ⌜ r ≡ rowAt self phase line writes ⌝ }
+    {
+        match writes {
+            Writes::Reset(reset, _) => reset.row(),
+            Writes::Arm(arm) => {
+                let timeout = self.config.data_transfer_timeout;
+                let transfer = phase.transfer();
+                arm.row(timeout, transfer)
+            }
+            Writes::Open => Row {
+                register: Row::CLKCR,
+                value: rows::with_clken(line.clkcr, true),
+            },
+            Writes::Stop(stop) => stop.row(),
+            Writes::Gate => Row {
+                register: Row::CLKCR,
+                value: rows::with_clken(line.clkcr, false),
+            },
+        }
+    }
+
+    // A refusal: the reset rows come first.
+    fn refuses(self, phase: Phase, error: Error) -> Data
+        ensures { λ r. ⌜ ((ws : List ℕ) (h : Line) → next (dataPlan self phase ws r) h ≡ next (refusal self phase error) h) ⌝ }
+    {
+        Data::Tells(Writes::Reset(Reset::Mask, error))
+    }
+
+    // The idle wait, with so many polls.
+    fn idles(self, phase: Phase, polls: u32) -> Data
+        ensures { λ r. ⌜ ((ws : List ℕ) (h : Line) → next (dataPlan self phase ws r) h ≡ next (idling self phase polls) h) ⌝ }
+    {
+        if polls == 0 {
+            self.refuses(phase, Error::SoftwareTimeout)
+        } else {
+            let more = polls - 1;
+            Data::Asks(Reads::Idle(more))
+        }
+    }
+
+    // The polls, with so many left.
+    fn polls(self, phase: Phase, polls: u32) -> Data
+        ensures { λ r. ⌜ ((ws : List ℕ) (h : Line) → next (dataPlan self phase ws r) h ≡ next (polling self phase polls) h) ⌝ }
+    {
+        if polls == 0 {
+            self.refuses(phase, Error::SoftwareTimeout)
+        } else {
+            let more = polls - 1;
+            Data::Asks(Reads::First(more))
+        }
+    }
+
+    // A data phase at its start.
+    pub fn begin_data(self, phase: Phase) -> Data
+        ensures { λ r. ⌜ ((ws : List ℕ) (h : Line) → next (dataPlan self phase ws r) h ≡ next (phasePlan self phase) h) ⌝ }
+    {
+        let limit = self.config.poll_limit;
+        self.idles(phase, limit)
+    }
+
+    // The data command, which opens no gate of its own.
+    fn starts(self, phase: Phase) -> Data
+        ensures { λ r. ⌜ ((ws : List ℕ) (h : Line) → next (dataPlan self phase ws r) h ≡ next (toldPlan self phase ws Writes.Open) h) ⌝ }
+    {
+        let transfer = phase.transfer();
+        let limit = self.config.poll_limit;
+        let begun = Command::begin(limit, transfer.index, transfer.argument, Response::R1, false);
+        match begun {
+            Begun::On(command) => Data::Start(command),
+            Begun::Failed(error) => self.refuses(phase, error),
+        }
+    }
+
+    // The data command after an answer.
+    fn starting(self, phase: Phase, step: CommandStep) -> Data
+        ensures { λ r. ⌜ ((ws : List ℕ) (h : Line) → next (dataPlan self phase ws r) h ≡ plugNext (startSite self phase) (commandNext step h)) ⌝ }
+    {
+        match step {
+            CommandStep::On(command) => Data::Start(command),
+            CommandStep::Over(ended) => match ended {
+                Ended::Well(_) => self.polls(phase, self.config.poll_limit),
+                Ended::Badly(error) => self.refuses(phase, error),
+            },
+        }
+    }
+
+    // The closing ready wait after an answer.
+    fn waiting(self, phase: Phase, step: ReadyStep) -> DataStep
+        ensures { λ r. ⌜ ((ws : List ℕ) (h : Line) → dataNext self phase ws r h ≡ plugNext (ending self phase ws) (readyNext self step h)) ⌝ }
+    {
+        match step {
+            ReadyStep::On(ready) => DataStep::On(Data::Ready(ready)),
+            ReadyStep::Done => DataStep::Done,
+            ReadyStep::Failed(error) => DataStep::On(self.refuses(phase, error)),
+        }
+    }
+
+    // CMD12 after an answer.
+    fn stopping(self, phase: Phase, step: CommandStep) -> DataStep
+        ensures { λ r. ⌜ ((ws : List ℕ) (h : Line) → h .gated ≡ self .gated → dataNext self phase ws r h ≡ plugNext (stopSite self phase ws) (commandNext step h)) ⌝ }
+    {
+        match step {
+            CommandStep::On(command) => DataStep::On(Data::Stop(command)),
+            CommandStep::Over(ended) => match ended {
+                Ended::Well(_) => self.waiting(phase, self.wait_ready()),
+                Ended::Badly(error) => DataStep::On(self.refuses(phase, error)),
+            },
+        }
+    }
+
+    // After the row that closes the clock: CMD12 after CMD18, and the ready wait.
+    fn stops(self, phase: Phase) -> DataStep
+        ensures { λ r. ⌜ ((ws : List ℕ) (h : Line) → h .gated ≡ self .gated → dataNext self phase ws r h ≡ next (plug (gated self phase ws) (give tt)) h) ⌝ }
+    {
+        let transfer = phase.transfer();
+        if transfer.index != 18 {
+            return self.waiting(phase, self.wait_ready());
+        }
+        let limit = self.config.poll_limit;
+        let begun = Command::begin(limit, 12, 0, Response::R1, self.gated);
+        match begun {
+            Begun::On(command) => DataStep::On(Data::Stop(command)),
+            Begun::Failed(error) => DataStep::On(self.refuses(phase, error)),
+        }
+    }
+
+    // After the rows that stop the data path: the clock is closed where it is gated.
+    fn closes(self, phase: Phase) -> DataStep
+        ensures { λ r. ⌜ ((ws : List ℕ) (h : Line) → h .gated ≡ self .gated → dataNext self phase ws r h ≡ next (stopped self phase ws) h) ⌝ }
+    {
+        if self.gated {
+            DataStep::On(Data::Tells(Writes::Gate))
+        } else {
+            self.stops(phase)
+        }
+    }
+
+    // After a row.
+    fn goes(self, phase: Phase, writes: Writes) -> DataStep
+        ensures { λ r. ⌜ ((ws : List ℕ) (h : Line) → h .gated ≡ self .gated → dataNext self phase ws r h ≡ next (toldPlan self phase ws writes) h) ⌝ }
+    {
+        match writes {
+            Writes::Reset(reset, error) => {
+                let step = reset.after();
+                match step {
+                    ResetStep::At(reset) => DataStep::On(Data::Tells(Writes::Reset(reset, error))),
+                    ResetStep::Done => DataStep::Failed(error),
+                }
+            }
+            Writes::Arm(arm) => {
+                let step = arm.after();
+                match step {
+                    ArmStep::At(arm) => DataStep::On(Data::Tells(Writes::Arm(arm))),
+                    ArmStep::Done => DataStep::On(Data::Tells(Writes::Open)),
+                }
+            }
+            Writes::Open => DataStep::On(self.starts(phase)),
+            Writes::Stop(stop) => {
+                let step = stop.after();
+                match step {
+                    StopStep::At(stop) => DataStep::On(Data::Tells(Writes::Stop(stop))),
+                    StopStep::Done => self.closes(phase),
+                }
+            }
+            Writes::Gate => self.stops(phase),
+        }
+    }
+
+    // After a data word: the next one, or the rows that stop the data path.
+    fn takes(self, phase: Phase, after: u16) -> Data
+        ensures { λ r. ⌜ ((ws ws′ : List ℕ) (h : Line) (word : ℕ) → Handed (readingAt phase (Reads.Word after)) word ws ws′ → next (dataPlan self phase ws′ r) h ≡ heard (next (readsPlan self phase ws (Reads.Word after)) h) word) ⌝ }
+    {
+        let place = phase.place(after);
+        let top = phase.top();
+        if place < top {
+            let more = top - place - 1;
+            Data::Asks(Reads::Word(more))
+        } else {
+            Data::Tells(Writes::Stop(Stop::Mask))
+        }
+    }
+
+    // After the status word that opens a poll.
+    fn opens(self, phase: Phase, more: u32, word: u32) -> Data
+        ensures { λ r. ⌜ ((ws : List ℕ) (h : Line) → next (dataPlan self phase ws r) h ≡ heard (next (readsPlan self phase ws (Reads.First more)) h) word) ⌝ }
+    {
+        let answer = status::data_error(word);
+        match answer {
+            DataAnswer::Clean => Data::Asks(Reads::FirstDma(more, word)),
+            DataAnswer::Failed(error) => self.refuses(phase, error),
+        }
+    }
+
+    // After its DMA word: while the channel runs it polls on.
+    fn runs(self, phase: Phase, more: u32, status: u32, word: u32) -> Data
+        ensures { λ r. ⌜ ((ws : List ℕ) (h : Line) → next (dataPlan self phase ws r) h ≡ heard (next (readsPlan self phase ws (Reads.FirstDma more status)) h) word) ⌝ }
+    {
+        if word & Dma::ERROR != 0 {
+            return self.refuses(phase, Error::Dma);
+        }
+        if word & Dma::RUNNING != 0 {
+            self.polls(phase, more)
+        } else {
+            Data::Asks(Reads::Again(more))
+        }
+    }
+
+    // After the second status word.
+    fn looks(self, phase: Phase, more: u32, word: u32) -> Data
+        ensures { λ r. ⌜ ((ws : List ℕ) (h : Line) → next (dataPlan self phase ws r) h ≡ heard (next (readsPlan self phase ws (Reads.Again more)) h) word) ⌝ }
+    {
+        let answer = status::data_error(word);
+        match answer {
+            DataAnswer::Clean => Data::Asks(Reads::AgainDma(more, word)),
+            DataAnswer::Failed(error) => self.refuses(phase, error),
+        }
+    }
+
+    // After the second DMA word: while the status says that the transfer is not over it polls on.
+    fn settles(self, phase: Phase, more: u32, status: u32, word: u32) -> Data
+        ensures { λ r. ⌜ ((ws : List ℕ) (h : Line) → next (dataPlan self phase ws r) h ≡ heard (next (readsPlan self phase ws (Reads.AgainDma more status)) h) word) ⌝ }
+    {
+        if word & Dma::ERROR != 0 {
+            return self.refuses(phase, Error::Dma);
+        }
+        if unfinished(status) {
+            return self.polls(phase, more);
+        }
+        if word % Dma::REMAINING == 0 {
+            Data::Asks(Reads::Count(more))
+        } else {
+            self.refuses(phase, Error::IncompleteTransfer)
+        }
+    }
+
+    // After DCOUNT: the data words.
+    fn counts(self, phase: Phase, more: u32, word: u32) -> Data
+        ensures { λ r. ⌜ ((ws : List ℕ) (h : Line) → next (dataPlan self phase ws r) h ≡ heard (next (readsPlan self phase ws (Reads.Count more)) h) word) ⌝ }
+    {
+        if word == 0 {
+            let top = phase.top();
+            Data::Asks(Reads::Word(top))
+        } else {
+            self.refuses(phase, Error::IncompleteTransfer)
+        }
+    }
+
+    // After the word that a reading asked for.
+    fn hears(self, phase: Phase, reads: Reads, word: u32) -> Data
+        ensures { λ r. ⌜ ((ws ws′ : List ℕ) (h : Line) → Handed (readingAt phase reads) word ws ws′ → next (dataPlan self phase ws′ r) h ≡ heard (next (readsPlan self phase ws reads) h) word) ⌝ }
+    {
+        match reads {
+            Reads::Idle(more) => {
+                if word & Sta::BUSY == 0 {
+                    Data::Tells(Writes::Arm(Arm::Dctrl2))
+                } else {
+                    self.idles(phase, more)
+                }
+            }
+            Reads::First(more) => self.opens(phase, more, word),
+            Reads::FirstDma(more, status) => self.runs(phase, more, status, word),
+            Reads::Again(more) => self.looks(phase, more, word),
+            Reads::AgainDma(more, status) => self.settles(phase, more, status, word),
+            Reads::Count(more) => self.counts(phase, more, word),
+            Reads::Word(after) => self.takes(phase, after),
+        }
+    }
+}
+
+impl Data {
+    // What it waits for.
+    pub fn wants(self, bus: Bus, phase: Phase, line: Line) -> Wants
+        ensures { λ r. ⌜ ((ws : List ℕ) → r ≡ wantOf (next (dataPlan bus phase ws self) line)) ⌝ }
+    {
+        match self {
+            Data::Asks(reads) => Wants::Read(phase.reading(reads)),
+            Data::Tells(writes) => Wants::Write(bus.row(phase, line, writes)),
+            Data::Start(command) => command.wants(line),
+            Data::Stop(command) => command.wants(line),
+            Data::Ready(ready) => ready.wants(bus, line),
+        }
+    }
+
+    // After the word that it asked for; unasked, as it was.
+    pub fn fed(self, bus: Bus, phase: Phase, word: u32) -> DataStep
+        ensures { λ r. ⌜ ((ws ws′ : List ℕ) (h : Line) → h .gated ≡ bus .gated → HandedAt phase self word ws ws′ → dataNext bus phase ws′ r h ≡ heard (next (dataPlan bus phase ws self) h) word) ⌝ }
+    {
+        match self {
+            Data::Asks(reads) => DataStep::On(bus.hears(phase, reads, word)),
+            Data::Tells(_) => DataStep::On(self),
+            Data::Start(command) => DataStep::On(bus.starting(phase, command.fed(word))),
+            Data::Stop(command) => bus.stopping(phase, command.fed(word)),
+            Data::Ready(ready) => bus.waiting(phase, ready.fed(bus, word)),
+        }
+    }
+
+    // After its row was written; with none to write, as it was.
+    pub fn went(self, bus: Bus, phase: Phase) -> DataStep
+        ensures { λ r. ⌜ ((ws : List ℕ) (h : Line) → h .gated ≡ bus .gated → dataNext bus phase ws r (lineAfter (next (dataPlan bus phase ws self) h)) ≡ told (next (dataPlan bus phase ws self) h)) ⌝ }
+    {
+        match self {
+            Data::Asks(_) => DataStep::On(self),
+            Data::Tells(writes) => bus.goes(phase, writes),
+            Data::Start(command) => DataStep::On(bus.starting(phase, command.went())),
+            Data::Stop(command) => bus.stopping(phase, command.went()),
+            Data::Ready(ready) => bus.waiting(phase, ready.went(bus)),
+        }
+    }
+}
