@@ -31,7 +31,7 @@ use Rattle.step.specs.Rows.{rowsFrom, resetRows, armRows, stopRows}
 use Rattle.step.specs.Reset.{resetRow, restLeft, rowsLeft, stepLeft, all-rows}
 use Rattle.step.specs.Arm.{armRow, armRest, armLeft, armNext, all-arm, stopRow, stopRest, stopLeft, stopNext, all-stop}
 use Rattle.step.specs.Ready.{limitAt, readyPlan, readyNext}
-use Rattle.step.specs.Transfer.{transferOf, topOf, placeOf, afterOf, allOf, readingAt, phasePlan, guarded, received, started, armed, startSite, ending, stopping, gated, stopSite, closing, refusal, idling, polling, taking, readsPlan, stopped, writesPlan, rowAt, toldPlan, dataPlan, dataNext}
+use Rattle.step.specs.Transfer.{transferOf, topOf, placeOf, afterOf, allOf, readingAt, phasePlan, guarded, received, started, armed, startSite, ending, stopping, unclocked, stopSite, closing, refusal, idling, polling, taking, readsPlan, stopped, writesPlan, rowAt, toldPlan, dataPlan, dataNext}
 use Rattle.step.specs.declared.arm.Arm.{Arm}
 use Rattle.step.specs.declared.arm.Arm.the-variants as Ar
 use Rattle.step.specs.declared.arm.ArmStep.the-variants as ArS
@@ -120,11 +120,11 @@ module _ (bus : Bus) (phase : Phase) (h : Line) where
       same-plug (startSite bus phase) _ _ h
       (e ∙ ap (λ (p : Plan (List ℕ)). next p h) (parts.begins-inner (limitAt bus) (transferOf phase .index) (transferOf phase .argument) R1))
 
-  pub starts-failed : (ws : List ℕ) (x : Error) → begunNext (B.Failed x) h ≡ next (begunPlan (limitAt bus) (transferOf phase .index) (transferOf phase .argument) R1 false) h
-      → next (refusal bus phase x) h ≡ next (toldPlan bus phase ws W.Open) h
+  pub starts-failed : (ws : List ℕ) → begunNext B.Spent h ≡ next (begunPlan (limitAt bus) (transferOf phase .index) (transferOf phase .argument) R1 false) h
+      → next (refusal bus phase E.SoftwareTimeout) h ≡ next (toldPlan bus phase ws W.Open) h
   unfolding refusal toldPlan begunNext startSite handle plug
-  starts-failed ws x e =
-      same-plug (startSite bus phase) (fail x) _ h
+  starts-failed ws e =
+      same-plug (startSite bus phase) (fail E.SoftwareTimeout) _ h
       (e ∙ ap (λ (p : Plan (List ℕ)). next p h) (parts.begins-inner (limitAt bus) (transferOf phase .index) (transferOf phase .argument) R1))
 
   pub starting-on : (ws : List ℕ) (c : Command) → next (dataPlan bus phase ws (D.Start c)) h ≡ plugNext (startSite bus phase) (commandNext (C.On c) h)
@@ -169,32 +169,32 @@ module _ (bus : Bus) (phase : Phase) (h : Line) where
   stopping-badly ws e = refl
 
   pub stops-other : (ws : List ℕ) → eqb (transferOf phase .index) 18 ≡ false
-      → plugNext (ending bus phase ws) (next ready h) ≡ next (plug (gated bus phase ws) (give tt)) h
-  unfolding gated stopTransmission handle plug
+      → plugNext (ending bus phase ws) (next ready h) ≡ next (plug (unclocked bus phase ws) (give tt)) h
+  unfolding unclocked stopTransmission handle plug
   stops-other ws e = rw e (sym (next-plug (ending bus phase ws) ready h))
 
-  module _ (ws : List ℕ) (gate : h .gated ≡ bus .gated) where
+  module _ (ws : List ℕ) (gated : Bool) (gate : h .gated ≡ gated) where
     stops : eqb (transferOf phase .index) 18 ≡ true
-        → next (plug (stopSite bus phase ws) (begunPlan (limitAt bus) 12 0 R1 (bus .gated))) h ≡ next (plug (gated bus phase ws) (give tt)) h
-    unfolding gated stopSite stopTransmission handle plug
-    stops e = same-plug (stopSite bus phase ws) _ _ h (parts.begins (limitAt bus) 12 0 R1 (bus .gated) h (sym gate)) ∙ rw e
+        → next (plug (stopSite bus phase ws) (begunPlan (limitAt bus) 12 0 R1 gated)) h ≡ next (plug (unclocked bus phase ws) (give tt)) h
+    unfolding unclocked stopSite stopTransmission handle plug
+    stops e = same-plug (stopSite bus phase ws) _ _ h (parts.begins (limitAt bus) 12 0 R1 gated h (sym gate)) ∙ rw e
 
-    pub stops-on : (c : Command) → eqb (transferOf phase .index) 18 ≡ true → begunNext (B.On c) h ≡ next (begunPlan (limitAt bus) 12 0 R1 (bus .gated)) h
-        → next (dataPlan bus phase ws (D.Stop c)) h ≡ next (plug (gated bus phase ws) (give tt)) h
+    pub stops-on : (c : Command) → eqb (transferOf phase .index) 18 ≡ true → begunNext (B.On c) h ≡ next (begunPlan (limitAt bus) 12 0 R1 gated) h
+        → next (dataPlan bus phase ws (D.Stop c)) h ≡ next (plug (unclocked bus phase ws) (give tt)) h
     unfolding dataPlan begunNext
     stops-on c e b = same-plug (stopSite bus phase ws) _ _ h b ∙ stops e
 
-    pub stops-failed : (x : Error) → eqb (transferOf phase .index) 18 ≡ true → begunNext (B.Failed x) h ≡ next (begunPlan (limitAt bus) 12 0 R1 (bus .gated)) h
-        → next (refusal bus phase x) h ≡ next (plug (gated bus phase ws) (give tt)) h
+    pub stops-failed : eqb (transferOf phase .index) 18 ≡ true → begunNext B.Spent h ≡ next (begunPlan (limitAt bus) 12 0 R1 gated) h
+        → next (refusal bus phase E.SoftwareTimeout) h ≡ next (plug (unclocked bus phase ws) (give tt)) h
     unfolding begunNext refusal stopSite ending handle plug
-    stops-failed x e b = same-plug (stopSite bus phase ws) (fail x) _ h b ∙ stops e
+    stops-failed e b = same-plug (stopSite bus phase ws) (fail E.SoftwareTimeout) _ h b ∙ stops e
 
-    pub closes-gated : bus .gated ≡ true → telling ws W.Gate ≡ next (stopped bus phase ws) h
-    unfolding writesPlan gated ending stopped rowsFrom closeGate handle plug next
+    pub closes-gated : gated ≡ true → telling ws W.Gate ≡ next (stopped bus phase ws) h
+    unfolding writesPlan unclocked ending stopped rowsFrom closeGate handle plug next
     closes-gated e = rw (gate ∙ e)
 
-    pub closes-open : bus .gated ≡ false → next (plug (gated bus phase ws) (give tt)) h ≡ next (stopped bus phase ws) h
-    unfolding gated ending stopped rowsFrom closeGate handle plug next
+    pub closes-open : gated ≡ false → next (plug (unclocked bus phase ws) (give tt)) h ≡ next (stopped bus phase ws) h
+    unfolding unclocked ending stopped rowsFrom closeGate handle plug next
     closes-open e = rw (gate ∙ e)
 
   -- after a row
@@ -381,7 +381,7 @@ module _ (bus : Bus) (phase : Phase) (ws : List ℕ) (h : Line) where
     after : next (toldPlan bus phase ws t) (noted (rowAt bus phase h t) h) ≡ next rest (noted (rowAt bus phase h t) h)
 
   rowed : (t : Writes) → Rowed t
-  unfolding writesPlan toldPlan rowAt gated ending startSite rowsFrom setClken row handle plug next
+  unfolding writesPlan toldPlan rowAt unclocked ending startSite rowsFrom setClken row handle plug next
   rowed (W.Reset r e) = record { rest = _; same = refl; after = refl }
   rowed (W.Arm a) = record { rest = _; same = refl; after = refl }
   rowed W.Open = record { rest = _; same = refl; after = refl }

@@ -37,20 +37,20 @@ module _ (bus : Bus) (h : Line) where
   unfolding attempts until handle next
   attempt-over = refl
 
-  module _ (n : ℕ) (gate : h .gated ≡ bus .gated) where
-    begins : next (plug (asked bus n) (begunPlan (limitAt bus) 13 (bus .rca * 2 ^ 16) R1 (bus .gated))) h ≡ next (attempts bus (suc n)) h
+  module _ (n : ℕ) (gated : Bool) (gate : h .gated ≡ gated) where
+    begins : next (plug (asked bus n) (begunPlan (limitAt bus) 13 (bus .rca * 2 ^ 16) R1 gated)) h ≡ next (attempts bus (suc n)) h
     unfolding asked attempts until tryReady readStatus handle plug
-    begins = same-plug (asked bus n) _ _ h (parts.begins (limitAt bus) 13 (bus .rca * 2 ^ 16) R1 (bus .gated) h (sym gate))
+    begins = same-plug (asked bus n) _ _ h (parts.begins (limitAt bus) 13 (bus .rca * 2 ^ 16) R1 gated h (sym gate))
 
-    pub attempt-on : (c : Command) → begunNext (B.On c) h ≡ next (begunPlan (limitAt bus) 13 (bus .rca * 2 ^ 16) R1 (bus .gated)) h
+    pub attempt-on : (c : Command) → begunNext (B.On c) h ≡ next (begunPlan (limitAt bus) 13 (bus .rca * 2 ^ 16) R1 gated) h
         → next (readyPlan bus (R.Asks n c)) h ≡ next (attempts bus (suc n)) h
     unfolding readyPlan begunNext
     attempt-on c e = same-plug (asked bus n) _ _ h e ∙ begins
 
-    pub attempt-failed : (e : Error) → begunNext (B.Failed e) h ≡ next (begunPlan (limitAt bus) 13 (bus .rca * 2 ^ 16) R1 (bus .gated)) h
-        → refused h (failed e) ≡ next (attempts bus (suc n)) h
+    pub attempt-failed : begunNext B.Spent h ≡ next (begunPlan (limitAt bus) 13 (bus .rca * 2 ^ 16) R1 gated) h
+        → refused h (failed E.SoftwareTimeout) ≡ next (attempts bus (suc n)) h
     unfolding begunNext asked handle plug next
-    attempt-failed x e = same-plug (asked bus n) (fail x) (begunPlan (limitAt bus) 13 (bus .rca * 2 ^ 16) R1 (bus .gated)) h e ∙ begins
+    attempt-failed e = same-plug (asked bus n) (fail E.SoftwareTimeout) (begunPlan (limitAt bus) 13 (bus .rca * 2 ^ 16) R1 gated) h e ∙ begins
 
   pub wait-begins : next (attempts bus (bus .config .«card_ready_attempts»)) h ≡ next (waitReady (bus .source .0) (bus .config) (bus .rca)) h
   unfolding attempts waitReady

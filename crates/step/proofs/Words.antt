@@ -4,12 +4,13 @@ use mathlib.Core.Path.{_≡_, refl, ap, sym, _∙_}
 use mathlib.Core.List.{List, [], _∷_, _++_, append-assoc}
 use native.Mathlib.Omega.{arith}
 use lib.ListN.{take, set, length, length-append, length-take}
+use borrow.Author.Tests.{lt-ltb}
 use lib.Seq.{take-all}
 use Rattle.tape.specs.declared.script.Reading.{Reading}
 use Rattle.tape.specs.declared.script.Reading.the-variants as Reading
 use Rattle.tape.specs.Plan.{Plan, failed, ended, give, refuse, read, write, look, hold, handle}
 use Rattle.step.specs.Next.{Handed, handed}
-use Rattle.step.specs.Transfer.{blocksOf, transferOf, placeOf}
+use Rattle.step.specs.Transfer.{blocksOf, transferOf, placeOf, wordsBy, putAt, keptBy}
 use Rattle.step.specs.declared.transfer.Phase.{Phase}
 use Rattle.step.specs.declared.transfer.Phase.the-variants as P
 
@@ -77,3 +78,8 @@ some-words (P.Blocks a n) = omega arith
 -- a place is one of the transfer's
 pub place-fits : (p : Phase) (m : ℕ) → placeOf p m < transferOf p .words
 place-fits p m = let some = some-words p in omega arith
+
+-- a word that is kept, and one that was handed out
+pub put-more : (held : List ℕ) (k w : ℕ) → k < 16 → length held ≡ 16 → take (k + 1) (putAt held k w) ≡ take k held ++ (w ∷ [])
+unfolding putAt
+put-more held k w small long = rw (lt-ltb _ _ small) (held-more k w held (omega arith))

@@ -4,8 +4,8 @@ use Prim.Native.Nat.{ℕ, suc, _+_, _-_, _*_, _%_, _^_, min}
 use mathlib.Core.Path.{_≡_}
 use mathlib.Core.Bool.{Bool, cond, not, true, false, _||_}
 use mathlib.Core.List.{List, [], _++_}
-use lib.Dec.{eqb}
-use lib.ListN.{take}
+use lib.Dec.{eqb, ltb}
+use lib.ListN.{take, set}
 use Rattle.types.specs.Bits.{clear}
 use Rattle.types.specs.declared.error.Error.{Error}
 use Rattle.types.specs.declared.error.Error.the-variants as E
@@ -68,6 +68,25 @@ afterOf p m = topOf p - placeOf p m
 -- all its words
 abbrev pub allOf : Phase → List ℕ → List ℕ
 allOf p ws = take (transferOf p .words) ws
+
+-- the words so far, where g were handed out: a read's are those, the others a call keeps itself
+unfoldable pub wordsBy : Phase → List ℕ → List ℕ → List ℕ
+wordsBy P.Scr held g = held
+wordsBy P.Check held g = held
+wordsBy P.Switch held g = held
+wordsBy P.Status held g = held
+wordsBy (P.Blocks a n) held g = g
+
+-- what it keeps after a word at place k: sixteen words have room for it
+unfoldable pub putAt : List ℕ → ℕ → ℕ → List ℕ
+putAt held k w = cond (ltb k 16) (set held k w) held
+
+unfoldable pub keptBy : Phase → ℕ → List ℕ → ℕ → List ℕ
+keptBy P.Scr k held w = putAt held k w
+keptBy P.Check k held w = putAt held k w
+keptBy P.Switch k held w = putAt held k w
+keptBy P.Status k held w = putAt held k w
+keptBy (P.Blocks a n) k held w = held
 
 -- what each of its readings reads
 unfoldable pub readingAt : Phase → Reads → Reading
@@ -133,8 +152,8 @@ module _ (bus : Bus) (phase : Phase) where
   stopping ws =
       andThen (λ _. closeGate then λ _. stopTransmission limit (transfer .index) then λ _. waitReady source config (bus .rca)) (ending ws)
 
-  unfoldable pub gated : List ℕ → Context (List ℕ) Nothing
-  gated ws = andThen (λ _. stopTransmission limit (transfer .index) then λ _. waitReady source config (bus .rca)) (ending ws)
+  unfoldable pub unclocked : List ℕ → Context (List ℕ) Nothing
+  unclocked ws = andThen (λ _. stopTransmission limit (transfer .index) then λ _. waitReady source config (bus .rca)) (ending ws)
 
   unfoldable pub stopSite : List ℕ → Context (List ℕ) (List ℕ)
   stopSite ws = andThen (λ _. give (tt {0})) (andThen (λ _. waitReady source config (bus .rca)) (ending ws))
@@ -197,7 +216,7 @@ module _ (bus : Bus) (phase : Phase) where
   writesPlan ws (W.Arm a) = plug armed (rowsFrom (armLeft (config .«data_transfer_timeout») transfer a))
   writesPlan ws W.Open = opening
   writesPlan ws (W.Stop s) = plug (stopping ws) (rowsFrom (stopLeft s))
-  writesPlan ws W.Gate = plug (gated ws) (setClken false)
+  writesPlan ws W.Gate = plug (unclocked ws) (setClken false)
 
   -- its row, and what is ahead once it is written
   unfoldable pub rowAt : Line → Writes → Row
@@ -212,7 +231,7 @@ module _ (bus : Bus) (phase : Phase) where
   toldPlan ws (W.Arm a) = plug armed (rowsFrom (armRest (config .«data_transfer_timeout») transfer a))
   toldPlan ws W.Open = plug startSite (commandInner limit (transfer .index) (transfer .argument) R1)
   toldPlan ws (W.Stop s) = plug (stopping ws) (rowsFrom (stopRest s))
-  toldPlan ws W.Gate = plug (gated ws) (give tt)
+  toldPlan ws W.Gate = plug (unclocked ws) (give tt)
 
   unfoldable pub dataPlan : List ℕ → Data → Plan (List ℕ)
   dataPlan ws (D.Asks r) = readsPlan ws r
@@ -233,3 +252,20 @@ HandedAt p (D.Tells t) w ws ws′ = ws′ ≡ ws
 HandedAt p (D.Start c) w ws ws′ = ws′ ≡ ws
 HandedAt p (D.Stop c) w ws ws′ = ws′ ≡ ws
 HandedAt p (D.Ready r) w ws ws′ = ws′ ≡ ws
+
+-- what a call keeps after the word w
+unfoldable pub heldAfter : Phase → Reads → List ℕ → ℕ → List ℕ
+heldAfter p (R.Idle n) held w = held
+heldAfter p (R.First n) held w = held
+heldAfter p (R.FirstDma n v) held w = held
+heldAfter p (R.Again n) held w = held
+heldAfter p (R.AgainDma n v) held w = held
+heldAfter p (R.Count n) held w = held
+heldAfter p (R.Word m) held w = keptBy p (placeOf p m) held w
+
+unfoldable pub heldBy : Phase → Data → List ℕ → ℕ → List ℕ
+heldBy p (D.Asks r) held w = heldAfter p r held w
+heldBy p (D.Tells t) held w = held
+heldBy p (D.Start c) held w = held
+heldBy p (D.Stop c) held w = held
+heldBy p (D.Ready r) held w = held

@@ -23,12 +23,11 @@ use types::config::Config;
 use types::error::Error;
 use types::status::CardStatus;
 
-// What the steps behind a command go by: the source clock, the limits, the card's address, and whether the clock is gated.
+// What a step goes by: the source clock, the limits, and the card's address.
 pub struct Bus {
     pub source: Hertz,
     pub config: Config,
     pub rca: u16,
-    pub gated: bool,
 }
 
 // A ready wait under way, with so many attempts left after this one: CMD13, or the delay behind it.
@@ -45,9 +44,9 @@ pub enum ReadyStep {
 }
 
 impl Bus {
-    // The wait with so many attempts.
-    fn attempt(self, left: u32) -> ReadyStep
-        ensures { λ r. ⌜ ((h : Line) → h .gated ≡ self .gated → readyNext self r h ≡ next (attempts self left) h) ⌝ }
+    // The wait with so many attempts, where the clock is gated or not.
+    fn attempt(self, gated: bool, left: u32) -> ReadyStep
+        ensures { λ r. ⌜ ((h : Line) → h .gated ≡ gated → readyNext self r h ≡ next (attempts self left) h) ⌝ }
     {
         if left == 0 {
             return ReadyStep::Failed(Error::SoftwareTimeout);
@@ -55,19 +54,19 @@ impl Bus {
         let more = left - 1;
         let limit = self.config.poll_limit;
         let argument = self.rca as u32 * 0x1_0000;
-        let begun = Command::begin(limit, 13, argument, Response::R1, self.gated);
+        let begun = Command::begin(limit, 13, argument, Response::R1, gated);
         match begun {
             Begun::On(command) => ReadyStep::On(Ready::Asks(more, command)),
-            Begun::Failed(error) => ReadyStep::Failed(error),
+            Begun::Spent => ReadyStep::Failed(Error::SoftwareTimeout),
         }
     }
 
     // The wait at its start.
-    pub fn wait_ready(self) -> ReadyStep
-        ensures { λ r. ⌜ ((h : Line) → h .gated ≡ self .gated → readyNext self r h ≡ next (waitReady (self .source .0) (self .config) (self .rca)) h) ⌝ }
+    pub fn wait_ready(self, gated: bool) -> ReadyStep
+        ensures { λ r. ⌜ ((h : Line) → h .gated ≡ gated → readyNext self r h ≡ next (waitReady (self .source .0) (self .config) (self .rca)) h) ⌝ }
     {
         let left = self.config.card_ready_attempts;
-        self.attempt(left as u32)
+        self.attempt(gated, left as u32)
     }
 
     // The card's status came.
@@ -124,12 +123,12 @@ impl Ready {
     }
 
     // After its row was written; with none to write, as it was.
-    pub fn went(self, bus: Bus) -> ReadyStep
-        ensures { λ r. ⌜ ((h : Line) → h .gated ≡ bus .gated → readyNext bus r (lineAfter (next (readyPlan bus self) h)) ≡ told (next (readyPlan bus self) h)) ⌝ }
+    pub fn went(self, bus: Bus, gated: bool) -> ReadyStep
+        ensures { λ r. ⌜ ((h : Line) → h .gated ≡ gated → readyNext bus r (lineAfter (next (readyPlan bus self) h)) ≡ told (next (readyPlan bus self) h)) ⌝ }
     {
         match self {
             Ready::Asks(left, command) => bus.asking(left, command.went()),
-            Ready::Delay(left) => bus.attempt(left),
+            Ready::Delay(left) => bus.attempt(gated, left),
         }
     }
 }

@@ -1,9 +1,10 @@
 // A data phase, answer by answer: the idle wait, the rows that ready the data path, the command, the polls, the data words, the
 // rows that stop it, CMD12 after CMD18, and the ready wait; and the reset rows of its guard.
 ghost use mathlib.Core.Path.{_≡_};
-ghost use mathlib.Core.List.{List};
+ghost use mathlib.Core.List.{List, [], _∷_, _++_};
 ghost use mathlib.Core.Bool.{not, _||_};
-ghost use Prim.Native.Nat.{ℕ};
+ghost use Prim.Native.Nat.{ℕ, _+_, _<_};
+ghost use lib.ListN.{length, take};
 ghost use Rattle.types.specs.Bits.{clear};
 ghost use Rattle.tape.specs.declared.progress.Line.{Line};
 ghost use Rattle.tape.specs.Plan.{give};
@@ -11,7 +12,7 @@ ghost use Rattle.step.specs.Next.{next, wantOf, heard, told, lineAfter, 
 ghost use Rattle.step.specs.Context.{plug, plugNext};
 ghost use Rattle.step.specs.Command.{commandNext};
 ghost use Rattle.step.specs.Ready.{readyNext};
-ghost use Rattle.step.specs.Transfer.{blocksOf, transferOf, topOf, placeOf, phasePlan, refusal, idling, polling, startSite, stopSite, ending, stopped, gated, readsPlan, readingAt, writesPlan, toldPlan, rowAt, dataPlan, dataNext, HandedAt};
+ghost use Rattle.step.specs.Transfer.{blocksOf, transferOf, topOf, placeOf, wordsBy, putAt, keptBy, heldBy, phasePlan, refusal, idling, polling, startSite, stopSite, ending, stopped, unclocked, readsPlan, readingAt, writesPlan, toldPlan, rowAt, dataPlan, dataNext, HandedAt};
 use crate::arm::Arm;
 use crate::arm::ArmStep;
 use crate::arm::Stop;
@@ -92,6 +93,19 @@ fn unfinished(status: u32) -> bool
     } else {
         status & Sta::TRANSFER != 0
     }
+}
+
+// Sixteen words with another one at this place.
+fn put(held: [u32; 16], place: u16, word: u32) -> [u32; 16]
+    ensures set { λ r. ⌜ r ≡ putAt held place word ⌝ }
+    ensures long { λ r. ⌜ length held ≡ 16 ⌝ }
+{
+    let mut words = held;
+    let k = place as usize;
+    if k < 16 {
+        words[k] = word;
+    }
+    words
 }
 
 // 1 to 511 blocks.
@@ -175,6 +189,20 @@ impl Phase {
     {
         let top = self.top();
         if after < top { top - after } else { 0 }
+    }
+
+    // The words that a call keeps, with the one at this place; a read's are not kept.
+    fn kept(self, place: u16, held: [u32; 16], word: u32) -> [u32; 16]
+        ensures set { λ r. ⌜ r ≡ keptBy self place held word ⌝ }
+        ensures more { λ r. ⌜ ((g g′ : List ℕ) → place < transferOf self .words → Handed (Reading.Data place) word g g′ → take (place + 1) (wordsBy self (keptBy self place held word) g′) ≡ take place (wordsBy self held g) ++ (word ∷ [])) ⌝ }
+    {
+        match self {
+            Phase::Scr => put(held, place, word),
+            Phase::Check => put(held, place, word),
+            Phase::Switch => put(held, place, word),
+            Phase::Status => put(held, place, word),
+            Phase::Blocks(_, _) => held,
+        }
     }
 
     // What a reading of it reads.
@@ -268,7 +296,7 @@ impl Bus {
         let begun = Command::begin(limit, transfer.index, transfer.argument, Response::R1, false);
         match begun {
             Begun::On(command) => Data::Start(command),
-            Begun::Failed(error) => self.refuses(phase, error),
+            Begun::Spent => self.refuses(phase, Error::SoftwareTimeout),
         }
     }
 
@@ -297,48 +325,48 @@ impl Bus {
     }
 
     // CMD12 after an answer.
-    fn stopping(self, phase: Phase, step: CommandStep) -> DataStep
-        ensures { λ r. ⌜ ((ws : List ℕ) (h : Line) → h .gated ≡ self .gated → dataNext self phase ws r h ≡ plugNext (stopSite self phase ws) (commandNext step h)) ⌝ }
+    fn stopping(self, phase: Phase, gated: bool, step: CommandStep) -> DataStep
+        ensures { λ r. ⌜ ((ws : List ℕ) (h : Line) → h .gated ≡ gated → dataNext self phase ws r h ≡ plugNext (stopSite self phase ws) (commandNext step h)) ⌝ }
     {
         match step {
             CommandStep::On(command) => DataStep::On(Data::Stop(command)),
             CommandStep::Over(ended) => match ended {
-                Ended::Well(_) => self.waiting(phase, self.wait_ready()),
+                Ended::Well(_) => self.waiting(phase, self.wait_ready(gated)),
                 Ended::Badly(error) => DataStep::On(self.refuses(phase, error)),
             },
         }
     }
 
     // After the row that closes the clock: CMD12 after CMD18, and the ready wait.
-    fn stops(self, phase: Phase) -> DataStep
-        ensures { λ r. ⌜ ((ws : List ℕ) (h : Line) → h .gated ≡ self .gated → dataNext self phase ws r h ≡ next (plug (gated self phase ws) (give tt)) h) ⌝ }
+    fn stops(self, phase: Phase, gated: bool) -> DataStep
+        ensures { λ r. ⌜ ((ws : List ℕ) (h : Line) → h .gated ≡ gated → dataNext self phase ws r h ≡ next (plug (unclocked self phase ws) (give tt)) h) ⌝ }
     {
         let transfer = phase.transfer();
         if transfer.index != 18 {
-            return self.waiting(phase, self.wait_ready());
+            return self.waiting(phase, self.wait_ready(gated));
         }
         let limit = self.config.poll_limit;
-        let begun = Command::begin(limit, 12, 0, Response::R1, self.gated);
+        let begun = Command::begin(limit, 12, 0, Response::R1, gated);
         match begun {
             Begun::On(command) => DataStep::On(Data::Stop(command)),
-            Begun::Failed(error) => DataStep::On(self.refuses(phase, error)),
+            Begun::Spent => DataStep::On(self.refuses(phase, Error::SoftwareTimeout)),
         }
     }
 
     // After the rows that stop the data path: the clock is closed where it is gated.
-    fn closes(self, phase: Phase) -> DataStep
-        ensures { λ r. ⌜ ((ws : List ℕ) (h : Line) → h .gated ≡ self .gated → dataNext self phase ws r h ≡ next (stopped self phase ws) h) ⌝ }
+    fn closes(self, phase: Phase, gated: bool) -> DataStep
+        ensures { λ r. ⌜ ((ws : List ℕ) (h : Line) → h .gated ≡ gated → dataNext self phase ws r h ≡ next (stopped self phase ws) h) ⌝ }
     {
-        if self.gated {
+        if gated {
             DataStep::On(Data::Tells(Writes::Gate))
         } else {
-            self.stops(phase)
+            self.stops(phase, gated)
         }
     }
 
     // After a row.
-    fn goes(self, phase: Phase, writes: Writes) -> DataStep
-        ensures { λ r. ⌜ ((ws : List ℕ) (h : Line) → h .gated ≡ self .gated → dataNext self phase ws r h ≡ next (toldPlan self phase ws writes) h) ⌝ }
+    fn goes(self, phase: Phase, gated: bool, writes: Writes) -> DataStep
+        ensures { λ r. ⌜ ((ws : List ℕ) (h : Line) → h .gated ≡ gated → dataNext self phase ws r h ≡ next (toldPlan self phase ws writes) h) ⌝ }
     {
         match writes {
             Writes::Reset(reset, error) => {
@@ -360,10 +388,10 @@ impl Bus {
                 let step = stop.after();
                 match step {
                     StopStep::At(stop) => DataStep::On(Data::Tells(Writes::Stop(stop))),
-                    StopStep::Done => self.closes(phase),
+                    StopStep::Done => self.closes(phase, gated),
                 }
             }
-            Writes::Gate => self.stops(phase),
+            Writes::Gate => self.stops(phase, gated),
         }
     }
 
@@ -469,6 +497,28 @@ impl Bus {
 }
 
 impl Data {
+    // The words that a call keeps, with this one where it is a data word.
+    pub fn keeps(self, phase: Phase, held: [u32; 16], word: u32) -> [u32; 16]
+        ensures kept { λ r. ⌜ r ≡ heldBy phase self held word ⌝ }
+        ensures handed { λ r. ⌜ ((g g′ : List ℕ) → HandedAt phase self word g g′ → HandedAt phase self word (wordsBy phase held g) (wordsBy phase (heldBy phase self held word) g′)) ⌝ }
+    {
+        match self {
+            Data::Asks(reads) => match reads {
+                Reads::Idle(_) => held,
+                Reads::First(_) => held,
+                Reads::FirstDma(_, _) => held,
+                Reads::Again(_) => held,
+                Reads::AgainDma(_, _) => held,
+                Reads::Count(_) => held,
+                Reads::Word(after) => phase.kept(phase.place(after), held, word),
+            },
+            Data::Tells(_) => held,
+            Data::Start(_) => held,
+            Data::Stop(_) => held,
+            Data::Ready(_) => held,
+        }
+    }
+
     // What it waits for.
     pub fn wants(self, bus: Bus, phase: Phase, line: Line) -> Wants
         ensures { λ r. ⌜ ((ws : List ℕ) → r ≡ wantOf (next (dataPlan bus phase ws self) line)) ⌝ }
@@ -483,28 +533,28 @@ impl Data {
     }
 
     // After the word that it asked for; unasked, as it was.
-    pub fn fed(self, bus: Bus, phase: Phase, word: u32) -> DataStep
-        ensures { λ r. ⌜ ((ws ws′ : List ℕ) (h : Line) → h .gated ≡ bus .gated → HandedAt phase self word ws ws′ → dataNext bus phase ws′ r h ≡ heard (next (dataPlan bus phase ws self) h) word) ⌝ }
+    pub fn fed(self, bus: Bus, phase: Phase, gated: bool, word: u32) -> DataStep
+        ensures { λ r. ⌜ ((ws ws′ : List ℕ) (h : Line) → h .gated ≡ gated → HandedAt phase self word ws ws′ → dataNext bus phase ws′ r h ≡ heard (next (dataPlan bus phase ws self) h) word) ⌝ }
     {
         match self {
             Data::Asks(reads) => DataStep::On(bus.hears(phase, reads, word)),
             Data::Tells(_) => DataStep::On(self),
             Data::Start(command) => DataStep::On(bus.starting(phase, command.fed(word))),
-            Data::Stop(command) => bus.stopping(phase, command.fed(word)),
+            Data::Stop(command) => bus.stopping(phase, gated, command.fed(word)),
             Data::Ready(ready) => bus.waiting(phase, ready.fed(bus, word)),
         }
     }
 
     // After its row was written; with none to write, as it was.
-    pub fn went(self, bus: Bus, phase: Phase) -> DataStep
-        ensures { λ r. ⌜ ((ws : List ℕ) (h : Line) → h .gated ≡ bus .gated → dataNext bus phase ws r (lineAfter (next (dataPlan bus phase ws self) h)) ≡ told (next (dataPlan bus phase ws self) h)) ⌝ }
+    pub fn went(self, bus: Bus, phase: Phase, gated: bool) -> DataStep
+        ensures { λ r. ⌜ ((ws : List ℕ) (h : Line) → h .gated ≡ gated → dataNext bus phase ws r (lineAfter (next (dataPlan bus phase ws self) h)) ≡ told (next (dataPlan bus phase ws self) h)) ⌝ }
     {
         match self {
             Data::Asks(_) => DataStep::On(self),
-            Data::Tells(writes) => bus.goes(phase, writes),
+            Data::Tells(writes) => bus.goes(phase, gated, writes),
             Data::Start(command) => DataStep::On(bus.starting(phase, command.went())),
-            Data::Stop(command) => bus.stopping(phase, command.went()),
-            Data::Ready(ready) => bus.waiting(phase, ready.went(bus)),
+            Data::Stop(command) => bus.stopping(phase, gated, command.went()),
+            Data::Ready(ready) => bus.waiting(phase, ready.went(bus, gated)),
         }
     }
 }

@@ -14,11 +14,11 @@ returns c = λ h gate. rw (c .if1 .taken) (W.attempt-over _ h)
 
 returns-2 : tie.Need-returns-2
 unfolding readyNext
-returns-2 c = λ h gate. W.attempt-on _ h _ gate _ (rw (c .before .begun .given .1) at (c .before .before .before .begin .ensures h)) ∙ ap (λ (n : ℕ). next (attempts (c .before .before .before .before .before .before .args .self) n) h) (one.one-less _ (c .before .before .before .before .before .if1 .left))
+returns-2 c = λ h gate. W.attempt-on _ h _ _ gate _ (rw (c .before .begun .given .1) at (c .before .before .before .begin .ensures h)) ∙ ap (λ (n : ℕ). next (attempts (c .before .before .before .before .before .before .args .self) n) h) (one.one-less _ (c .before .before .before .before .before .if1 .left))
 
 returns-3 : tie.Need-returns-3
 unfolding readyNext
-returns-3 c = λ h gate. W.attempt-failed _ h _ gate _ (rw (c .before .begun2 .given .1) at (c .before .before .before .begin .ensures h)) ∙ ap (λ (n : ℕ). next (attempts (c .before .before .before .before .before .before .args .self) n) h) (one.one-less _ (c .before .before .before .before .before .if1 .left))
+returns-3 c = λ h gate. W.attempt-failed _ h _ _ gate (rw (c .enum-told .given .1) at (c .before .before .begin .ensures h)) ∙ ap (λ (n : ℕ). next (attempts (c .before .before .before .before .before .args .self) n) h) (one.one-less _ (c .before .before .before .before .if1 .left))
 
 pub attempt-spec : {M : Type 1} → statement M
 attempt-spec =

@@ -7,10 +7,10 @@ use Rattle.step.proofs.ready.Bus.closes.Tie as tie
 
 returns : tie.Need-returns
 unfolding dataNext dataPlan
-returns c = λ ws h gate. P.closes-gated (c .before .args .self) (c .before .args .phase) h ws gate (c .if1 .taken)
+returns c = λ ws h gate. P.closes-gated (c .before .args .self) (c .before .args .phase) h ws _ gate (c .if1 .taken)
 
 returns-2 : tie.Need-returns-2
-returns-2 c = λ ws h gate. c .stops .ensures ws h gate ∙ P.closes-open (c .before .before .args .self) (c .before .before .args .phase) h ws gate (c .before .if1 .left)
+returns-2 c = λ ws h gate. c .stops .ensures ws h gate ∙ P.closes-open (c .before .before .args .self) (c .before .before .args .phase) h ws _ gate (c .before .if1 .left)
 
 pub closes-spec : {M : Type 1} → statement M
 closes-spec =

@@ -8,7 +8,7 @@ returns : tie.Need-returns
 returns c = λ ws h. P.starts-on (c .before .before .before .before .before .args .self) (c .before .before .before .before .before .args .phase) h ws _ (rw (c .before .begun .given .1, c .before .before .before .before .transfer .ensures) at (c .before .before .before .begin .ensures h))
 
 returns-2 : tie.Need-returns-2
-returns-2 c = λ ws h. c .refuses .ensures ws h ∙ P.starts-failed (c .before .before .before .before .before .before .args .self) (c .before .before .before .before .before .before .args .phase) h ws _ (rw (c .before .before .begun2 .given .1, c .before .before .before .before .before .transfer .ensures) at (c .before .before .before .before .begin .ensures h))
+returns-2 c = λ ws h. c .refuses .ensures ws h ∙ P.starts-failed (c .before .before .before .before .before .args .self) (c .before .before .before .before .before .args .phase) h ws (rw (c .before .enum-told .given .1, c .before .before .before .before .transfer .ensures) at (c .before .before .before .begin .ensures h))
 
 pub starts-spec : {M : Type 1} → statement M
 starts-spec =

@@ -12,11 +12,11 @@ returns c = λ ws h gate. c .waiting .ensures ws h ∙ ap (plugNext (ending (c .
 
 returns-2 : tie.Need-returns-2
 unfolding dataNext
-returns-2 c = λ ws h gate. P.stops-on (c .before .before .before .before .before .before .before .args .self) (c .before .before .before .before .before .before .before .args .phase) h ws gate _ (rw (c .before .before .before .before .before .before .transfer .ensures) at (eq-eqb _ _ (c .before .before .before .before .if1 .left))) (rw (c .before .begun .given .1) at (c .before .before .before .begin .ensures h))
+returns-2 c = λ ws h gate. P.stops-on (c .before .before .before .before .before .before .before .args .self) (c .before .before .before .before .before .before .before .args .phase) h ws _ gate _ (rw (c .before .before .before .before .before .before .transfer .ensures) at (eq-eqb _ _ (c .before .before .before .before .if1 .left))) (rw (c .before .begun .given .1) at (c .before .before .before .begin .ensures h))
 
 returns-3 : tie.Need-returns-3
 unfolding dataNext
-returns-3 c = λ ws h gate. c .refuses .ensures ws h ∙ P.stops-failed (c .before .before .before .before .before .before .before .before .args .self) (c .before .before .before .before .before .before .before .before .args .phase) h ws gate _ (rw (c .before .before .before .before .before .before .before .transfer .ensures) at (eq-eqb _ _ (c .before .before .before .before .before .if1 .left))) (rw (c .before .before .begun2 .given .1) at (c .before .before .before .before .begin .ensures h))
+returns-3 c = λ ws h gate. c .refuses .ensures ws h ∙ P.stops-failed (c .before .before .before .before .before .before .before .args .self) (c .before .before .before .before .before .before .before .args .phase) h ws _ gate (rw (c .before .before .before .before .before .before .transfer .ensures) at (eq-eqb _ _ (c .before .before .before .before .if1 .left))) (rw (c .before .enum-told .given .1) at (c .before .before .before .begin .ensures h))
 
 pub stops-spec : {M : Type 1} → statement M
 stops-spec =
