@@ -137,7 +137,7 @@ pub fn wait_power_up(
 }
 
 // The class of a card by its OCR.
-fn class(ocr: u32) -> CardCapacity
+pub fn class(ocr: u32) -> CardCapacity
     ensures { λ r. ⌜ r ≡ classOf (highCapacity ocr) ⌝ }
 {
     if ocr & Ocr::HIGH_CAPACITY != 0 {

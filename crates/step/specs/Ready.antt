@@ -4,6 +4,7 @@ use Prim.Native.Nat.{ℕ}
 use mathlib.Core.Bool.{Bool, true, false, cond}
 use mathlib.Core.List.{List}
 use Rattle.types.specs.Sd.{readyOf}
+use Rattle.types.specs.declared.error.Error.the-variants as E
 use Rattle.tape.specs.declared.progress.Line.{Line}
 use Rattle.tape.specs.Plan.{Nothing, Plan, failed, give, _then_, until}
 use Rattle.bus.specs.Command.{firstOf}
@@ -16,6 +17,8 @@ use Rattle.step.specs.declared.ready.Ready.{Ready}
 use Rattle.step.specs.declared.ready.Ready.the-variants as R
 use Rattle.step.specs.declared.ready.ReadyStep.{ReadyStep}
 use Rattle.step.specs.declared.ready.ReadyStep.the-variants as S
+use Rattle.step.specs.declared.ready.Waits.{Waits}
+use Rattle.step.specs.declared.ready.Waits.the-variants as B
 
 module _ (bus : Bus) where
   abbrev pub limitAt : ℕ
@@ -46,3 +49,7 @@ module _ (bus : Bus) where
   readyNext (S.On r) h = next (readyPlan r) h
   readyNext S.Done h = over h tt
   readyNext (S.Failed e) h = refused h (failed e)
+
+  unfoldable pub waitsNext : Waits → Line → Next Nothing
+  waitsNext (B.On r) h = next (readyPlan r) h
+  waitsNext B.Spent h = refused h (failed E.SoftwareTimeout)

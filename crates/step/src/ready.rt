@@ -7,7 +7,7 @@ ghost use Rattle.bus.specs.Ready.{waitReady};
 ghost use Rattle.step.specs.Next.{next, wantOf, heard, told, lineAfter};
 ghost use Rattle.step.specs.Context.{plug, plugNext};
 ghost use Rattle.step.specs.Command.{commandNext, listOf};
-ghost use Rattle.step.specs.Ready.{attempts, asked, readyPlan, readyNext};
+ghost use Rattle.step.specs.Ready.{attempts, asked, readyPlan, readyNext, waitsNext};
 use crate::command::Begun;
 use crate::command::Command;
 use crate::command::CommandStep;
@@ -36,6 +36,12 @@ pub enum Ready {
     Delay(u32),
 }
 
+// A ready wait at its start, or before another attempt: its attempts, or the polls of CMD13, may be spent at once.
+pub enum Waits {
+    On(Ready),
+    Spent,
+}
+
 // A ready wait after an answer.
 pub enum ReadyStep {
     On(Ready),
@@ -45,28 +51,38 @@ pub enum ReadyStep {
 
 impl Bus {
     // The wait with so many attempts, where the clock is gated or not.
-    fn attempt(self, gated: bool, left: u32) -> ReadyStep
-        ensures { λ r. ⌜ ((h : Line) → h .gated ≡ gated → readyNext self r h ≡ next (attempts self left) h) ⌝ }
+    fn attempt(self, gated: bool, left: u32) -> Waits
+        ensures { λ r. ⌜ ((h : Line) → h .gated ≡ gated → waitsNext self r h ≡ next (attempts self left) h) ⌝ }
     {
         if left == 0 {
-            return ReadyStep::Failed(Error::SoftwareTimeout);
+            return Waits::Spent;
         }
         let more = left - 1;
         let limit = self.config.poll_limit;
         let argument = self.rca as u32 * 0x1_0000;
         let begun = Command::begin(limit, 13, argument, Response::R1, gated);
         match begun {
-            Begun::On(command) => ReadyStep::On(Ready::Asks(more, command)),
-            Begun::Spent => ReadyStep::Failed(Error::SoftwareTimeout),
+            Begun::On(command) => Waits::On(Ready::Asks(more, command)),
+            Begun::Spent => Waits::Spent,
         }
     }
 
     // The wait at its start.
-    pub fn wait_ready(self, gated: bool) -> ReadyStep
-        ensures { λ r. ⌜ ((h : Line) → h .gated ≡ gated → readyNext self r h ≡ next (waitReady (self .source .0) (self .config) (self .rca)) h) ⌝ }
+    pub fn wait_ready(self, gated: bool) -> Waits
+        ensures { λ r. ⌜ ((h : Line) → h .gated ≡ gated → waitsNext self r h ≡ next (waitReady (self .source .0) (self .config) (self .rca)) h) ⌝ }
     {
         let left = self.config.card_ready_attempts;
         self.attempt(gated, left as u32)
+    }
+
+    // A ready wait before an attempt, as one after an answer.
+    pub fn tries(self, waits: Waits) -> ReadyStep
+        ensures { λ r. ⌜ ((h : Line) → readyNext self r h ≡ waitsNext self waits h) ⌝ }
+    {
+        match waits {
+            Waits::On(ready) => ReadyStep::On(ready),
+            Waits::Spent => ReadyStep::Failed(Error::SoftwareTimeout),
+        }
     }
 
     // The card's status came.
@@ -128,7 +144,7 @@ impl Ready {
     {
         match self {
             Ready::Asks(left, command) => bus.asking(left, command.went()),
-            Ready::Delay(left) => bus.attempt(gated, left),
+            Ready::Delay(left) => bus.tries(bus.attempt(gated, left)),
         }
     }
 }

@@ -331,7 +331,7 @@ impl Bus {
         match step {
             CommandStep::On(command) => DataStep::On(Data::Stop(command)),
             CommandStep::Over(ended) => match ended {
-                Ended::Well(_) => self.waiting(phase, self.wait_ready(gated)),
+                Ended::Well(_) => self.waiting(phase, self.tries(self.wait_ready(gated))),
                 Ended::Badly(error) => DataStep::On(self.refuses(phase, error)),
             },
         }
@@ -343,7 +343,7 @@ impl Bus {
     {
         let transfer = phase.transfer();
         if transfer.index != 18 {
-            return self.waiting(phase, self.wait_ready(gated));
+            return self.waiting(phase, self.tries(self.wait_ready(gated)));
         }
         let limit = self.config.poll_limit;
         let begun = Command::begin(limit, 12, 0, Response::R1, gated);

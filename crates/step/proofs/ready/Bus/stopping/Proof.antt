@@ -11,7 +11,7 @@ unfolding dataNext
 returns c = λ ws h gate. rw (c .before .step .given .1) (P.stopping-on _ _ h ws _)
 
 returns-2 : tie.Need-returns-2
-returns-2 c = λ ws h gate. rw (c .before .before .before .before .before .step2 .given .1, c .before .before .enum-told .given .1) (c .waiting .ensures ws h ∙ ap (plugNext (ending (c .before .before .before .before .before .before .before .args .self) (c .before .before .before .before .before .before .before .args .phase) ws)) (c .before .wait-ready .ensures h gate) ∙ P.stopping-well (c .before .before .before .before .before .before .before .args .self) (c .before .before .before .before .before .before .before .args .phase) h ws _)
+returns-2 c = λ ws h gate. rw (c .before .before .before .before .before .before .step2 .given .1, c .before .before .before .enum-told .given .1) (c .waiting .ensures ws h ∙ ap (plugNext (ending (c .before .before .before .before .before .before .before .before .args .self) (c .before .before .before .before .before .before .before .before .args .phase) ws)) (c .before .tries .ensures h ∙ c .before .before .wait-ready .ensures h gate) ∙ P.stopping-well (c .before .before .before .before .before .before .before .before .args .self) (c .before .before .before .before .before .before .before .before .args .phase) h ws _)
 
 returns-3 : tie.Need-returns-3
 unfolding dataNext
@@ -24,6 +24,7 @@ stopping-spec =
     (λ c. search needs)
     (λ c. search needs)
     (λ c. search needs)
+    (λ c κs. search needs)
     (λ c κs. search needs)
     (λ c κs. search needs)
     (λ c. search needs)

@@ -8,7 +8,7 @@ use Rattle.step.proofs.ready.Bus.stops.Statement.{statement}
 use Rattle.step.proofs.ready.Bus.stops.Tie as tie
 
 returns : tie.Need-returns
-returns c = λ ws h gate. c .waiting .ensures ws h ∙ ap (plugNext (ending (c .before .before .before .before .before .args .self) (c .before .before .before .before .before .args .phase) ws)) (c .before .wait-ready .ensures h gate) ∙ P.stops-other (c .before .before .before .before .before .args .self) (c .before .before .before .before .before .args .phase) h ws (rw (c .before .before .before .before .transfer .ensures) at (ne-eqb _ _ (c .before .before .if1 .taken)))
+returns c = λ ws h gate. c .waiting .ensures ws h ∙ ap (plugNext (ending (c .before .before .before .before .before .before .args .self) (c .before .before .before .before .before .before .args .phase) ws)) (c .before .tries .ensures h ∙ c .before .before .wait-ready .ensures h gate) ∙ P.stops-other (c .before .before .before .before .before .before .args .self) (c .before .before .before .before .before .before .args .phase) h ws (rw (c .before .before .before .before .before .transfer .ensures) at (ne-eqb _ _ (c .before .before .before .if1 .taken)))
 
 returns-2 : tie.Need-returns-2
 unfolding dataNext
@@ -22,6 +22,7 @@ pub stops-spec : {M : Type 1} → statement M
 stops-spec =
     tie.close
     (tie.spec
+    (λ c κs. search needs)
     (λ c κs. search needs)
     (λ c κs. search needs)
     (λ c κs. search needs)

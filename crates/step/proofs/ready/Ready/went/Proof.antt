@@ -11,7 +11,7 @@ unfolding readyPlan
 returns c = λ h gate. rw (c .before .before .before .self .given .1) (c .asking .ensures _ ∙ command-goes (asked (c .before .before .before .before .before .args .bus) _) _ _ h (c .before .went .ensures h))
 
 returns-2 : tie.Need-returns-2
-returns-2 c = λ h gate. rw (c .before .before .self2 .given .1) (c .attempt .ensures _ (W.delay-gated _ h _ ∙ gate) ∙ W.delay-told _ h _)
+returns-2 c = λ h gate. rw (c .before .before .before .self2 .given .1) (c .tries .ensures _ ∙ c .before .attempt .ensures _ (W.delay-gated _ h _ ∙ gate) ∙ W.delay-told _ h _)
 
 pub went-spec : {M : Type 1} → statement M
 went-spec =
@@ -21,6 +21,7 @@ went-spec =
     (λ c κs. search needs)
     (λ c κs. search needs)
     (λ c. search needs)
+    (λ c κs. search needs)
     (λ c κs. search needs)
     returns
     returns-2)
