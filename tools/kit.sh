@@ -7,11 +7,19 @@ machine=$(uname -m)
 own=$kit/on/$machine
 tools=$own/toolchain
 
-# Becomes the program, as rt itself runs one: under the toolchain's loader and C library. Programs are for x86-64; on
-# another processor the toolchain has an emulator beside its compiler, and none of its settings reach it from outside.
-become() { # PROGRAM [ARGS]
+# Calls COMMAND with the command line of a program, as rt itself runs one: under the toolchain's loader and C library.
+# Programs are for x86-64; on another processor the toolchain has an emulator beside its compiler, and none of its settings
+# reach it from outside.
+loaded() { # COMMAND PROGRAM [ARGS]
+    by=$1
+    shift
     set -- "$tools/lib/ld-linux-x86-64.so.2" --library-path "$tools/lib" "$@"
     [ ! -x "$tools/bin/qemu-x86_64" ] || set -- "$tools/bin/qemu-x86_64" "$@"
     for setting in $(env | sed -n 's/^\(QEMU_[A-Za-z0-9_]*\)=.*/\1/p'); do unset "$setting"; done
-    exec "$@"
+    "$by" "$@"
+}
+
+# Becomes the program.
+become() { # PROGRAM [ARGS]
+    loaded exec "$@"
 }

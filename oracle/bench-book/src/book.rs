@@ -99,12 +99,8 @@ impl Book {
             self.entries.len() as u32,
         ];
         for entry in &self.entries {
-            let (kind, a, b) = match entry.call {
-                Call::Initialise { frequency } => (1, frequency, 0),
-                Call::Read { index, blocks } => (2, index, blocks as u32),
-                Call::Status => (3, 0, 0),
-            };
-            words.extend([kind, a, b, entry.script.len() as u32]);
+            words.extend(numbers(entry.call));
+            words.push(entry.script.len() as u32);
         }
         words.extend(self.entries.iter().flat_map(|entry| &entry.script));
         words
@@ -117,6 +113,15 @@ impl Book {
 
 pub fn bytes(words: &[u32]) -> Vec<u8> {
     words.iter().flat_map(|word| word.to_le_bytes()).collect()
+}
+
+/// Kind, a and b of a call, as a book has them.
+pub fn numbers(call: Call) -> [u32; 3] {
+    match call {
+        Call::Initialise { frequency } => [1, frequency, 0],
+        Call::Read { index, blocks } => [2, index, blocks as u32],
+        Call::Status => [3, 0, 0],
+    }
 }
 
 fn call(kind: u32, a: u32, b: u32) -> Result<Call, Fault> {

@@ -1,29 +1,37 @@
-//! The lines of `cardbook` and `cardtrace`, to the letter.
+//! The lines of `cardbook`, `cardtrace` and `cardsteps`, to the letter.
 
-use oracle_driver::bench::Feed;
+use oracle_driver::bench::{Event, Feed, Reading};
 use oracle_driver::host::{Host, Outcome, Record, State, BAD_BOOK};
 
-use crate::book::{Book, Entry};
+use crate::book::{numbers, Book, Entry};
 
 /// Rows of room a call, unless told otherwise.
 pub const MOST_ROOM: usize = 4_096;
 
+/// Which program's text.
+#[derive(Clone, Copy, Eq, PartialEq)]
+enum Text {
+    Lines,
+    Trace,
+    Events,
+}
+
 /// What `cardbook` prints for a book.
 pub fn lines<H: Host>(book: &[u8], out: &mut Vec<u8>) {
-    run::<H>(book, MOST_ROOM, out, |_, _, _| {});
+    run::<H>(book, MOST_ROOM, Text::Lines, out);
 }
 
 /// What `cardtrace` prints for a book with this room.
 pub fn trace<H: Host>(book: &[u8], room: usize, out: &mut Vec<u8>) {
-    run::<H>(book, room, out, |out, outcome, state| match outcome {
-        None => print_state(out, state),
-        Some(outcome) => after_call(out, outcome, state),
-    });
+    run::<H>(book, room, Text::Trace, out);
 }
 
-/// Runs a book. `also` prints what follows the line of the host (no outcome)
-/// and of each call.
-fn run<H: Host>(book: &[u8], room: usize, out: &mut Vec<u8>, also: impl Fn(&mut Vec<u8>, Option<&Outcome>, &State)) {
+/// What `cardsteps` prints for a book with this room, without its texts for people: readings and rows in their order.
+pub fn events<H: Host>(book: &[u8], room: usize, out: &mut Vec<u8>) {
+    run::<H>(book, room, Text::Events, out);
+}
+
+fn run<H: Host>(book: &[u8], room: usize, text: Text, out: &mut Vec<u8>) {
     let made = Book::read(book)
         .map_err(|_| BAD_BOOK)
         .and_then(|book| Ok((H::make(&book.settings)?, book.entries)));
@@ -33,28 +41,91 @@ fn run<H: Host>(book: &[u8], room: usize, out: &mut Vec<u8>, also: impl Fn(&mut 
     let Ok((mut host, entries)) = made else {
         return;
     };
-    also(out, None, &host.state());
-    for (place, Entry { call, script }) in entries.iter().enumerate() {
-        let outcome = host.call(*call, Feed::Script(script), room, false);
-        decimal(out, place as u64 + 1);
-        out.extend(b" answer ");
-        decimal(out, outcome.answer);
-        out.extend(b" words ");
-        decimal(out, outcome.words_used as u64);
-        out.extend(b" rows ");
-        decimal(out, outcome.rows.len() as u64);
-        out.push(b'\n');
-        also(out, Some(&outcome), &host.state());
+    if text != Text::Lines {
+        print_state(out, &host.state());
+    }
+    for (number, entry) in (1..).zip(&entries) {
+        // Only events need a watched call: the other texts are printed as fast as ever.
+        let outcome = host.call(entry.call, Feed::Script(&entry.script), room, text == Text::Events);
+        if text == Text::Events {
+            before_line(out, number, entry, &outcome);
+        }
+        print_line(out, number, &outcome);
+        match text {
+            Text::Lines => {}
+            Text::Trace => after_line(out, &outcome, &host.state()),
+            Text::Events => print_state(out, &host.state()),
+        }
     }
 }
 
-fn after_call(out: &mut Vec<u8>, outcome: &Outcome, state: &State) {
-    for (register, value) in &outcome.rows {
-        out.extend(b"row ");
-        decimal(out, *register);
+fn print_line(out: &mut Vec<u8>, number: u64, outcome: &Outcome) {
+    decimal(out, number);
+    out.extend(b" answer ");
+    decimal(out, outcome.answer);
+    out.extend(b" words ");
+    decimal(out, outcome.words_used as u64);
+    out.extend(b" rows ");
+    decimal(out, outcome.rows.len() as u64);
+    out.push(b'\n');
+}
+
+/// The call as the book has it, and its events.
+fn before_line(out: &mut Vec<u8>, number: u64, entry: &Entry, outcome: &Outcome) {
+    decimal(out, number);
+    for field in numbers(entry.call) {
         out.push(b' ');
-        decimal(out, *value);
-        out.push(b'\n');
+        decimal(out, field);
+    }
+    out.push(b'\n');
+    for event in &outcome.events {
+        match *event {
+            Event::Row(register, value) => print_row(out, register, value),
+            Event::Word(reading, word) => print_reading(out, reading, Some(word)),
+            Event::Ended(reading) => print_reading(out, reading, None),
+            // The row was not written; the answer says so.
+            Event::Full(_) => {}
+        }
+    }
+}
+
+fn print_row(out: &mut Vec<u8>, register: u32, value: u32) {
+    out.extend(b"row ");
+    decimal(out, register);
+    out.push(b' ');
+    decimal(out, value);
+    out.push(b'\n');
+}
+
+/// A reading with its word, or with none where the script had ended.
+fn print_reading(out: &mut Vec<u8>, reading: Reading, word: Option<u32>) {
+    let (kind, place): (&[u8], Option<u16>) = match reading {
+        Reading::Status => (b"status", None),
+        Reading::Respcmd => (b"respcmd", None),
+        Reading::Response(place) => (b"response", Some(place.into())),
+        Reading::Dma => (b"dma", None),
+        Reading::Dcount => (b"dcount", None),
+        Reading::Data(place) => (b"data", Some(place)),
+    };
+    out.extend(b"read ");
+    out.extend(kind);
+    if let Some(place) = place {
+        out.push(b' ');
+        decimal(out, place);
+    }
+    match word {
+        Some(word) => {
+            out.extend(b" 0x");
+            hexadecimal(out, word, 8);
+        }
+        None => out.extend(b" none"),
+    }
+    out.push(b'\n');
+}
+
+fn after_line(out: &mut Vec<u8>, outcome: &Outcome, state: &State) {
+    for (register, value) in &outcome.rows {
+        print_row(out, *register, *value);
     }
     if outcome.answer == 10 {
         out.extend(b"carried ");

@@ -1,8 +1,8 @@
-//! Piles and their traces.
+//! Piles, their traces and their events.
 
 use std::io::{self, BufReader, BufWriter, Read, Write};
 
-use oracle_bench_book::{lines, pile, trace as trace_book, MOST_ROOM};
+use oracle_bench_book::{lines, pile, MOST_ROOM};
 use oracle_driver::right::Host;
 use oracle_model::generate;
 
@@ -14,7 +14,8 @@ pub fn pile(seed: u64, count: u64) -> Result<(), String> {
     written(result.and_then(|()| out.flush()))
 }
 
-pub fn trace(room: Option<&str>) -> Result<(), String> {
+/// Prints each book of a pile with this room: `print` is one of `trace` and `events`.
+pub fn each(room: Option<&str>, print: fn(&[u8], usize, &mut Vec<u8>)) -> Result<(), String> {
     let room = match room {
         None => MOST_ROOM,
         Some(word) => room_of(word).ok_or(format!("oracle: {word} is no number of rows up to {MOST_ROOM}"))?,
@@ -33,7 +34,7 @@ pub fn trace(room: Option<&str>) -> Result<(), String> {
         };
         text.clear();
         text.extend(format!("book {k}\n").bytes());
-        trace_book::<Host>(&book, room, &mut text);
+        print(&book, room, &mut text);
         if out.write_all(&text).is_err() {
             break;
         }

@@ -9,9 +9,13 @@ mod wrong;
 
 use std::process::ExitCode;
 
+use oracle_bench_book::{events, trace};
+use oracle_driver::right::Host;
+
 const USAGE: &str = "\
 oracle pile SEED COUNT        write COUNT books as a pile
 oracle trace [ROOM] < PILE    what the Rust does with each book of a pile
+oracle events [ROOM] < PILE   the Rust's readings and rows of each book, in their order
 oracle book < BOOK            the lines of one book
 oracle coverage SEED COUNT    what such a pile reaches
 oracle sample SEED COUNT      of such a pile, the books that reach something new
@@ -24,8 +28,10 @@ fn main() -> ExitCode {
     let words: Vec<&str> = words.iter().map(String::as_str).collect();
     let result = match words[..] {
         ["pile", seed, count] => numbers(seed, count).and_then(|(seed, count)| books::pile(seed, count)),
-        ["trace"] => books::trace(None),
-        ["trace", room] => books::trace(Some(room)),
+        ["trace"] => books::each(None, trace::<Host>),
+        ["trace", room] => books::each(Some(room), trace::<Host>),
+        ["events"] => books::each(None, events::<Host>),
+        ["events", room] => books::each(Some(room), events::<Host>),
         ["book"] => books::book(),
         ["coverage", seed, count] => numbers(seed, count).and_then(|(seed, count)| table::coverage(seed, count)),
         ["sample", seed, count] => numbers(seed, count).and_then(|(seed, count)| sample::sample(seed, count)),

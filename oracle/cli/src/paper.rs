@@ -1,13 +1,15 @@
 //! Compares the Rust with the host written from document 01.
 
-use oracle_bench_book::{trace, MOST_ROOM};
+use oracle_bench_book::{events, trace, MOST_ROOM};
 use oracle_driver::{right, Host};
 use oracle_model::{generate, leaves, rng::Rng};
 use oracle_paper as paper;
 
+/// What a call gives, and the order in which it went.
 fn text<H: Host>(book: &[u8], room: usize) -> Vec<u8> {
     let mut text = Vec::new();
     trace::<H>(book, room, &mut text);
+    events::<H>(book, room, &mut text);
     text
 }
 

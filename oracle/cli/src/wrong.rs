@@ -2,8 +2,8 @@
 
 use std::panic::{catch_unwind, set_hook, take_hook};
 
-use oracle_bench_book::{trace, MOST_ROOM};
-use oracle_driver::{right, switchable, wrong, Host};
+use oracle_bench_book::{events, trace, MOST_ROOM};
+use oracle_driver::{right, switchable, wrong};
 use oracle_model::leaves::{each, Leaf};
 use oracle_model::{generate, rng::Rng};
 
@@ -21,35 +21,52 @@ struct Case {
     right: Vec<u8>,
 }
 
-fn both<H: Host>(book: &[u8], room: usize) -> Vec<u8> {
+/// What is printed of a book with this room.
+type Print = fn(&[u8], usize, &mut Vec<u8>);
+
+/// A book printed with much room and with little.
+fn both(print: Print, book: &[u8], room: usize) -> Vec<u8> {
     let mut text = Vec::new();
-    trace::<H>(book, MOST_ROOM, &mut text);
-    trace::<H>(book, room, &mut text);
+    print(book, MOST_ROOM, &mut text);
+    print(book, room, &mut text);
     text
 }
 
 fn case(seed: u64, k: u64) -> Case {
     let book = generate::book(seed, k);
     let room = Rng::nth(seed ^ 0x5eed, k).below(120) as usize;
-    let right = both::<right::Host>(&book, room);
+    let right = both(trace::<right::Host>, &book, room);
     Case { book, room, right }
 }
 
-/// Where a switched host first differs from the right one.
+/// Whether a switched host prints something else than the right one. A host that panics has been found out as well.
+fn differs(which: u16, print: Print, case: &Case, right: &[u8]) -> bool {
+    let run = || wrong::with(which, || both(print, &case.book, case.room));
+    catch_unwind(run).map_or(true, |text| text != right)
+}
+
+/// Where a switched host first differs from the right one. Events come last, so that they are named only where nothing
+/// else tells: the host reads another register, and a script has the same word for it.
 fn caught(which: u16, cases: &[Case], leaves: &[(Leaf, u64)]) -> Option<String> {
-    let differs = |case: &Case| {
-        let run = || wrong::with(which, || both::<switchable::Host>(&case.book, case.room));
-        // A host that panics has been found out as well.
-        catch_unwind(run).map_or(true, |text| text != case.right)
-    };
-    if let Some(at) = cases.iter().position(differs) {
+    let traced = |case: &Case| differs(which, trace::<switchable::Host>, case, &case.right);
+    if let Some(at) = cases.iter().position(traced) {
         return Some(format!("book {}", at + 1));
     }
     let leaf = leaves.iter().find(|(leaf, right)| {
         let run = || wrong::with(which, || leaf.answer::<switchable::Leaves>());
         catch_unwind(run).map_or(true, |answer| answer != *right)
     });
-    leaf.map(|(leaf, _)| format!("leaf {leaf:?}"))
+    if let Some((leaf, _)) = leaf {
+        return Some(format!("leaf {leaf:?}"));
+    }
+    let stepped = |case: &Case| {
+        let right = both(events::<right::Host>, &case.book, case.room);
+        differs(which, events::<switchable::Host>, case, &right)
+    };
+    cases
+        .iter()
+        .position(stepped)
+        .map(|at| format!("events of book {}", at + 1))
 }
 
 pub fn wrong(seed: u64, count: u64) -> Result<(), String> {

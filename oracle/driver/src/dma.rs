@@ -77,7 +77,12 @@ impl<'a> Transfer<'a> {
     }
 
     pub fn has_error(&mut self) -> bool {
-        self.word = bench::read(Reading::Dma);
+        let reading = if wrong::is(wrong::DMA_BY_STATUS) {
+            Reading::Status
+        } else {
+            Reading::Dma
+        };
+        self.word = bench::read(reading);
         self.word >> 31 != 0
     }
 
@@ -94,8 +99,9 @@ impl<'a> Transfer<'a> {
 
     /// The data words arrive, straight after the poll that completes.
     pub fn land(&mut self) {
+        let counted = u16::from(!wrong::is(wrong::DATA_PLACE_STAYS));
         for (place, slot) in self.buffer.iter_mut().flat_map(|words| words.iter_mut()).enumerate() {
-            let word = bench::read(Reading::Data(place as u16));
+            let word = bench::read(Reading::Data(place as u16 * counted));
             *slot = if wrong::is(wrong::DATA_BIG_ENDIAN) {
                 word.swap_bytes()
             } else {

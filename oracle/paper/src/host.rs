@@ -50,12 +50,12 @@ impl host::Host for Host {
         })
     }
 
-    fn call(&mut self, call: Call, feed: Feed<'_>, room: usize, _watched: bool) -> Outcome {
+    fn call(&mut self, call: Call, feed: Feed<'_>, room: usize, watched: bool) -> Outcome {
         let Feed::Script(script) = feed else {
             unimplemented!("this host only follows scripts");
         };
         let before = self.state;
-        let mut tape = Tape::new(script, room, self.state.clkcr);
+        let mut tape = Tape::new(script, room, self.state.clkcr, watched);
         let ended = match call {
             Call::Initialise { frequency } => self.initialise(&mut tape, frequency),
             Call::Read { index, blocks } => self.read(&mut tape, index, blocks),
@@ -80,7 +80,7 @@ impl host::Host for Host {
             status: given.status,
             blocks: given.blocks,
             script: script.to_vec(),
-            events: Vec::new(),
+            events: tape.events,
         }
     }
 

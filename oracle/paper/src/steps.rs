@@ -1,5 +1,6 @@
 //! "The steps": idle wait, command, ready wait, data phase.
 
+use oracle_driver::bench::Reading;
 use oracle_driver::Settings;
 
 use crate::leaf::{clock, data_status};
@@ -25,7 +26,7 @@ pub struct Bench<'t, 'a> {
 impl Bench<'_, '_> {
     pub fn idle(&mut self, busy: u32) -> Step<()> {
         for _ in 0..self.set.poll_limit {
-            if self.tape.take()? & busy == 0 {
+            if self.tape.take(Reading::Status)? & busy == 0 {
                 return Ok(());
             }
         }
@@ -66,7 +67,7 @@ impl Bench<'_, '_> {
         };
         self.tape.row(CMD, index + 64 * wait + 1024)?;
         for _ in 0..self.set.poll_limit {
-            let status = self.tape.take()?;
+            let status = self.tape.take(Reading::Status)?;
             if status & 0x4 != 0 {
                 return refuse(1);
             }
@@ -85,14 +86,14 @@ impl Bench<'_, '_> {
         if status & 0x1 != 0 && kind != Kind::R3 {
             return refuse(3);
         }
-        if kind != Kind::R2 && kind != Kind::R3 && self.tape.take()? % 64 != index {
+        if kind != Kind::R2 && kind != Kind::R3 && self.tape.take(Reading::Respcmd)? % 64 != index {
             return refuse(9);
         }
         let words = [
-            self.tape.take()?,
-            self.tape.take()?,
-            self.tape.take()?,
-            self.tape.take()?,
+            self.tape.take(Reading::Response(0))?,
+            self.tape.take(Reading::Response(1))?,
+            self.tape.take(Reading::Response(2))?,
+            self.tape.take(Reading::Response(3))?,
         ];
         let errors = match kind {
             Kind::R1 => 0xfdff_e008,
@@ -153,7 +154,8 @@ impl Bench<'_, '_> {
                 return refuse(2);
             }
         }
-        let taken = (0..words).map(|_| self.tape.take()).collect::<Step<Vec<u32>>>()?;
+        let places = (0..words).map(|place| Reading::Data(place as u16));
+        let taken = places.map(|place| self.tape.take(place)).collect::<Step<Vec<u32>>>()?;
         self.tape.stop_rows()?;
         if self.gated {
             self.tape.open_clock(false)?;
@@ -167,24 +169,24 @@ impl Bench<'_, '_> {
 
     /// One poll: true if it completes.
     fn poll(&mut self) -> Step<bool> {
-        data_status(self.tape.take()?)?;
-        let dma = self.tape.take()?;
+        data_status(self.tape.take(Reading::Status)?)?;
+        let dma = self.tape.take(Reading::Dma)?;
         if dma >> 31 != 0 {
             return refuse(7);
         }
         if dma >> 30 != 0 {
             return Ok(false);
         }
-        let status = self.tape.take()?;
+        let status = self.tape.take(Reading::Status)?;
         data_status(status)?;
-        let dma = self.tape.take()?;
+        let dma = self.tape.take(Reading::Dma)?;
         if dma >> 31 != 0 {
             return refuse(7);
         }
         if status & 0x100 == 0 || status & 0x3000 != 0 {
             return Ok(false);
         }
-        if dma % 65_536 != 0 || self.tape.take()? != 0 {
+        if dma % 65_536 != 0 || self.tape.take(Reading::Dcount)? != 0 {
             return refuse(8);
         }
         Ok(true)

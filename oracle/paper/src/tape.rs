@@ -1,5 +1,7 @@
 //! The script and the row list ("Script and rows").
 
+use oracle_driver::bench::{Event, Reading};
+
 /// Why a call stops.
 #[derive(Clone, Copy, Debug, Eq, PartialEq)]
 pub enum Stop {
@@ -34,30 +36,46 @@ pub struct Tape<'a> {
     room: usize,
     /// CLKCR reads back what was last written.
     pub clkcr: u32,
+    watched: bool,
+    pub events: Vec<Event>,
 }
 
 impl<'a> Tape<'a> {
-    pub fn new(script: &'a [u32], room: usize, clkcr: u32) -> Self {
+    pub fn new(script: &'a [u32], room: usize, clkcr: u32, watched: bool) -> Self {
         Self {
             script,
             used: 0,
             rows: Vec::new(),
             room,
             clkcr,
+            watched,
+            events: Vec::new(),
         }
     }
 
-    pub fn take(&mut self) -> Step<u32> {
-        let word = self.script.get(self.used).ok_or(Stop::ScriptEnded)?;
+    fn watch(&mut self, event: Event) {
+        if self.watched {
+            self.events.push(event);
+        }
+    }
+
+    pub fn take(&mut self, reading: Reading) -> Step<u32> {
+        let Some(&word) = self.script.get(self.used) else {
+            self.watch(Event::Ended(reading));
+            return Err(Stop::ScriptEnded);
+        };
         self.used += 1;
-        Ok(*word)
+        self.watch(Event::Word(reading, word));
+        Ok(word)
     }
 
     pub fn row(&mut self, register: u32, value: u32) -> Step<()> {
         if self.rows.len() == self.room {
+            self.watch(Event::Full(register));
             return Err(Stop::TraceFull);
         }
         self.rows.push((register, value));
+        self.watch(Event::Row(register, value));
         if register == CLKCR {
             self.clkcr = value;
         }

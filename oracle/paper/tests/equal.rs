@@ -1,6 +1,6 @@
 //! Document 01 and the Rust say the same.
 
-use oracle_bench_book::{trace, MOST_ROOM};
+use oracle_bench_book::{events, trace, MOST_ROOM};
 use oracle_driver::right;
 use oracle_model::{generate, leaves, rng::Rng};
 use oracle_paper as paper;
@@ -14,6 +14,8 @@ fn on_books_with_much_and_with_little_room() {
             let (mut rust, mut document) = (Vec::new(), Vec::new());
             trace::<right::Host>(&book, room, &mut rust);
             trace::<paper::Host>(&book, room, &mut document);
+            events::<right::Host>(&book, room, &mut rust);
+            events::<paper::Host>(&book, room, &mut document);
             assert!(rust == document, "book {k} of seed 99 with room {room}");
         }
     }

@@ -25,11 +25,11 @@ fn run<H: Host>(index: u32, blocks: usize, script: &[u32]) -> Outcome {
     let mut host = H::make(&SETTINGS).ok().unwrap();
     let call = Call::Initialise { frequency: 24_000_000 };
     assert_eq!(host.call(call, Feed::Script(&card()), 4_096, false).answer, 0);
-    host.call(Call::Read { index, blocks }, Feed::Script(script), 4_096, false)
+    host.call(Call::Read { index, blocks }, Feed::Script(script), 4_096, true)
 }
 
 #[test]
-fn both_hosts_read_the_same_bytes() {
+fn both_hosts_read_the_same_bytes_in_the_same_order() {
     let mut rng = Rng::new(5);
     for (blocks, index, answer) in [(17, 1_007, 0), (100, 3, 0), (511, 513, 0), (511, 514, 20), (512, 0, 19)] {
         let words: Vec<u32> = (0..blocks * 128).map(|_| rng.word()).collect();

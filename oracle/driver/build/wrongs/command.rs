@@ -103,6 +103,11 @@ pub const SITES: &[Site] = &[
     ),
     driver(
         "fn command_inner<",
+        "T::REGS.sta().read().0",
+        &[wrong("command-by-dcount", "a command polls DCOUNT", "T::REGS.dcount().read().0")],
+    ),
+    driver(
+        "fn command_inner<",
         "status & 4 != 0",
         &[
             wrong("command-timeout-bit", "the data timeout bit ends a command", "status & 8 != 0"),
@@ -162,6 +167,11 @@ pub const SITES: &[Site] = &[
                 "!matches!(response, Response::R2 | Response::R3) && { T::REGS.respcmd().read(); false }",
             ),
             wrong(
+                "echo-by-first-word",
+                "the first response word is read for RESPCMD",
+                "!matches!(response, Response::R2 | Response::R3) && T::REGS.resp(0).read().0 & 0x3f != u32::from(index)",
+            ),
+            wrong(
                 "echo-not-of-r7",
                 "RESPCMD is not read for R7",
                 "!matches!(response, Response::R2 | Response::R3 | Response::R7) && T::REGS.respcmd().read().respcmd() != index",
@@ -176,6 +186,16 @@ pub const SITES: &[Site] = &[
                 "words-backwards",
                 "the response words are taken in the other order",
                 "{ let mut words: [u32; 4] = core::array::from_fn(|word| T::REGS.resp(word).read().0); words.reverse(); words }",
+            ),
+            wrong(
+                "words-from-the-last",
+                "the response words are read from the last to the first",
+                "core::array::from_fn(|word| T::REGS.resp(3 - word).read().0)",
+            ),
+            wrong(
+                "words-first-again",
+                "the first response word is read four times",
+                "core::array::from_fn(|_| T::REGS.resp(0).read().0)",
             ),
             wrong(
                 "words-one-for-short",

@@ -86,6 +86,11 @@ pub const SITES: &[Site] = &[
     ),
     driver(
         "fn wait_idle<",
+        "T::REGS.sta().read().0",
+        &[wrong("idle-by-dcount", "an idle wait reads DCOUNT", "T::REGS.dcount().read().0")],
+    ),
+    driver(
+        "fn wait_idle<",
         "Err(Error::SoftwareTimeout)",
         &[wrong("idle-spent-as-timeout", "a spent idle wait gives 1", "Err(Error::Timeout)")],
     ),

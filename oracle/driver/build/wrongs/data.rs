@@ -205,6 +205,11 @@ pub const SITES: &[Site] = &[
                 "transfer.get_remaining_transfers() != 0 || { T::REGS.dcount().read(); false }",
             ),
             wrong(
+                "dcount-by-status",
+                "the status is read for DCOUNT",
+                "transfer.get_remaining_transfers() != 0 || T::REGS.sta().read().0 != 0",
+            ),
+            wrong(
                 "dcount-low-half",
                 "only 16 bits of DCOUNT count",
                 "transfer.get_remaining_transfers() != 0 || T::REGS.dcount().read().0 as u16 != 0",

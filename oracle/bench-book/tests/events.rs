@@ -1,0 +1,103 @@
+//! The order of readings and rows, on books written by hand.
+
+use oracle_bench_book::{book, events, trace, MOST_ROOM};
+use oracle_driver::right::Host;
+use oracle_driver::script::{data, initialisation, short};
+
+/// Source 8 MHz, all limits 1, one line.
+fn written(calls: &[(u32, u32, u32, Vec<u32>)]) -> Vec<u8> {
+    let mut words = vec![8_000_000, 1, 1, 1, 1, 0, calls.len() as u32];
+    for (kind, a, b, script) in calls {
+        words.extend([*kind, *a, *b, script.len() as u32]);
+    }
+    words.extend(calls.iter().flat_map(|call| &call.3));
+    book::bytes(&words)
+}
+
+fn print(calls: &[(u32, u32, u32, Vec<u32>)], room: usize) -> String {
+    let mut text = Vec::new();
+    events::<Host>(&written(calls), room, &mut text);
+    String::from_utf8(text).unwrap()
+}
+
+/// What follows the first call's state line, of a call on a card of 2,048 blocks.
+fn second(call: (u32, u32, u32, Vec<u32>)) -> String {
+    let (_, a, b, _) = call;
+    let head = format!("\n2 {} {a} {b}\n", call.0);
+    let text = print(&[(1, 25_000_000, 0, initialisation(1)), call], MOST_ROOM);
+    let at = text.find(&head).expect("a second call") + 1;
+    text[at..].to_owned()
+}
+
+const STATE: &str = "state clock=400000 signalling=SDR12 gated=0 clkcr=0 record=none\n";
+const RESET: &str =
+    "row 9 0\nrow 10 0\nrow 7 0\nrow 4 0\nrow 1 0\nrow 2 0\nrow 3 0\nrow 5 0\nrow 6 0\nrow 8 12584959\n";
+
+#[test]
+fn the_worked_example() {
+    let calls = [
+        (1, 50_000_001, 0, vec![]),
+        (2, 0, 1, vec![]),
+        (1, 25_000_000, 0, vec![2_048]),
+    ];
+    let expected = format!(
+        "host answer 0\n{STATE}\
+        1 1 50000001 0\n1 answer 17 words 0 rows 0\n{STATE}\
+        2 2 0 1\n2 answer 16 words 0 rows 0\n{STATE}\
+        3 1 25000000 0\n{RESET}read status 0x00000800\n{RESET}3 answer 2 words 1 rows 20\n{STATE}"
+    );
+    assert_eq!(print(&calls, MOST_ROOM), expected);
+}
+
+#[test]
+fn a_script_that_ends_tells_the_reading_without_a_word() {
+    let text = print(&[(1, 25_000_000, 0, vec![])], MOST_ROOM);
+    let expected = format!("{RESET}read status none\n1 answer 21 words 0 rows 10\n{STATE}");
+    assert_eq!(text, format!("host answer 0\n{STATE}1 1 25000000 0\n{expected}"));
+}
+
+#[test]
+fn a_row_without_room_is_no_event() {
+    let text = print(&[(1, 25_000_000, 0, vec![0])], 10);
+    let expected = format!("{RESET}read status 0x00000000\n1 answer 22 words 1 rows 10\n{STATE}");
+    assert_eq!(text, format!("host answer 0\n{STATE}1 1 25000000 0\n{expected}"));
+}
+
+#[test]
+fn each_kind_of_reading_in_a_read() {
+    let words: Vec<u32> = (0..128).map(|word| 0x1111_0000 + word).collect();
+    let script = [short(13, 0x900), data(17, &words), short(13, 0x900)].concat();
+    let gated = |rows: &str| format!("row 2 256\n{rows}row 2 0\n");
+    let command = |index: u32, argument: u32, word: u32| {
+        format!(
+            "read status 0x00000000\nrow 8 197\nrow 3 {argument}\nrow 4 {}\nread status 0x00000040\n\
+            read respcmd 0x{index:08x}\nread response 0 0x{word:08x}\n\
+            read response 1 0x00000000\nread response 2 0x00000000\nread response 3 0x00000000\n",
+            index + 64 + 1_024
+        )
+    };
+    let ready = gated(&command(13, 0x1234_0000, 0x900));
+    let stop = "row 9 0\nrow 7 0\nrow 8 1850\n";
+    let places: String = (0..128)
+        .map(|place| format!("read data {place} 0x1111{place:04x}\n"))
+        .collect();
+    let expected = format!(
+        "2 2 5 1\n{ready}read status 0x00000000\nrow 10 0\n{stop}row 5 1\nrow 6 512\nrow 7 155\nrow 2 256\n{}\
+        read status 0x00000000\nread dma 0x00000000\nread status 0x00000100\nread dma 0x00000000\n\
+        read dcount 0x00000000\n{places}{stop}row 2 0\n{ready}2 answer 0 words 155 rows 25\nstate ",
+        command(17, 5, 0)
+    );
+    let text = second((2, 5, 1, script));
+    assert!(text.starts_with(&expected), "{text}");
+}
+
+#[test]
+fn a_refused_book_or_host_has_one_line() {
+    for book in [vec![0; 3], vec![0; 44], book::bytes(&[1, 1, 1, 1, 1, 0, 1, 3, 0, 0, 0])] {
+        let (mut steps, mut traced) = (Vec::new(), Vec::new());
+        events::<Host>(&book, MOST_ROOM, &mut steps);
+        trace::<Host>(&book, MOST_ROOM, &mut traced);
+        assert_eq!(steps, traced);
+        assert_eq!(steps.iter().filter(|byte| **byte == b'\n').count(), 1);
+    }
+}

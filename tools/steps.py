@@ -1,0 +1,152 @@
+#!/usr/bin/env python3
+"""tools/steps.py [--traced] PILE COMMAND [ARGS]... < EXPECTED: holds what a program tells of each book of a pile, event by
+event, to a text. For oracle/compare-steps and oracle/replay-steps.
+
+COMMAND reads a book on standard input and prints what cardsteps prints. EXPECTED has for each book the line `book K`, and
+behind it what `oracle events` prints of that book: the same lines without the texts for people, which are taken off here (in
+lines that begin with `row ` or `read `, all from two spaces on).
+
+With --traced EXPECTED is what cardtrace prints of each book, which knows rows and no order of readings. Then the rows, the
+lines of calls and the states have to be the same, and the rest is held to the book itself: a call begins as the book has it,
+its readings are the first words of its script, as many as its line says, and one has no word where the script ended (answer
+21), behind everything else.
+
+Prints how many books and lines were equal. Exit status: 0 they are; 1 a book differs (the first is told), or COMMAND fails;
+2 bad usage.
+"""
+
+import re
+import struct
+import subprocess
+import sys
+
+READ = re.compile(r"read (?:status|respcmd|response [0-3]|dma|dcount|data \d+) (?:0x([0-9a-f]{8})|none)")
+ROW = re.compile(r"row \d+ \d+")
+LINE = re.compile(r"\d+ answer (\d+) words (\d+) rows \d+")
+# What only cardtrace tells.
+TRACE_ALONE = ("carried ", "status ", "block ")
+BEFORE = 5
+
+
+class Differs(Exception):
+    """What is wrong with a book's text."""
+
+
+def books(pile):
+    while length := pile.read(4):
+        yield pile.read(int.from_bytes(length, "little"))
+
+
+def expected(text):
+    """Number and lines of each book of a text."""
+    number, lines = None, []
+    for line in text:
+        line = line.rstrip("\n")
+        if line.startswith("book "):
+            if number is not None:
+                yield number, lines
+            number, lines = int(line[5:]), []
+        else:
+            lines.append(line)
+    if number is not None:
+        yield number, lines
+
+
+def plain(line):
+    return line.partition("  ")[0] if line.startswith(("row ", "read ")) else line
+
+
+def serve(command, book):
+    ran = subprocess.run(command, input=book, stdout=subprocess.PIPE)
+    if ran.returncode != 0:
+        raise Differs(f"the program ended with status {ran.returncode}")
+    text = ran.stdout.decode("ascii", "replace")
+    if text and not text.endswith("\n"):
+        raise Differs("its last line has no end")
+    return [plain(line) for line in text.split("\n")[:-1]]
+
+
+def same(theirs, ours):
+    if theirs == ours:
+        return
+    pairs = enumerate(zip([*theirs, "(the end)"], [*ours, "(the end)"]))
+    at = next(k for k, (a, b) in pairs if a != b)
+    told = [f"  {line}" for line in ours[max(0, at - BEFORE) : at]]
+    told += [f"- {(theirs + ['(the end)'])[at]}", f"+ {(ours + ['(the end)'])[at]}"]
+    raise Differs("\n".join([f"line {at + 1}, expected (-) and found (+):", *told]))
+
+
+def calls(book):
+    """What each call of a book begins with, and its script; the book has been found to be one."""
+    words = [word for (word,) in struct.iter_unpack("<I", book)]
+    place = 7 + 4 * words[6]
+    for k in range(words[6]):
+        kind, a, b, length = words[7 + 4 * k : 11 + 4 * k]
+        yield f"{k + 1} {kind} {a} {b}", words[place : place + length]
+        place += length
+
+
+def held_to_script(events, line, script):
+    """A call's events and its line against its script."""
+    told = LINE.fullmatch(line)
+    if not told:
+        raise Differs(f"no line of a call: {line}")
+    answer, used = map(int, told.groups())
+    readings = [event for event in events if event.startswith("read ")]
+    for event in events:
+        if not (READ.fullmatch(event) or ROW.fullmatch(event)):
+            raise Differs(f"no event: {event}")
+    if answer == 21:
+        if used != len(script) or not readings or events[-1] != readings[-1] or not readings.pop().endswith(" none"):
+            raise Differs(f"no reading without a word as the last event of: {line}")
+    if [READ.fullmatch(reading)[1] for reading in readings] != [f"{word:08x}" for word in script[:used]]:
+        raise Differs(f"the readings are not the first words of the script: {line}")
+
+
+def as_traced(lines, book):
+    """The lines of a host that was made in cardtrace's order, the readings held to the book and left out."""
+    traced, rest = lines[:2], iter(lines[2:])
+    for begins, script in calls(book):
+        if (line := next(rest, "(the end)")) != begins:
+            raise Differs(f"a call begins with {begins!r} and not with {line!r}")
+        events = []
+        while (line := next(rest, "(the end)")).startswith(("row ", "read ")):
+            events.append(line)
+        held_to_script(events, line, script)
+        traced += [line, *(event for event in events if event.startswith("row ")), next(rest, "(the end)")]
+    return traced + list(rest)
+
+
+def main():
+    words = sys.argv[1:]
+    traced = words[:1] == ["--traced"]
+    words = words[traced:]
+    if len(words) < 2:
+        print(f"usage: {__doc__.partition(':')[0]}", file=sys.stderr)
+        return 2
+    texts, number, lines = expected(sys.stdin), 0, 0
+    with open(words[0], "rb") as pile:
+        for number, book in enumerate(books(pile), 1):
+            try:
+                k, theirs = next(texts, (None, None))
+                if k != number:
+                    raise Differs("nothing is expected of it")
+                ours = serve(words[1:], book)
+                if traced:
+                    theirs = [line for line in theirs if not line.startswith(TRACE_ALONE)]
+                    if theirs[0] == "host answer 0" and ours[:1] == theirs[:1]:
+                        ours = as_traced(ours, book)
+                same(theirs, ours)
+            except Differs as why:
+                print(f"book {number}: {why}")
+                return 1
+            lines += len(ours)
+    if next(texts, None):
+        print("more books are expected than the pile has")
+        return 1
+    print(f"{number} books, {lines} lines")
+    return 0
+
+
+if __name__ == "__main__":
+    sys.exit(main())
