@@ -18,8 +18,11 @@ use Rattle.tape.specs.declared.progress.Line.{Line}
 use Rattle.host.specs.declared.host.Sdmmc.{Sdmmc}
 
 -- row REGISTER VALUE: every row, in order, decimal
+abbrev pub rowText : ℕ → ℕ → List ℕ
+rowText register value = (typed "row " ++ decimalOf register) ++ (typed " " ++ decimalOf value)
+
 abbrev pub rowLine : ℕ → ℕ → List ℕ
-rowLine register value = (typed "row " ++ decimalOf register) ++ (typed " " ++ decimalOf value) ++ typed "\n"
+rowLine register value = rowText register value ++ typed "\n"
 
 -- the first n rows of a row list, two words each; a word that is not there reads as 0
 unfoldable pub rowsText : ℕ → List ℕ → List ℕ

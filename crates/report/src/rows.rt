@@ -5,7 +5,7 @@ ghost use Prim.Native.Nat.{_+_, _*_, _<_};
 ghost use lib.ListN.{getD};
 ghost use Rattle.text.specs.Digits.{decimalOf};
 ghost use Rattle.text.specs.Ink.{Laid};
-ghost use Rattle.report.specs.Report.{rowLine, rowsText, carriedText};
+ghost use Rattle.report.specs.Report.{rowText, rowLine, rowsText, carriedText};
 use book::layout;
 use text::pen;
 use types::error::Answer;
@@ -28,11 +28,17 @@ fn row_word(rows: &[u32], i: usize, k: usize) -> u32
     layout::word(rows, 2 * i + k)
 }
 
-fn put_row(out: &mut [u8], at: usize, register: u32, value: u32) -> usize
-    ensures { λ r. ⌜ Laid at (rowLine register value) (now (out .entry)) r (now (out .exit)) ⌝ }
+pub fn put_row(out: &mut [u8], at: usize, register: u32, value: u32) -> usize
+    ensures { λ r. ⌜ Laid at (rowText register value) (now (out .entry)) r (now (out .exit)) ⌝ }
 {
     let named = put_named(out, at, b"row ", register as u64);
-    let told = put_named(out, named, b" ", value as u64);
+    put_named(out, named, b" ", value as u64)
+}
+
+fn put_line(out: &mut [u8], at: usize, register: u32, value: u32) -> usize
+    ensures { λ r. ⌜ Laid at (rowLine register value) (now (out .entry)) r (now (out .exit)) ⌝ }
+{
+    let told = put_row(out, at, register, value);
     pen::put_byte(out, told, b'\n')
 }
 
@@ -43,7 +49,7 @@ pub fn put_rows(out: &mut [u8], at: usize, rows: &[u32], n: usize) -> usize
     let mut place = pen::least(at, out.len());
     let mut i = 0;
     while i < n {
-        place = put_row(out, place, row_word(rows, i, 0), row_word(rows, i, 1));
+        place = put_line(out, place, row_word(rows, i, 0), row_word(rows, i, 1));
         i = i + 1;
     }
     place

@@ -4,6 +4,7 @@ pub mod Boundary
 pub mod Bus
 pub mod Desk
 pub mod Determined
+pub mod Events
 pub mod Host
 pub mod Init
 pub mod Meter

@@ -16,6 +16,9 @@ record-put-record = determined _ λ _ _ _ p i. (p .laid i, p .placed i)
 rows-put-named : Unique rows.put_named.Kinds.ps rows.put_named.Kinds.r rows.put_named.Reads.Learnt
 rows-put-named = determined _ λ _ _ _ p i. (p .laid i, p .placed i)
 
+rows-put-row : Unique rows.put_row.Kinds.ps rows.put_row.Kinds.r rows.put_row.Reads.Learnt
+rows-put-row = determined _ λ _ _ _ p i. (p .laid i, p .placed i)
+
 rows-put-rows : Unique rows.put_rows.Kinds.ps rows.put_rows.Kinds.r rows.put_rows.Reads.Learnt
 rows-put-rows = determined _ λ _ _ _ p i. (p .laid i, p .placed i)
 

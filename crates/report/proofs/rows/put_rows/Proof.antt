@@ -21,7 +21,7 @@ loop-holds c = (rw (rows-none (c .before .before .before .args .rows .now)) (not
 
 loop-again : tie.Need-loop-again Inv-loop μ-loop
 loop-again c =
-    let line = rw (c .before .before .before .before .row-word .ensures, c .before .before .before .row-word2 .ensures) at (c .before .before .put-row .ensures) in
+    let line = rw (c .before .before .before .before .row-word .ensures, c .before .before .before .row-word2 .ensures) at (c .before .before .put-line .ensures) in
     (row-more (c .before .before .before .before .before .before .before .before .before .before .before .args .rows .now) (c .before .before .before .before .before .before .before .loop .i) (c .before .before .before .before .before .before .before .loop .inv .0) line, omega arith)
 
 same-length : tie.Need-same-length Inv-loop μ-loop
