@@ -1,7 +1,7 @@
 -- How a command goes on from each of its parts.
 use Prim.Native.Nat.{ℕ, suc, _-_, _%_}
 use mathlib.Core.Path.{_≡_, refl, ap, sym, _∙_}
-use mathlib.Core.Bool.{Bool, true, false, cond, not}
+use mathlib.Core.Bool.{Bool, true, false}
 use mathlib.Core.List.{List, [], _∷_}
 use native.Mathlib.Omega.{arith}
 use Rattle.tape.specs.declared.progress.Line.{Line}
@@ -12,11 +12,10 @@ use Rattle.tape.specs.Plan.{handle, _then_, fail, until, ensure}
 use Rattle.tape.specs.Steps.{word, row, waitIdle, setClken}
 use Rattle.bus.specs.declared.response.Form.{Form}
 use Rattle.bus.specs.declared.response.Response.{Response}
-use Rattle.bus.specs.Command.{formOf, answer, waitCompletion, pollCompletion, responseWords, judge, issue, complete, commandInner, command}
+use Rattle.bus.specs.Command.{formOf, waitCompletion, pollCompletion, responseWords, judge, issue, complete, commandInner, command}
 use Rattle.step.specs.Next.{Next, next, heard, told, wantOf, lineAfter, waits}
-use Rattle.step.specs.Context.{plug, andThen, plug-look, heard-read, wants-read, waits-read, waits-write, told-read, line-read, heard-write, told-write, wants-write, line-write}
+use Rattle.step.specs.Context.{plug, heard-read, wants-read, waits-read, waits-write, told-read, line-read, heard-write, told-write, line-write}
 use Rattle.step.specs.Command.{endNext, shut, within, polling, polledAt, tellsPlan, asksPlan, partPlan, begunPlan, readingOf}
-use Rattle.step.specs.declared.command.Command.{Command}
 use Rattle.step.specs.declared.command.Ended.{Ended}
 use Rattle.step.specs.declared.command.Ended.the-variants.{Well, Badly}
 use Rattle.step.specs.declared.command.Part.{Part}
@@ -25,17 +24,9 @@ use Rattle.step.specs.declared.command.Asks.{Asks}
 use Rattle.step.specs.declared.command.Asks.the-variants as A
 use Rattle.step.specs.declared.command.Tells.{Tells}
 use Rattle.step.specs.declared.command.Tells.the-variants as T
-use Rattle.tape.specs.declared.rows.Row.{Row}
 use Rattle.tape.specs.Run.{noted}
-use Rattle.step.specs.declared.wants.Wants.{Wants}
 use Rattle.step.specs.declared.wants.Wants.the-variants as W
 use Rattle.types.specs.declared.error.Error.the-variants as E
-
--- the row that is wanted, if one is
-abbrev rowIn : Wants → Row
-rowIn (W.Write r) = r
-rowIn (W.Read r) = record { register = 0; value = 0 }
-rowIn W.Nothing = record { register = 0; value = 0 }
 
 -- a number that is not 0 is one more than one less
 pub one-less : (n : ℕ) → (n ≡ 0 → ⊥) → suc (n - 1) ≡ n
@@ -151,25 +142,6 @@ module _ (limit index argument : ℕ) (response : Response) (gate : Bool) (h : L
   reads (A.Fourth a b c) = sym (wants-read (shut gate) h _ _ _)
 
   -- the line once its row is written
-  pub tells-line : (t : Tells) (r : Row) → W.Write r ≡ wantOf (telling t h) → noted r h ≡ lineAfter (telling t h)
-  unfolding tellsPlan issue setClken row handle plug next wantOf lineAfter
-  tells-line T.Open r e = ap (λ (r : Row). noted r h) (ap rowIn e)
-  tells-line T.Icr r e = ap (λ (r : Row). noted r h) (ap rowIn (e ∙ wants-write (shut gate) h _ _)) ∙ sym (line-write (shut gate) h _ _)
-  tells-line T.Argument r e = ap (λ (r : Row). noted r h) (ap rowIn (e ∙ wants-write (shut gate) h _ _)) ∙ sym (line-write (shut gate) h _ _)
-  tells-line T.Order r e = ap (λ (r : Row). noted r h) (ap rowIn (e ∙ wants-write (shut gate) h _ _)) ∙ sym (line-write (shut gate) h _ _)
-  tells-line (T.Close x) r e = ap (λ (r : Row). noted r h) (ap rowIn e)
-
-  abbrev pub rowOf : Tells → Row
-  rowOf t = rowIn (wantOf (telling t h))
-
-  pub tells-want : (t : Tells) → wantOf (telling t h) ≡ W.Write (rowOf t)
-  unfolding tellsPlan issue setClken row handle plug next wantOf
-  tells-want T.Open = refl
-  tells-want T.Icr = rw (wants-write (shut gate) h _ _)
-  tells-want T.Argument = rw (wants-write (shut gate) h _ _)
-  tells-want T.Order = rw (wants-write (shut gate) h _ _)
-  tells-want (T.Close x) = refl
-
   pub asks-line : (a : Asks) → lineAfter (asking a) ≡ h
   unfolding asksPlan within polling waitIdle waitCompletion pollCompletion until responseWords word handle plug
   asks-line (A.Idle n) = line-read (shut gate) h _ _ _

@@ -1,37 +1,33 @@
 -- How a data phase goes on from each of its places.
-use Prim.Native.Nat.{ℕ, suc, _+_, _-_, _*_, _%_, _^_, _<_, _≤_}
+use Prim.Native.Nat.{ℕ, suc, _+_, _-_, _%_, _^_, _<_, _≤_}
 use mathlib.Core.Path.{_≡_, refl, ap, sym, _∙_}
-use mathlib.Core.Bool.{Bool, true, false, cond, not, _||_}
+use mathlib.Core.Bool.{Bool, true, false, not, _||_}
 use mathlib.Core.List.{List, [], _∷_, _++_, append-nil}
 use native.Mathlib.Omega.{arith}
 use lib.Dec.{eqb}
 use lib.ListN.{take}
 use Rattle.types.specs.Bits.{clear}
 use Rattle.types.specs.Leaf.{dataOf}
-use Rattle.types.specs.declared.config.Config.{Config}
 use Rattle.types.specs.declared.error.Error.{Error}
 use Rattle.types.specs.declared.error.Error.the-variants as E
 use Rattle.types.specs.declared.status.DataAnswer.the-variants.{Clean, Failed}
 use Rattle.tape.specs.declared.progress.Line.{Line}
 use Rattle.tape.specs.declared.rows.Row.{Row}
-use Rattle.tape.specs.declared.script.Reading.{Reading}
-use Rattle.tape.specs.declared.script.Reading.the-variants as Reading
-use Rattle.tape.specs.Plan.{Nothing, Plan, failed, give, fail, handle, _then_, ensure, until}
+use Rattle.tape.specs.Plan.{Nothing, Plan, failed, give, fail, handle, ensure, until}
 use Rattle.tape.specs.Run.{noted}
 use Rattle.tape.specs.Steps.{word, row, waitIdle, stopData, resetController, setClken, dataFrom, dataWords}
 use Rattle.bus.specs.declared.response.Response.the-variants.{R1}
 use Rattle.bus.specs.declared.transfer.Transfer.{Transfer}
-use Rattle.bus.specs.Command.{commandInner, command}
 use Rattle.bus.specs.Ready.{waitReady}
 use Rattle.bus.specs.Transfer.{arm, startData, clean, pollTransfer, drained, settle, dataComplete, waitData, receive, closeGate, stopTransmission, endData, transferData, blockingData}
-use Rattle.step.specs.Next.{Next, tells, over, refused, next, heard, told, wantOf, waits, lineAfter, Handed}
-use Rattle.step.specs.Context.{Context, plug, plugNext, andThen, next-plug}
-use Rattle.step.specs.Command.{commandPlan, commandNext, endNext, listOf, begunPlan, begunNext}
+use Rattle.step.specs.Next.{Next, tells, over, refused, next, heard, told, wantOf, waits, lineAfter}
+use Rattle.step.specs.Context.{plug, plugNext, next-plug}
+use Rattle.step.specs.Command.{commandPlan, commandNext, endNext, begunPlan, begunNext}
 use Rattle.step.specs.Rows.{rowsFrom, resetRows, armRows, stopRows}
-use Rattle.step.specs.Reset.{resetRow, restLeft, rowsLeft, stepLeft, all-rows}
-use Rattle.step.specs.Arm.{armRow, armRest, armLeft, armNext, all-arm, stopRow, stopRest, stopLeft, stopNext, all-stop}
+use Rattle.step.specs.Reset.{restLeft, stepLeft, all-rows}
+use Rattle.step.specs.Arm.{armRest, armNext, all-arm, stopRest, stopNext, all-stop}
 use Rattle.step.specs.Ready.{limitAt, readyPlan, readyNext}
-use Rattle.step.specs.Transfer.{transferOf, topOf, placeOf, afterOf, allOf, readingAt, phasePlan, guarded, received, started, armed, startSite, ending, stopping, unclocked, stopSite, closing, refusal, idling, polling, taking, readsPlan, stopped, writesPlan, rowAt, toldPlan, dataPlan, dataNext}
+use Rattle.step.specs.Transfer.{transferOf, topOf, placeOf, afterOf, allOf, readingAt, phasePlan, received, armed, startSite, ending, stopping, unclocked, stopSite, closing, refusal, idling, polling, taking, readsPlan, stopped, writesPlan, rowAt, toldPlan, dataPlan}
 use Rattle.step.specs.declared.arm.Arm.{Arm}
 use Rattle.step.specs.declared.arm.Arm.the-variants as Ar
 use Rattle.step.specs.declared.arm.ArmStep.the-variants as ArS
@@ -43,7 +39,6 @@ use Rattle.step.specs.declared.reset.Reset.the-variants as Re
 use Rattle.step.specs.declared.reset.ResetStep.the-variants as ReS
 use Rattle.step.specs.declared.command.Begun.the-variants as B
 use Rattle.step.specs.declared.command.Command.{Command}
-use Rattle.step.specs.declared.command.CommandStep.{CommandStep}
 use Rattle.step.specs.declared.command.CommandStep.the-variants as C
 use Rattle.step.specs.declared.command.Ended.the-variants as X
 use Rattle.step.specs.declared.command.Words.{Words}
@@ -58,7 +53,7 @@ use Rattle.step.specs.declared.transfer.Writes.the-variants as W
 use Rattle.step.specs.declared.transfer.Data.{Data}
 use Rattle.step.specs.declared.transfer.Data.the-variants as D
 use Rattle.step.specs.declared.wants.Wants.the-variants as Wa
-use Rattle.step.proofs.Inside.{same-plug, command-waits, inside-waits, inside-line}
+use Rattle.step.proofs.Inside.{same-plug, command-waits, inside-waits}
 use Rattle.step.proofs.Parts as parts
 use Rattle.step.proofs.Readying.{ready-waits}
 use Rattle.step.proofs.Words.{appends, then-give, some-words}

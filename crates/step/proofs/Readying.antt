@@ -2,7 +2,6 @@
 use Prim.Native.Nat.{ℕ, suc, _*_, _^_}
 use mathlib.Core.Path.{_≡_, refl, ap, sym, _∙_}
 use mathlib.Core.Bool.{Bool, true, false, cond}
-use mathlib.Core.List.{List}
 use Rattle.types.specs.Leaf.{roundedUp}
 use Rattle.types.specs.Sd.{readyOf}
 use Rattle.types.specs.declared.error.Error.{Error}
@@ -18,7 +17,6 @@ use Rattle.step.specs.Next.{Next, over, refused, next, heard, told, want
 use Rattle.step.specs.Context.{Context, plug, plugNext, next-plug}
 use Rattle.step.specs.Command.{commandPlan, commandNext, endNext, listOf, begunPlan, begunNext}
 use Rattle.step.specs.Ready.{limitAt, attempts, tried, asked, readyPlan, readyNext}
-use Rattle.step.specs.declared.command.Begun.{Begun}
 use Rattle.step.specs.declared.command.Begun.the-variants as B
 use Rattle.step.specs.declared.command.Command.{Command}
 use Rattle.step.specs.declared.command.CommandStep.the-variants as C

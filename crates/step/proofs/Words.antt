@@ -1,6 +1,6 @@
 -- The data words of a transfer, as they come: each stands behind those before it.
 use Prim.Native.Nat.{ℕ, zero, suc, _+_, _<_, _≤_}
-use mathlib.Core.Path.{_≡_, refl, ap, sym, _∙_}
+use mathlib.Core.Path.{_≡_, refl, ap, sym}
 use mathlib.Core.List.{List, [], _∷_, _++_, append-assoc}
 use native.Mathlib.Omega.{arith}
 use lib.ListN.{take, set, length, length-append, length-take}
@@ -10,7 +10,7 @@ use Rattle.tape.specs.declared.script.Reading.{Reading}
 use Rattle.tape.specs.declared.script.Reading.the-variants as Reading
 use Rattle.tape.specs.Plan.{Plan, failed, ended, give, refuse, read, write, look, hold, handle}
 use Rattle.step.specs.Next.{Handed, handed}
-use Rattle.step.specs.Transfer.{blocksOf, transferOf, placeOf, wordsBy, putAt, keptBy}
+use Rattle.step.specs.Transfer.{blocksOf, transferOf, placeOf, putAt}
 use Rattle.step.specs.declared.transfer.Phase.{Phase}
 use Rattle.step.specs.declared.transfer.Phase.the-variants as P
 

@@ -1,6 +1,6 @@
 -- A data phase under way: what is ahead of it at each of its places. It is the plan of the bus, from that place on; `ws` are the
 -- data words that it has come to so far.
-use Prim.Native.Nat.{ℕ, suc, _+_, _-_, _*_, _%_, _^_, min}
+use Prim.Native.Nat.{ℕ, suc, _+_, _-_, min}
 use mathlib.Core.Path.{_≡_}
 use mathlib.Core.Bool.{Bool, cond, not, true, false, _||_}
 use mathlib.Core.List.{List, [], _++_}

@@ -1,8 +1,7 @@
 // The wait until the card is ready, answer by answer.
 ghost use mathlib.Core.Path.{_≡_};
-ghost use Prim.Native.Nat.{ℕ};
 ghost use Rattle.tape.specs.declared.progress.Line.{Line};
-ghost use Rattle.tape.specs.Plan.{give, fail};
+ghost use Rattle.tape.specs.Plan.{give};
 ghost use Rattle.bus.specs.Ready.{waitReady};
 ghost use Rattle.step.specs.Next.{next, wantOf, heard, told, lineAfter};
 ghost use Rattle.step.specs.Context.{plug, plugNext};

@@ -12,7 +12,7 @@ ghost use Rattle.step.specs.Next.{next, wantOf, heard, told, lineAfter, 
 ghost use Rattle.step.specs.Context.{plug, plugNext};
 ghost use Rattle.step.specs.Command.{commandNext};
 ghost use Rattle.step.specs.Ready.{readyNext};
-ghost use Rattle.step.specs.Transfer.{blocksOf, transferOf, topOf, placeOf, wordsBy, putAt, keptBy, heldBy, phasePlan, refusal, idling, polling, startSite, stopSite, ending, stopped, unclocked, readsPlan, readingAt, writesPlan, toldPlan, rowAt, dataPlan, dataNext, HandedAt};
+ghost use Rattle.step.specs.Transfer.{blocksOf, transferOf, topOf, placeOf, wordsBy, putAt, keptBy, heldBy, phasePlan, refusal, idling, polling, startSite, stopSite, ending, stopped, unclocked, readsPlan, readingAt, toldPlan, rowAt, dataPlan, dataNext, HandedAt};
 use crate::arm::Arm;
 use crate::arm::ArmStep;
 use crate::arm::Stop;
@@ -293,7 +293,13 @@ impl Bus {
     {
         let transfer = phase.transfer();
         let limit = self.config.poll_limit;
-        let begun = Command::begin(limit, transfer.index, transfer.argument, Response::R1, false);
+        let begun = Command::begin(
+            limit,
+            transfer.index,
+            transfer.argument,
+            Response::R1,
+            false,
+        );
         match begun {
             Begun::On(command) => Data::Start(command),
             Begun::Spent => self.refuses(phase, Error::SoftwareTimeout),
