@@ -1,9 +1,14 @@
 -- A line for each public function of `bus`.
 use Prim.Native.Nat.{ℕ}
 use mathlib.Core.List.{List, []}
-use mathlib.Core.Path.{ap}
+use mathlib.Core.Path.{_≡_, refl, ap, _∙_}
+use Rattle.tape.specs.Plan.{Nothing, Plan, give, refuse, read, write, look, hold, failed, ended}
 use Rattle.tape.specs.Run.{After}
+use Rattle.tape.specs.Steps.{row}
+use Rattle.bus.specs.declared.clock.DelayAnswer.{DelayAnswer}
+use Rattle.bus.specs.declared.clock.DelayAnswer.the-variants as Delay
 use Rattle.bus.specs.declared.response.Words.{Words}
+use Rattle.bus.specs.Clock.{delayed}
 use Rattle.bus.proofs.clock
 use Rattle.bus.proofs.command
 use Rattle.bus.proofs.poll
@@ -23,6 +28,24 @@ clock-configure-clock = determined _ λ _ _ _ p i. listed toProgress (p .same i)
 clock-clock-delay : Unique clock.clock_delay.Kinds.ps clock.clock_delay.Kinds.r clock.clock_delay.Reads.Learnt
 clock-clock-delay = determined _ λ _ _ _ p i. listed toProgress (p [] .same i)
 
+-- the answer that a delay's plan tells
+abbrev delayIn : Plan Nothing → DelayAnswer
+delayIn (write r _) = Delay.Spins (r .value)
+delayIn (refuse (failed e)) = Delay.Refused e
+delayIn (refuse ended) = Delay.Spins 0
+delayIn (give _) = Delay.Spins 0
+delayIn (read _ _ _) = Delay.Spins 0
+delayIn (look _) = Delay.Spins 0
+delayIn (hold _ _) = Delay.Spins 0
+
+delay-told : (x : DelayAnswer) → x ≡ delayIn (delayed x)
+unfolding delayed row
+delay-told (Delay.Spins n) = refl
+delay-told (Delay.Refused e) = refl
+
+clock-delay : Unique clock.delay.Kinds.ps clock.delay.Kinds.r clock.delay.Reads.Learnt
+clock-delay = determined _ λ _ _ x p. delay-told (x .0) ∙ ap delayIn p
+
 command-command-inner : Unique command.command_inner.Kinds.ps command.command_inner.Kinds.r command.command_inner.Reads.Learnt
 command-command-inner = determined _ λ _ _ _ p i. listed toWords (on p i)
 
@@ -40,6 +63,9 @@ poll-data-complete = determined _ λ _ _ _ p i. toFlag (on-any p i)
 
 poll-wait-data : Unique poll.wait_data.Kinds.ps poll.wait_data.Kinds.r poll.wait_data.Reads.Learnt
 poll-wait-data = determined _ λ _ _ _ p i. toProgress (on-any p i)
+
+ready-millisecond : Unique ready.millisecond.Kinds.ps ready.millisecond.Kinds.r ready.millisecond.Reads.Learnt
+ready-millisecond = determined _ λ _ _ _ p. p
 
 ready-retry-delay : Unique ready.retry_delay.Kinds.ps ready.retry_delay.Kinds.r ready.retry_delay.Reads.Learnt
 ready-retry-delay = determined _ λ _ _ _ p i. listed toProgress (p [] .same i)

@@ -1,12 +1,16 @@
 -- A line for each public function of `host`.
 use mathlib.Core.List.{[]}
 use Rattle.host.proofs.blocks
+use Rattle.host.proofs.calls
 use Rattle.host.proofs.host
 use Rattle.unique.specs.Unique.{Unique, UniqueIn}
 use Rattle.unique.proofs.Determined.{determined, part-determined}
 
 blocks-fill-blocks : Unique blocks.fill_blocks.Kinds.ps blocks.fill_blocks.Kinds.r blocks.fill_blocks.Reads.Learnt
 blocks-fill-blocks = determined _ λ _ _ _ p i. (p i, tt)
+
+calls-with-status : Unique calls.with_status.Kinds.ps calls.with_status.Kinds.r calls.with_status.Reads.Learnt
+calls-with-status = determined _ λ _ _ _ p. p
 
 host-sdmmc-blocking-init-card : Unique host.Sdmmc.blocking_init_card.Kinds.ps host.Sdmmc.blocking_init_card.Kinds.r host.Sdmmc.blocking_init_card.Reads.Learnt
 host-sdmmc-blocking-init-card = determined _ λ _ _ _ p i. (p .1 i, p .0 i)

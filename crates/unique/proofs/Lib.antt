@@ -10,6 +10,8 @@ pub mod Init
 pub mod Meter
 pub mod Reader
 pub mod Report
+pub mod Step
+pub mod Stepping
 pub mod Steps
 pub mod Tape
 pub mod Text
