@@ -44,7 +44,7 @@ pub fn with_status(card: Card, status: [u32; 16]) -> Card
 }
 
 // The status of a call that was answered so, where its record's status is this one: zeros unless it was accepted.
-fn given_status(answer: Answer, status: [u32; 16]) -> [u32; 16]
+pub fn given_status(answer: Answer, status: [u32; 16]) -> [u32; 16]
     ensures { λ r. ⌜ r ≡ statusGiven answer status ⌝ }
 {
     match answer {

@@ -13,7 +13,7 @@ use Rattle.tape.specs.Run.{noted}
 use Rattle.tape.specs.Steps.{row}
 use Rattle.bus.specs.declared.response.Response.the-variants.{R1}
 use Rattle.bus.specs.Ready.{retryDelay, readStatus, tryReady, waitReady}
-use Rattle.step.specs.Next.{Next, over, refused, next, heard, told, wantOf, waits, lineAfter}
+use Rattle.step.specs.Next.{Next, over, refused, next, told, wantOf, waits, lineAfter}
 use Rattle.step.specs.Context.{Context, plug, plugNext, next-plug}
 use Rattle.step.specs.Command.{commandPlan, commandNext, endNext, listOf, begunPlan, begunNext}
 use Rattle.step.specs.Ready.{limitAt, attempts, tried, asked, readyPlan, readyNext}
@@ -81,10 +81,6 @@ module _ (bus : Bus) (h : Line) where
     pub delay-wants : W.Write (record { register = DELAY; value = roundedUp (bus .source .0) 1000 }) ≡ wantOf (next (readyPlan bus (R.Delay n)) h)
     unfolding readyPlan retryDelay row handle plug next wantOf
     delay-wants = refl
-
-    pub delay-heard : (w : ℕ) → next (readyPlan bus (R.Delay n)) h ≡ heard (next (readyPlan bus (R.Delay n)) h) w
-    unfolding readyPlan retryDelay row handle plug next heard
-    delay-heard w = refl
 
     pub delay-told : next (attempts bus n) (lineAfter (next (readyPlan bus (R.Delay n)) h)) ≡ told (next (readyPlan bus (R.Delay n)) h)
     unfolding readyPlan attempts retryDelay row handle plug next lineAfter told

@@ -387,20 +387,3 @@ module _ (j : Job) (k : Known) (h : Line) where
     pub delay-on : (v : ℕ) → follows k ws (F.Sends S.Cmd0 0 0 None) ≡ next (toldPlan j k (R.Delay v)) h
     unfolding followPlan sentSite toldPlan handle plug
     delay-on v = refl
-
-    -- a data phase that was refused
-    pub lost-own : (e : Error) → follows k ws (F.Over (Z.Dropping e)) ≡ next (plug (getsSite j k G.Asked) (fail e)) h
-    unfolding followPlan endPlan getsSite handle plug
-    lost-own e = refl
-
-    pub lost-scr : (e : Error) → follows k ws (F.Refuses e) ≡ next (plug (getsSite j k G.Scr) (fail e)) h
-    unfolding followPlan getsSite refusal handle plug
-    lost-scr e = refl
-
-    pub lost-check : (e : Error) → follows k ws (F.Refuses e) ≡ next (plug (getsSite j k G.Check) (fail e)) h
-    unfolding followPlan getsSite refusal handle plug
-    lost-check e = refl
-
-    pub lost-switch : (e : Error) → follows k ws (F.Refuses e) ≡ next (plug (getsSite j k G.Switch) (fail e)) h
-    unfolding followPlan getsSite refusal handle plug
-    lost-switch e = refl

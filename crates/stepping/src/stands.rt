@@ -185,7 +185,7 @@ impl Job {
     }
 
     // The same, with what is known by then.
-    fn follows(self, gated: bool, after: Then) -> Stand
+    pub fn follows(self, gated: bool, after: Then) -> Stand
         ensures { λ r. ⌜ ((held g : List ℕ) (h : Line) → h .gated ≡ gated → standNext self held g r h ≡ thenNext self (wordsIn self Gets.Asked held g) after h) ⌝ }
     {
         let known = after.known;
@@ -197,7 +197,7 @@ impl Job {
     }
 
     // A command after an answer.
-    fn commanded(self, known: Known, gated: bool, site: Site, step: CommandStep) -> Stand
+    pub fn commanded(self, known: Known, gated: bool, site: Site, step: CommandStep) -> Stand
         ensures { λ r. ⌜ ((held g : List ℕ) (h : Line) → h .gated ≡ gated → standNext self held g r h ≡ plugNext (siteOf self known site) (commandNext step h)) ⌝ }
     {
         match step {
@@ -210,7 +210,7 @@ impl Job {
     }
 
     // A ready wait after an answer.
-    fn waited(self, known: Known, gated: bool, waiting: Waiting, step: ReadyStep) -> Stand
+    pub fn waited(self, known: Known, gated: bool, waiting: Waiting, step: ReadyStep) -> Stand
         ensures { λ r. ⌜ ((held g : List ℕ) (h : Line) → h .gated ≡ gated → standNext self held g r h ≡ plugNext (waitSite self known waiting) (readyNext (busWith self (waitRca self known waiting)) step h)) ⌝ }
     {
         match step {
@@ -225,7 +225,7 @@ impl Job {
     }
 
     // A data phase after an answer.
-    fn received(
+    pub fn received(
         self,
         known: Known,
         held: [u32; 16],
@@ -248,7 +248,7 @@ impl Job {
     }
 
     // After a status word of an idle wait: the clock's row once nothing is under way.
-    fn idled(self, known: Known, change: Change, more: u32, word: u32) -> Stand
+    pub fn idled(self, known: Known, change: Change, more: u32, word: u32) -> Stand
         ensures { λ r. ⌜ ((held g : List ℕ) (h : Line) → standNext self held g r h ≡ heard (next (idling self known change (suc more)) h) word) ⌝ }
     {
         if word & Sta::BUSY == 0 {

@@ -12,6 +12,9 @@ blocks-fill-blocks = determined _ λ _ _ _ p i. (p i, tt)
 calls-with-status : Unique calls.with_status.Kinds.ps calls.with_status.Kinds.r calls.with_status.Reads.Learnt
 calls-with-status = determined _ λ _ _ _ p. p
 
+calls-given-status : Unique calls.given_status.Kinds.ps calls.given_status.Kinds.r calls.given_status.Reads.Learnt
+calls-given-status = determined _ λ _ _ _ p. p
+
 host-sdmmc-blocking-init-card : Unique host.Sdmmc.blocking_init_card.Kinds.ps host.Sdmmc.blocking_init_card.Kinds.r host.Sdmmc.blocking_init_card.Reads.Learnt
 host-sdmmc-blocking-init-card = determined _ λ _ _ _ p i. (p .1 i, p .0 i)
 

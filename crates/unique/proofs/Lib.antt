@@ -5,6 +5,7 @@ pub mod Bus
 pub mod Desk
 pub mod Determined
 pub mod Events
+pub mod Feed
 pub mod Host
 pub mod Init
 pub mod Meter
@@ -17,4 +18,5 @@ pub mod Tape
 pub mod Text
 pub mod Told
 pub mod Types
+pub mod Underway
 pub mod Wordtext

@@ -1,0 +1,112 @@
+-- What is ahead, run on a script turn by turn; and how many turns that takes, of which each turn leaves one fewer.
+use Prim.Native.Nat.{ℕ, suc, _+_, _<_, _≤_}
+use mathlib.Core.Path.{_≡_, refl, ap, sym}
+use mathlib.Core.Bool.{cond}
+use mathlib.Core.List.{List}
+use lib.ListN.{length, getD}
+use lib.Dec.{ltb}
+use borrow.Author.Tests.{lt-ltb, le-ltb}
+use Rattle.tape.specs.declared.progress.Halt.the-variants.{ScriptEnded, TraceFull}
+use Rattle.tape.specs.declared.progress.Line.{Line}
+use Rattle.tape.specs.declared.progress.Pace.the-variants.{Stopped}
+use Rattle.tape.specs.declared.rows.Row.{Row}
+use Rattle.tape.specs.declared.script.Reading.{Reading}
+use Rattle.tape.specs.Plan.{Plan, give, refuse, read, write, look, hold}
+use Rattle.tape.specs.Rows.{rowAt, roomOf}
+use Rattle.tape.specs.Run.{after, noted, run}
+use Rattle.step.specs.Next.{Next, asks, tells, over, refused, next, heard, told}
+use Rattle.feed.specs.Runs.{runNext, liesAt, placeRun, placeNext}
+
+module _ (s : List ℕ) {A : Type 0} (d : A) where
+  pub run-next : (p : Plan A) (u n : ℕ) (h : Line) (l : List ℕ) → runNext s d (next p h) u n l ≡ run s d p u n h l
+  unfolding runNext next run
+  run-next (give a) u n h l = refl
+  run-next (refuse c) u n h l = refl
+  run-next (read r k z) u n h l = refl
+  run-next (write r p) u n h l = refl
+  run-next (look k) u n h l = run-next (k h) u n h l
+  run-next (hold h′ p) u n h l = run-next p u n h′ l
+
+  -- a word; a row; the end of the script, or of the list
+  pub run-heard : (h : Line) (r : Reading) (k : ℕ → Plan A) (z : Plan A) (u n : ℕ) (l : List ℕ) → u < length s
+      → runNext s d (asks h r k z) u n l ≡ runNext s d (heard (asks h r k z) (getD s u 0)) (u + 1) n l
+  unfolding runNext heard run
+  run-heard h r k z u n l within = rw (lt-ltb _ _ within) (sym (run-next (k (getD s u 0)) (u + 1) n h l))
+
+  pub run-told : (h : Line) (r : Row) (p : Plan A) (u n : ℕ) (l : List ℕ) → n < roomOf l
+      → runNext s d (tells h r p) u n l ≡ runNext s d (told (tells h r p)) u (n + 1) (rowAt l n r)
+  unfolding runNext told run
+  run-told h r p u n l room = rw (lt-ltb _ _ room) (sym (run-next p u (n + 1) (noted r h) (rowAt l n r)))
+
+  pub run-ended : (h : Line) (r : Reading) (k : ℕ → Plan A) (z : Plan A) (u n : ℕ) (l : List ℕ) → length s ≤ u
+      → runNext s d (asks h r k z) u n l ≡ after d (Stopped ScriptEnded) u n h l
+  unfolding runNext run
+  run-ended h r k z u n l none = rw (le-ltb _ _ none)
+
+  pub run-full : (h : Line) (r : Row) (p : Plan A) (u n : ℕ) (l : List ℕ) → roomOf l ≤ n
+      → runNext s d (tells h r p) u n l ≡ after d (Stopped TraceFull) u n h l
+  unfolding runNext run
+  run-full h r p u n l none = rw (le-ltb _ _ none)
+
+-- the same of where the data words lie
+module _ (s : List ℕ) {A : Type 0} where
+  pub place-next : (p : Plan A) (q u n : ℕ) (h : Line) (l : List ℕ) → placeNext s (next p h) q u n l ≡ placeRun s p q u n h l
+  unfolding placeNext next placeRun
+  place-next (give a) q u n h l = refl
+  place-next (refuse c) q u n h l = refl
+  place-next (read r k z) q u n h l = refl
+  place-next (write r p) q u n h l = refl
+  place-next (look k) q u n h l = place-next (k h) q u n h l
+  place-next (hold h′ p) q u n h l = place-next p q u n h′ l
+
+  pub place-heard : (h : Line) (r : Reading) (k : ℕ → Plan A) (z : Plan A) (q u n : ℕ) (l : List ℕ) → u < length s
+      → placeNext s (asks h r k z) q u n l ≡ placeNext s (heard (asks h r k z) (getD s u 0)) (liesAt r u q) (u + 1) n l
+  unfolding placeNext heard placeRun
+  place-heard h r k z q u n l within = rw (lt-ltb _ _ within) (sym (place-next (k (getD s u 0)) (liesAt r u q) (u + 1) n h l))
+
+  pub place-told : (h : Line) (r : Row) (p : Plan A) (q u n : ℕ) (l : List ℕ) → n < roomOf l
+      → placeNext s (tells h r p) q u n l ≡ placeNext s (told (tells h r p)) q u (n + 1) (rowAt l n r)
+  unfolding placeNext told placeRun
+  place-told h r p q u n l room = rw (lt-ltb _ _ room) (sym (place-next p q u (n + 1) (noted r h) (rowAt l n r)))
+
+  pub place-ended : (h : Line) (r : Reading) (k : ℕ → Plan A) (z : Plan A) (q u n : ℕ) (l : List ℕ) → length s ≤ u
+      → placeNext s (asks h r k z) q u n l ≡ q
+  unfolding placeNext placeRun
+  place-ended h r k z q u n l none = rw (le-ltb _ _ none)
+
+  pub place-full : (h : Line) (r : Row) (p : Plan A) (q u n : ℕ) (l : List ℕ) → roomOf l ≤ n → placeNext s (tells h r p) q u n l ≡ q
+  unfolding placeNext placeRun
+  place-full h r p q u n l none = rw (le-ltb _ _ none)
+
+  -- How many turns a plan takes on a script, given endless room.
+  unfoldable pub span : Plan A → ℕ → Line → ℕ
+  span (give a) u h = 0
+  span (refuse c) u h = 0
+  span (read r k z) u h = suc (cond (ltb u (length s)) (span (k (getD s u 0)) (u + 1) h) 0)
+  span (write r p) u h = suc (span p u (noted r h))
+  span (look k) u h = span (k h) u h
+  span (hold h′ p) u h = span p u h′
+
+  unfoldable pub nextSpan : Next A → ℕ → ℕ
+  nextSpan (asks h r k z) u = span (read r k z) u h
+  nextSpan (tells h r p) u = span (write r p) u h
+  nextSpan (over h a) u = 0
+  nextSpan (refused h c) u = 0
+
+  pub span-next : (p : Plan A) (u : ℕ) (h : Line) → nextSpan (next p h) u ≡ span p u h
+  unfolding nextSpan next span
+  span-next (give a) u h = refl
+  span-next (refuse c) u h = refl
+  span-next (read r k z) u h = refl
+  span-next (write r p) u h = refl
+  span-next (look k) u h = span-next (k h) u h
+  span-next (hold h′ p) u h = span-next p u h′
+
+  pub heard-span : (h : Line) (r : Reading) (k : ℕ → Plan A) (z : Plan A) (u : ℕ) → u < length s
+      → nextSpan (asks h r k z) u ≡ suc (nextSpan (heard (asks h r k z) (getD s u 0)) (u + 1))
+  unfolding nextSpan heard span
+  heard-span h r k z u within = rw (lt-ltb _ _ within) (ap suc (sym (span-next (k (getD s u 0)) (u + 1) h)))
+
+  pub told-span : (h : Line) (r : Row) (p : Plan A) (u : ℕ) → nextSpan (tells h r p) u ≡ suc (nextSpan (told (tells h r p)) u)
+  unfolding nextSpan told span
+  told-span h r p u = ap suc (sym (span-next p u (noted r h)))

@@ -1,0 +1,235 @@
+-- A call that is fed from a script, on its way: what it comes to from there on is what it comes to from its start. Every turn
+-- takes a word or writes a row, so that feeding ends.
+use Prim.Native.Nat.{ℕ, _+_, _-_, _<_}
+use mathlib.Core.Path.{_≡_, refl, ap, sym, _∙_}
+use mathlib.Core.Bool.{Bool, true, false, cond, not}
+use mathlib.Core.List.{List, []}
+use native.Mathlib.Omega.{arith}
+use lib.Dec.{ltb}
+use lib.ListN.{length, getD, length-set}
+use borrow.Author.Tests.{lt-ltb, ltb-true, ltb-false}
+use Rattle.tape.specs.declared.progress.Line.{Line}
+use Rattle.tape.specs.declared.rows.Row.{Row}
+use Rattle.tape.specs.declared.script.Reading.{Reading}
+use Rattle.tape.specs.Plan.{Plan, failed, ended}
+use Rattle.tape.specs.Rows.{rowAt, roomOf}
+use Rattle.tape.specs.Run.{After, run}
+use Rattle.host.specs.declared.host.Called.{Called}
+use Rattle.host.specs.declared.host.Sdmmc.{Sdmmc}
+use Rattle.host.specs.Calls.{Came, calledOf}
+use Rattle.step.specs.declared.wants.Wants.{Wants}
+use Rattle.step.specs.declared.wants.Wants.the-variants as W
+use Rattle.step.specs.Next.{Next, asks, tells, over, refused, next, wantOf, handed, HandedBy}
+use Rattle.step.proofs.Words.{is-handed}
+use Rattle.stepping.specs.Closing.{Closing}
+use Rattle.underway.specs.declared.call.Call.{Call}
+use Rattle.underway.specs.declared.call.Closed.{Closed}
+use Rattle.underway.specs.Under.{Under, under, answered, written, closedOf}
+use Rattle.feed.specs.Runs.{runNext, cameBy, cameOf, noClosing, liesAt, placeRun, placeNext}
+use Rattle.feed.specs.Turns.{Way, starts, wayOf, Turned, turned, turnBy, turnOf, fedFrom, placeFrom, handedAt, turnedOf, goesOn, calledAt}
+use Rattle.feed.specs.declared.turn.Event.the-variants as E
+use Rattle.feed.specs.declared.turn.Feeding.{Feeding}
+use Rattle.feed.specs.declared.turn.Turn.{Turn}
+use Rattle.feed.proofs.Drive.{run-next, run-heard, run-told, run-ended, run-full, place-next, place-heard, place-told, place-ended, place-full}
+
+not-both : {b : Bool} → b ≡ true → b ≡ false → ⊥
+not-both t f = let z : _≡_ {A = ℕ} 0 1 = cc in omega arith
+
+pub turned-false : (b : Bool) → not b ≡ true → b ≡ false
+turned-false true e = absurd (not-both e refl)
+turned-false false e = refl
+
+pub turned-true : (b : Bool) → not b ≡ false → b ≡ true
+turned-true true e = refl
+turned-true false e = absurd (not-both refl e)
+
+-- what a call that is over has come to
+pub closed-called : (w : Way) (c : Closed) → c ≡ closedOf (w .call)
+    → record { answer = c .answer; words = w .used; rows = w .rows; host = c .host } ≡ calledAt w E.Over
+unfolding calledAt
+closed-called w c e = λ i. record { answer = e i .answer; words = w .used; rows = w .rows; host = e i .host }
+
+module _ (s : List ℕ) where
+  -- a reading that takes its word, and a row that is written
+  pub read-turn : (f : Feeding) (g l : List ℕ) (r : Reading) (call : Call) (place : ℕ) → f .used < length s
+      → W.Read r ≡ wantOf (under g (f .call) .ahead)
+      → ((g g′ : List ℕ) → HandedBy (wantOf (under g (f .call) .ahead)) (getD s (f .used) 0) g g′ → under g′ call ≡ answered (under g (f .call)) (getD s (f .used) 0))
+      → place ≡ liesAt r (f .used) (f .place)
+      → turnedOf g (record { event = E.Read r (getD s (f .used) 0); feeding = record { call = call; used = f .used + 1; rows = f .rows; place = place } }) l
+      ≡ turnBy s (wayOf g f) l (W.Read r)
+  unfolding turnBy handedAt HandedBy
+  read-turn f g l r call place within asked goes is =
+      let w = getD s (f .used) 0 in
+      let hand : HandedBy (wantOf (under g (f .call) .ahead)) w g (handed r w g) = rw (← asked) (is-handed r w g) in
+      rw (lt-ltb _ _ within)
+      (λ i. turned (E.Read r w) (record { call = goes g (handed r w g) hand i; used = f .used + 1; rows = f .rows; place = is i }) l)
+
+  pub row-turn : (f : Feeding) (g l : List ℕ) (r : Row) (call : Call) → f .rows < roomOf l
+      → ((g : List ℕ) → under g call ≡ written (under g (f .call)))
+      → turnedOf g (record { event = E.Wrote r; feeding = record { call = call; used = f .used; rows = f .rows + 1; place = f .place } }) (rowAt l (f .rows) r)
+      ≡ turnBy s (wayOf g f) l (W.Write r)
+  unfolding turnBy handedAt
+  row-turn f g l r call room goes =
+      rw (lt-ltb _ _ room)
+      (λ i. turned (E.Wrote r) (record { call = goes g i; used = f .used; rows = f .rows + 1; place = f .place }) (rowAt l (f .rows) r))
+
+  -- a turn is the one that is waited for
+  pub as-wanted : (w : Way) (l : List ℕ) (x : Wants) (t : Turned) → x ≡ wantOf (w .call .ahead) → t ≡ turnBy s w l x → t ≡ turnOf s w l
+  as-wanted w l x t e is = is ∙ ap (turnBy s w l) e
+
+  module _ (b : Sdmmc) (u n q : ℕ) (l : List ℕ) where
+    abbrev at : Next Closing → Way
+    at x = record { call = record { before = b; ahead = x }; used = u; rows = n; place = q }
+
+    -- a turn after which another follows
+    record Goes (t : Turned) (x : Next Closing) : Type 0 where
+      fed : fedFrom s (t .next) (t .list) ≡ fedFrom s (at x) l
+      place : placeFrom s (t .next) (t .list) ≡ placeFrom s (at x) l
+      long : length (t .list) ≡ length l
+      less : (length s - t .next .used) + (roomOf l - t .next .rows) < (length s - u) + (roomOf l - n)
+
+    -- and one after which none does
+    record Ends (t : Turned) (x : Next Closing) : Type 0 where
+      called : calledAt (t .next) (t .event) ≡ calledOf (fedFrom s (at x) l)
+      list : t .list ≡ fedFrom s (at x) l .list
+      place : t .next .place ≡ placeFrom s (at x) l
+
+    module _ (h : Line) (r : Reading) (k : ℕ → Plan Closing) (z : Plan Closing) where
+      abbrev took : Turned
+      took =
+          turned (E.Read r (getD s u 0))
+          (record { call = answered (at (asks h r k z) .call) (getD s u 0); used = u + 1; rows = n; place = liesAt r u q }) l
+
+      abbrev missed : Turned
+      missed = turned (E.Missed r) (at (asks h r k z)) l
+
+      asks-goes : (t : Bool) → ltb u (length s) ≡ t → goesOn (cond t took missed .event) ≡ true → Goes (cond t took missed) (asks h r k z)
+      unfolding goesOn
+      asks-goes true within e =
+          let some = ltb-true u (length s) within in
+          record {
+            fed = ap (cameOf b) (sym (run-heard s (noClosing b) h r k z u n l some));
+            place = sym (place-heard s h r k z q u n l some);
+            long = refl;
+            less = omega arith;
+          }
+      asks-goes false within e = absurd (not-both e refl)
+
+      asks-ends : (t : Bool) → ltb u (length s) ≡ t → goesOn (cond t took missed .event) ≡ false → Ends (cond t took missed) (asks h r k z)
+      unfolding goesOn calledAt cameBy
+      asks-ends true within e = absurd (not-both refl e)
+      asks-ends false within e =
+          let none = ltb-false u (length s) within in
+          let stops = run-ended s (noClosing b) h r k z u n l none in
+          record {
+            called = ap (λ (x : After Closing). calledOf (cameOf b x)) (sym stops);
+            list = ap (λ (x : After Closing). cameOf b x .list) (sym stops);
+            place = sym (place-ended s h r k z q u n l none);
+          }
+
+    module _ (h : Line) (r : Row) (p : Plan Closing) where
+      abbrev wrote : Turned
+      wrote =
+          turned (E.Wrote r) (record { call = written (at (tells h r p) .call); used = u; rows = n + 1; place = q }) (rowAt l n r)
+
+      abbrev full : Turned
+      full = turned (E.Full r) (at (tells h r p)) l
+
+      tells-goes : (t : Bool) → ltb n (roomOf l) ≡ t → goesOn (cond t wrote full .event) ≡ true → Goes (cond t wrote full) (tells h r p)
+      unfolding goesOn
+      tells-goes true within e =
+          let room = ltb-true n (roomOf l) within in
+          record {
+            fed = ap (cameOf b) (sym (run-told s (noClosing b) h r p u n l room));
+            place = sym (place-told s h r p q u n l room);
+            long = simp length-set refl;
+            less = omega arith;
+          }
+      tells-goes false within e = absurd (not-both e refl)
+
+      tells-ends : (t : Bool) → ltb n (roomOf l) ≡ t → goesOn (cond t wrote full .event) ≡ false → Ends (cond t wrote full) (tells h r p)
+      unfolding goesOn calledAt cameBy
+      tells-ends true within e = absurd (not-both refl e)
+      tells-ends false within e =
+          let none = ltb-false n (roomOf l) within in
+          let stops = run-full s (noClosing b) h r p u n l none in
+          record {
+            called = ap (λ (x : After Closing). calledOf (cameOf b x)) (sym stops);
+            list = ap (λ (x : After Closing). cameOf b x .list) (sym stops);
+            place = sym (place-full s h r p q u n l none);
+          }
+
+    goes : (x : Next Closing) → goesOn (turnOf s (at x) l .event) ≡ true → Goes (turnOf s (at x) l) x
+    unfolding turnBy wantOf goesOn
+    goes (asks h r k z) e = asks-goes h r k z (ltb u (length s)) refl e
+    goes (tells h r p) e = tells-goes h r p (ltb n (roomOf l)) refl e
+    goes (over h a) e = absurd (not-both e refl)
+    goes (refused h c) e = absurd (not-both e refl)
+
+    ends : (x : Next Closing) → goesOn (turnOf s (at x) l .event) ≡ false → Ends (turnOf s (at x) l) x
+    unfolding turnBy wantOf runNext placeNext cameBy calledAt closedOf
+    ends (asks h r k z) e = asks-ends h r k z (ltb u (length s)) refl e
+    ends (tells h r p) e = tells-ends h r p (ltb n (roomOf l)) refl e
+    ends (over h a) e = record { called = refl; list = refl; place = refl }
+    ends (refused h (failed x)) e = record { called = refl; list = refl; place = refl }
+    ends (refused h ended) e = record { called = refl; list = refl; place = refl }
+
+  -- on its way from w₀, with the list l₀; `out` are the data words handed out so far
+  pub record On (w₀ : Way) (l₀ : List ℕ) (f : Feeding) (l : List ℕ) : Type 0 where
+    pub out : List ℕ
+    pub fed : fedFrom s (wayOf out f) l ≡ fedFrom s w₀ l₀
+    pub place : placeFrom s (wayOf out f) l ≡ placeFrom s w₀ l₀
+    pub long : length l ≡ length l₀
+
+  pub begun : (f : Feeding) (l : List ℕ) → On (wayOf [] f) l f l
+  begun f l = record { out = []; fed = refl; place = refl; long = refl }
+
+  module _ {w₀ : Way} {l₀ : List ℕ} {f : Feeding} {l : List ℕ} (on : On w₀ l₀ f l) (t : Turn) (l′ : List ℕ)
+      (is : (g : List ℕ) → turnedOf g t l′ ≡ turnOf s (wayOf g f) l) where
+    abbrev there : Turned
+    there = turnOf s (wayOf (on .out) f) l
+
+    event-is : t .event ≡ there .event
+    event-is = ap (λ (t : Turned). t .event) (is (on .out))
+
+    going : goesOn (t .event) ≡ true
+        → Goes (under (on .out) (f .call) .before) (f .used) (f .rows) (f .place) l there (under (on .out) (f .call) .ahead)
+    going e =
+        goes (under (on .out) (f .call) .before) (f .used) (f .rows) (f .place) l (under (on .out) (f .call) .ahead)
+        (sym (ap goesOn event-is) ∙ e)
+
+    pub goes-on : goesOn (t .event) ≡ true → On w₀ l₀ (t .feeding) l′
+    goes-on e =
+        record {
+          out = handedAt (t .event) (on .out);
+          fed = ap (λ (t : Turned). fedFrom s (t .next) (t .list)) (is (on .out)) ∙ going e .fed ∙ on .fed;
+          place = ap (λ (t : Turned). placeFrom s (t .next) (t .list)) (is (on .out)) ∙ going e .place ∙ on .place;
+          long = ap (λ (t : Turned). length (t .list)) (is (on .out)) ∙ going e .long ∙ on .long;
+        }
+
+    pub goes-less : goesOn (t .event) ≡ true
+        → (length s - t .feeding .used) + (roomOf l₀ - t .feeding .rows) < (length s - f .used) + (roomOf l₀ - f .rows)
+    goes-less e =
+        let used : t .feeding .used ≡ there .next .used = ap (λ (t : Turned). t .next .used) (is (on .out)) in
+        let rows : t .feeding .rows ≡ there .next .rows = ap (λ (t : Turned). t .next .rows) (is (on .out)) in
+        rw (used, rows, ← on .long) (going e .less)
+
+    pub ends-there : goesOn (t .event) ≡ false → (r : Called) → ((g : List ℕ) → r ≡ calledAt (wayOf g (t .feeding)) (t .event))
+        → (r ≡ calledOf (fedFrom s w₀ l₀)) × (l′ ≡ fedFrom s w₀ l₀ .list) × (t .feeding .place ≡ placeFrom s w₀ l₀)
+    ends-there e r is-called =
+        let last =
+        ends (under (on .out) (f .call) .before) (f .used) (f .rows) (f .place) l (under (on .out) (f .call) .ahead)
+        (sym (ap goesOn event-is) ∙ e) in (
+          is-called (handedAt (t .event) (on .out)) ∙ ap (λ (t : Turned). calledAt (t .next) (t .event)) (is (on .out)) ∙ last .called ∙ ap calledOf (on .fed),
+          ap (λ (t : Turned). t .list) (is (on .out)) ∙ last .list ∙ ap (λ (x : Came). x .list) (on .fed),
+          ap (λ (t : Turned). t .next .place) (is (on .out)) ∙ last .place ∙ on .place,
+        )
+
+  -- from its start, a call that begins as a plan comes to what the plan does
+  module _ (u : Under) (host : Sdmmc) (p : Plan Closing) (l : List ℕ) (begins : u ≡ record { before = host; ahead = next p (host .line) }) where
+    pub fed-whole : fedFrom s (starts u) l ≡ cameOf host (run s (noClosing host) p 0 0 (host .line) l)
+    fed-whole =
+        ap (λ (u : Under). fedFrom s (starts u) l) begins ∙ ap (cameOf host) (run-next s (noClosing host) p 0 0 (host .line) l)
+
+    pub place-whole : placeFrom s (starts u) l ≡ placeRun s p 0 0 0 (host .line) l
+    place-whole = ap (λ (u : Under). placeFrom s (starts u) l) begins ∙ place-next s p 0 0 0 (host .line) l

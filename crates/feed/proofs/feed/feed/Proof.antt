@@ -1,0 +1,71 @@
+use denote.Ref.{now}
+use Prim.Native.Nat.{_+_, _-_, _/_}
+use mathlib.Core.Path.{ap, sym, _∙_}
+use mathlib.Core.List.{[]}
+use lib.ListN.{length}
+use borrow.Author.Needs.{needs}
+use Rattle.host.specs.Calls.{calledOf}
+use Rattle.feed.specs.Turns.{wayOf, fedFrom, placeFrom}
+use Rattle.feed.specs.declared.feed.Fed.{Fed}
+use Rattle.feed.specs.declared.turn.Feeding.{Feeding}
+use Rattle.feed.proofs.Fed as F
+use Rattle.feed.proofs.feed.feed.Statement.{statement}
+use Rattle.feed.proofs.feed.feed.Tie as tie
+
+abbrev Inv-loop : tie.InvT-loop
+Inv-loop script rows₀ feeding₀ rows feeding = F.On script (wayOf [] feeding₀) rows₀ feeding rows
+
+abbrev μ-loop : tie.MeasureT-loop
+μ-loop script rows₀ feeding₀ rows feeding = (length script - feeding .used) + (length rows₀ / 2 - feeding .rows)
+
+loop-holds : tie.Need-loop-holds Inv-loop μ-loop
+loop-holds c = F.begun _ _ _
+
+returns : tie.Need-returns Inv-loop μ-loop
+returns c =
+    let there = c .before .before .before in
+    let turn = there .before .before .before .turn in
+    let loop = there .before .before .before .before .before .loop in
+    let begin = there .before .before .before .before .before .before .begin in
+    let s = there .before .before .before .before .before .before .before .before .before .args .script in
+    let l = there .before .before .before .before .before .before .before .before .before .args .rows in
+    let none = F.turned-false _ (c .before .if1 .taken) in
+    let x =
+    F.ends-there _ (loop .inv) (turn .result) _ (turn .ensures) (sym (c .before .before .goes-on .ensures) ∙ none) _
+    (λ g. ap (λ (r : Fed). r .called) (c .ended .ensures g)) in (
+      x .0 ∙ ap (λ (f : Feeding). calledOf (fedFrom (now s) (wayOf [] f) (now l))) (begin .ensures),
+      (
+        x .1 ∙ ap (λ (f : Feeding). fedFrom (now s) (wayOf [] f) (now l) .list) (begin .ensures),
+        ap (λ (r : Fed). r .place) (c .ended .ensures []) ∙ x .2 ∙ ap (λ (f : Feeding). placeFrom (now s) (wayOf [] f) (now l)) (begin .ensures),
+      ),
+    )
+
+loop-less : tie.Need-loop-less Inv-loop μ-loop
+loop-less c =
+    let there = c .before .before in
+    let turn = there .before .before .before .turn in
+    let loop = there .before .before .before .before .before .loop in
+    F.goes-less _ (loop .inv) (turn .result) _ (turn .ensures) (sym (c .before .goes-on .ensures) ∙ F.turned-true _ (c .if1 .left))
+
+loop-again : tie.Need-loop-again Inv-loop μ-loop
+loop-again c =
+    let there = c .before .before in
+    let turn = there .before .before .before .turn in
+    let loop = there .before .before .before .before .before .loop in
+    F.goes-on _ (loop .inv) (turn .result) _ (turn .ensures) (sym (c .before .goes-on .ensures) ∙ F.turned-true _ (c .if1 .left))
+
+pub feed-spec : {M : Type 1} → statement M
+feed-spec =
+    tie.close
+    (tie.spec
+    Inv-loop
+    μ-loop
+    (λ c κs. search needs)
+    loop-holds
+    (λ c κs. search needs)
+    (λ c κs. search needs)
+    (λ c κs. search needs)
+    (λ c. search needs)
+    returns
+    loop-less
+    loop-again)

@@ -1,0 +1,85 @@
+-- A call taken one answer at a time from a script, by anybody: each turn is what the contracts of `wants`, `fed` and `went` say
+-- of it, and it is left where it is over, where the script has ended or where the list is full.
+use Prim.Native.Nat.{ℕ, _+_, _<_, _≤_}
+use mathlib.Core.Path.{_≡_}
+use mathlib.Core.List.{List, [], _∷_}
+use lib.ListN.{length, getD}
+use Rattle.types.specs.declared.error.Answer.the-variants as Answered
+use Rattle.tape.specs.declared.rows.Row.{Row}
+use Rattle.tape.specs.declared.script.Reading.{Reading}
+use Rattle.tape.specs.Plan.{Plan}
+use Rattle.tape.specs.Rows.{rowAt, roomOf}
+use Rattle.host.specs.declared.host.Called.{Called}
+use Rattle.host.specs.declared.host.Sdmmc.{Sdmmc}
+use Rattle.calls.specs.Serve as S
+use Rattle.step.specs.declared.wants.Wants.the-variants as W
+use Rattle.step.specs.Next.{next, wantOf, Handed}
+use Rattle.stepping.specs.Closing.{Closing}
+use Rattle.underway.specs.declared.call.Call.{Call}
+use Rattle.underway.specs.Under.{under, answered, written, closedOf, givenUp}
+use Rattle.underway.specs.Whole.{initCall, readCall, statusCall}
+
+-- the call, the data words handed out so far, the words taken, the rows written, and the row list
+pub record Midway : Type 0 where
+  pub call : Call
+  pub out : List ℕ
+  pub used : ℕ
+  pub rows : ℕ
+  pub list : List ℕ
+
+abbrev pub midway : Call → List ℕ → ℕ → ℕ → List ℕ → Midway
+midway m g u n l = record { call = m; out = g; used = u; rows = n; list = l }
+
+module _ (s : List ℕ) where
+  pub data Turn : Midway → Midway → Type 0 where
+    hears : {m m′ : Call} {g g′ : List ℕ} {u n : ℕ} {l : List ℕ} (r : Reading)
+        → W.Read r ≡ wantOf (under g m .ahead) → u < length s → Handed r (getD s u 0) g g′
+        → under g′ m′ ≡ answered (under g m) (getD s u 0)
+        → Turn (midway m g u n l) (midway m′ g′ (u + 1) n l)
+    writes : {m m′ : Call} {g : List ℕ} {u n : ℕ} {l : List ℕ} (r : Row)
+        → W.Write r ≡ wantOf (under g m .ahead) → n < roomOf l
+        → under g m′ ≡ written (under g m)
+        → Turn (midway m g u n l) (midway m′ g u (n + 1) (rowAt l n r))
+
+  pub data Turns : Midway → Midway → Type 0 where
+    still : {x : Midway} → Turns x x
+    more : {x y z : Midway} → Turn x y → Turns y z → Turns x z
+
+  -- what it has come to there
+  pub data Left : Midway → Called → Type 0 where
+    closed : {m : Call} {g : List ℕ} {u n : ℕ} {l : List ℕ} → W.Nothing ≡ wantOf (under g m .ahead)
+        → Left (midway m g u n l) (record { answer = closedOf (under g m) .answer; words = u; rows = n; host = closedOf (under g m) .host })
+    asking : {m : Call} {g : List ℕ} {u n : ℕ} {l : List ℕ} (r : Reading) → W.Read r ≡ wantOf (under g m .ahead) → length s ≤ u
+        → Left (midway m g u n l) (givenUp (under g m) u n)
+    full : {m : Call} {g : List ℕ} {u n : ℕ} {l : List ℕ} (r : Row) → W.Write r ≡ wantOf (under g m .ahead) → roomOf l ≤ n
+        → Left (midway m g u n l) (record { answer = Answered.TraceFull; words = u; rows = n; host = under g m .before })
+
+-- the calls of a list
+unfoldable pub planBy : Sdmmc → S.Call → Plan Closing
+planBy host (S.initialise frequency s l) = initCall host frequency
+planBy host (S.read index bytes s l) = readCall host index bytes
+planBy host (S.status s l) = statusCall host
+
+unfoldable pub scriptBy : S.Call → List ℕ
+scriptBy (S.initialise frequency s l) = s
+scriptBy (S.read index bytes s l) = s
+scriptBy (S.status s l) = s
+
+unfoldable pub listBy : S.Call → List ℕ
+listBy (S.initialise frequency s l) = l
+listBy (S.read index bytes s l) = l
+listBy (S.status s l) = l
+
+-- a call of a list begun on a host, and left there
+pub record Stepped (host : Sdmmc) (c : S.Call) (r : Called) (last : Midway) : Type 0 where
+  pub first : Call
+  pub out : List ℕ
+  pub begun : under out first ≡ record { before = host; ahead = next (planBy host c) (host .line) }
+  pub turns : Turns (scriptBy c) (midway first out 0 0 (listBy c)) last
+  pub left : Left (scriptBy c) last r
+
+-- each on the host that the one before it left: what each came to, and the last host
+pub data AllStepped : Sdmmc → List S.Call → List Called → Sdmmc → Type 0 where
+  none : {host : Sdmmc} → AllStepped host [] [] host
+  one : {host : Sdmmc} {c : S.Call} {r : Called} {last : Midway} {cs : List S.Call} {rs : List Called} {h : Sdmmc}
+      → Stepped host c r last → AllStepped (r .host) cs rs h → AllStepped host (c ∷ cs) (r ∷ rs) h

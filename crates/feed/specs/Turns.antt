@@ -1,0 +1,95 @@
+-- A call that is fed from a script, told by what is ahead of it; and one turn of it, which says everything: what came about, how
+-- the call goes on, and the list.
+use Prim.Native.Nat.{ℕ, _+_}
+use mathlib.Core.Bool.{Bool, true, false, cond}
+use mathlib.Core.List.{List}
+use lib.Dec.{ltb}
+use lib.ListN.{length, getD}
+use Rattle.types.specs.declared.error.Answer.the-variants as Answered
+use Rattle.tape.specs.Rows.{rowAt, roomOf}
+use Rattle.host.specs.declared.host.Called.{Called}
+use Rattle.host.specs.Calls.{Came}
+use Rattle.step.specs.declared.wants.Wants.{Wants}
+use Rattle.step.specs.declared.wants.Wants.the-variants as W
+use Rattle.step.specs.Next.{wantOf, handed}
+use Rattle.underway.specs.Under.{Under, under, answered, written, closedOf, givenUp}
+use Rattle.feed.specs.Runs.{runNext, cameOf, noClosing, liesAt, placeNext}
+use Rattle.feed.specs.declared.turn.Event.{Event}
+use Rattle.feed.specs.declared.turn.Event.the-variants as E
+use Rattle.feed.specs.declared.turn.Feeding.{Feeding}
+use Rattle.feed.specs.declared.turn.Turn.{Turn}
+
+-- the words taken and the rows written so far, and where the data words lie
+pub record Way : Type 0 where
+  pub call : Under
+  pub used : ℕ
+  pub rows : ℕ
+  pub place : ℕ
+
+-- at its start
+abbrev pub starts : Under → Way
+starts u = record { call = u; used = 0; rows = 0; place = 0 }
+
+-- `g` are the data words that were handed out so far
+abbrev pub wayOf : List ℕ → Feeding → Way
+wayOf g f = record { call = under g (f .call); used = f .used; rows = f .rows; place = f .place }
+
+pub record Turned : Type 0 where
+  pub event : Event
+  pub next : Way
+  pub list : List ℕ
+
+abbrev pub turned : Event → Way → List ℕ → Turned
+turned event next list = record { event = event; next = next; list = list }
+
+module _ (s : List ℕ) where
+  -- a turn of a call that waits for this: the next word of the script, or a row into the list; where there is none, or no room,
+  -- it stays as it is
+  unfoldable pub turnBy : Way → List ℕ → Wants → Turned
+  turnBy w l (W.Read r) =
+      cond (ltb (w .used) (length s))
+      (turned (E.Read r (getD s (w .used) 0))
+      (record { call = answered (w .call) (getD s (w .used) 0); used = w .used + 1; rows = w .rows; place = liesAt r (w .used) (w .place) }) l)
+      (turned (E.Missed r) w l)
+  turnBy w l (W.Write r) =
+      cond (ltb (w .rows) (roomOf l))
+      (turned (E.Wrote r) (record { call = written (w .call); used = w .used; rows = w .rows + 1; place = w .place }) (rowAt l (w .rows) r))
+      (turned (E.Full r) w l)
+  turnBy w l W.Nothing = turned E.Over w l
+
+  abbrev pub turnOf : Way → List ℕ → Turned
+  turnOf w l = turnBy w l (wantOf (w .call .ahead))
+
+  -- what a call comes to from there on, and where its data words lie then
+  abbrev pub fedFrom : Way → List ℕ → Came
+  fedFrom w l = cameOf (w .call .before) (runNext s (noClosing (w .call .before)) (w .call .ahead) (w .used) (w .rows) l)
+
+  abbrev pub placeFrom : Way → List ℕ → ℕ
+  placeFrom w l = placeNext s (w .call .ahead) (w .place) (w .used) (w .rows) l
+
+-- the data words handed out after a turn
+unfoldable pub handedAt : Event → List ℕ → List ℕ
+handedAt (E.Read r w) g = handed r w g
+handedAt (E.Missed r) g = g
+handedAt (E.Wrote r) g = g
+handedAt (E.Full r) g = g
+handedAt E.Over g = g
+
+abbrev pub turnedOf : List ℕ → Turn → List ℕ → Turned
+turnedOf g t l = turned (t .event) (wayOf (handedAt (t .event) g) (t .feeding)) l
+
+-- whether another turn follows
+unfoldable pub goesOn : Event → Bool
+goesOn (E.Read r w) = true
+goesOn (E.Missed r) = false
+goesOn (E.Wrote r) = true
+goesOn (E.Full r) = false
+goesOn E.Over = false
+
+-- what a call has come to where none follows; left asking it counts as one whose script ended
+unfoldable pub calledAt : Way → Event → Called
+calledAt w (E.Read r v) = givenUp (w .call) (w .used) (w .rows)
+calledAt w (E.Missed r) = givenUp (w .call) (w .used) (w .rows)
+calledAt w (E.Wrote r) = givenUp (w .call) (w .used) (w .rows)
+calledAt w (E.Full r) = record { answer = Answered.TraceFull; words = w .used; rows = w .rows; host = w .call .before }
+calledAt w E.Over = record { answer = closedOf (w .call) .answer; words = w .used; rows = w .rows; host = closedOf (w .call) .host }

@@ -1,0 +1,182 @@
+// One turn of a call that is fed from a script: the word that it wants, or the row that it has.
+ghost use mathlib.Core.Path.{_≡_};
+ghost use mathlib.Core.List.{List};
+ghost use Prim.Native.Nat.{ℕ};
+ghost use Rattle.step.specs.declared.wants.Wants.the-variants as W;
+ghost use Rattle.step.specs.Next.{wantOf};
+ghost use Rattle.underway.specs.Under.{under};
+ghost use Rattle.feed.specs.Runs.{liesAt};
+ghost use Rattle.feed.specs.Turns.{wayOf, turnBy, turnOf, turnedOf, goesOn, calledAt};
+use host::host::Called;
+use step::wants::Wants;
+use tape::rows::Row;
+use tape::script::Reading;
+use types::error::Answer;
+use underway::call::Call;
+
+// A call that is fed: the words taken and the rows written so far, and where in the script the first data word of its last
+// transfer lay.
+pub struct Feeding {
+    pub call: Call,
+    pub used: usize,
+    pub rows: usize,
+    pub place: usize,
+}
+
+// What came about: a reading took its word, or found none; a row was written, or found no room; or the call is over.
+pub enum Event {
+    Read(Reading, u32),
+    Missed(Reading),
+    Wrote(Row),
+    Full(Row),
+    Over,
+}
+
+impl Event {
+    // Whether another turn follows.
+    pub fn goes_on(self) -> bool
+        ensures { λ r. ⌜ r ≡ goesOn self ⌝ }
+    {
+        match self {
+            Event::Read(_, _) => true,
+            Event::Missed(_) => false,
+            Event::Wrote(_) => true,
+            Event::Full(_) => false,
+            Event::Over => false,
+        }
+    }
+}
+
+pub struct Turn {
+    pub event: Event,
+    pub feeding: Feeding,
+}
+
+// Where the data words lie, after a reading of the word at `used`.
+fn lies(reading: Reading, used: usize, place: usize) -> usize
+    ensures { λ r. ⌜ r ≡ liesAt reading used place ⌝ }
+{
+    match reading {
+        Reading::Status => place,
+        Reading::RespCmd => place,
+        Reading::Response(_) => place,
+        Reading::Dma => place,
+        Reading::DCount => place,
+        Reading::Data(k) => if k == 0 { used } else { place },
+    }
+}
+
+impl Feeding {
+    // A call at its start.
+    pub fn begin(call: Call) -> Feeding
+        ensures { λ r. ⌜ r ≡ record { call = call; used = 0; rows = 0; place = 0 } ⌝ }
+    {
+        Feeding {
+            call: call,
+            used: 0,
+            rows: 0,
+            place: 0,
+        }
+    }
+
+    // A reading: the next word of the script, where there is one.
+    fn reads(self, script: &[u32], reading: Reading) -> Turn
+        ensures { λ r. ⌜ ((g l : List ℕ) → W.Read reading ≡ wantOf (under g (self .call) .ahead) → turnedOf g r l ≡ turnBy (now (script .entry)) (wayOf g self) l (W.Read reading)) ⌝ }
+    {
+        let used = self.used;
+        if script.len() <= used {
+            return Turn {
+                event: Event::Missed(reading),
+                feeding: self,
+            };
+        }
+        let word = script[used];
+        let next = used + 1;
+        let call = self.call;
+        Turn {
+            event: Event::Read(reading, word),
+            feeding: Feeding {
+                call: call.fed(word),
+                used: next,
+                rows: self.rows,
+                place: lies(reading, used, self.place),
+            },
+        }
+    }
+
+    // A row: into the list, where there is room.
+    fn writes(self, rows: &mut [u32], row: Row) -> Turn
+        ensures { λ r. ⌜ ((g s : List ℕ) → W.Write row ≡ wantOf (under g (self .call) .ahead) → turnedOf g r (now (rows .exit)) ≡ turnBy s (wayOf g self) (now (rows .entry)) (W.Write row)) ⌝ }
+    {
+        let n = self.rows;
+        if rows.len() / 2 <= n {
+            return Turn {
+                event: Event::Full(row),
+                feeding: self,
+            };
+        }
+        rows[2 * n] = row.register;
+        rows[2 * n + 1] = row.value;
+        let next = n + 1;
+        let call = self.call;
+        Turn {
+            event: Event::Wrote(row),
+            feeding: Feeding {
+                call: call.went(),
+                used: self.used,
+                rows: next,
+                place: self.place,
+            },
+        }
+    }
+
+    // One turn.
+    pub fn turn(self, script: &[u32], rows: &mut [u32]) -> Turn
+        ensures { λ r. ⌜ ((g : List ℕ) → turnedOf g r (now (rows .exit)) ≡ turnOf (now (script .entry)) (wayOf g self) (now (rows .entry))) ⌝ }
+    {
+        let call = self.call;
+        let wants = call.wants();
+        match wants {
+            Wants::Read(reading) => self.reads(script, reading),
+            Wants::Write(row) => self.writes(rows, row),
+            Wants::Nothing => Turn {
+                event: Event::Over,
+                feeding: self,
+            },
+        }
+    }
+
+    // What the call has come to, where no turn follows: it is over; or the script has ended, or the list is full, and the host
+    // before it is the one to use.
+    pub fn called(self, event: Event) -> Called
+        ensures { λ r. ⌜ ((g : List ℕ) → r ≡ calledAt (wayOf g self) event) ⌝ }
+    {
+        let call = self.call;
+        match event {
+            Event::Read(_, _) => call.give_up(self.used, self.rows),
+            Event::Missed(_) => call.give_up(self.used, self.rows),
+            Event::Wrote(_) => call.give_up(self.used, self.rows),
+            Event::Full(_) => {
+                let job = call.job;
+                let host = job.host;
+                Called {
+                    answer: Answer::TraceFull,
+                    words: self.used,
+                    rows: self.rows,
+                    host: host,
+                }
+            }
+            Event::Over => {
+                let closed = call.closed();
+                let answer = closed.answer;
+                let host = closed.host;
+                Called {
+                    answer: answer,
+                    words: self.used,
+                    rows: self.rows,
+                    host: host,
+                }
+            }
+        }
+    }
+}

@@ -1,0 +1,118 @@
+-- A call at its start: what is ahead of it there is its one plan.
+use Prim.Native.Nat.{ℕ, _+_, _*_, _^_, _≤_, _-_, min}
+use mathlib.Core.Path.{_≡_, refl, ap, sym, _∙_}
+use mathlib.Core.Bool.{Bool}
+use mathlib.Core.List.{List}
+use native.Mathlib.Omega.{arith}
+use Rattle.types.specs.declared.clock.Clock.{Clock}
+use Rattle.types.specs.declared.error.Error.{Error}
+use Rattle.types.specs.declared.error.Error.the-variants as E
+use Rattle.tape.specs.declared.progress.Line.{Line}
+use Rattle.tape.specs.declared.rows.Row.{Row}
+use Rattle.tape.specs.Plan.{Plan, failed, fail, handle}
+use Rattle.tape.specs.Steps.{row, resetController}
+use Rattle.bus.specs.declared.response.Response.the-variants.{R1}
+use Rattle.bus.specs.Command.{command, appCommand}
+use Rattle.bus.specs.Ready.{waitReady}
+use Rattle.init.specs.Initialise.{powerOn, beginInit, initCard, initialise}
+use Rattle.host.specs.declared.host.Sdmmc.{Sdmmc}
+use Rattle.host.specs.Calls.{freshLine}
+use Rattle.step.specs.declared.command.Begun.the-variants as B
+use Rattle.step.specs.declared.command.Command.{Command}
+use Rattle.step.specs.declared.reset.Reset.the-variants as Re
+use Rattle.step.specs.Command.{begunPlan, begunNext}
+use Rattle.step.specs.Context.{Context, whole, inside, plug}
+use Rattle.step.specs.Next.{Next, next}
+use Rattle.step.specs.Reset.{rowsLeft, all-rows}
+use Rattle.step.specs.Rows.{rowsFrom, resetRows}
+use Rattle.step.specs.Transfer.{blocksOf, transferOf, phasePlan}
+use Rattle.step.proofs.Inside.{same-plug}
+use Rattle.step.proofs.Parts as parts
+use Rattle.stepping.specs.Closing.{Closing, keeping, dropping, accepting}
+use Rattle.stepping.specs.Sites as Sites
+use Rattle.stepping.specs.Ahead.{initialOf, frequencyOf, phaseBy, hostBy, limitAt, busWith, waitRca, siteOf, waitSite, writesPlan, endPlan, atPlan}
+use Rattle.stepping.specs.declared.call.Asked.{Asked}
+use Rattle.stepping.specs.declared.call.Asked.the-variants as Q
+use Rattle.stepping.specs.declared.call.At.the-variants as A
+use Rattle.stepping.specs.declared.call.End.the-variants as Z
+use Rattle.stepping.specs.declared.call.Job.{Job}
+use Rattle.stepping.specs.declared.call.Known.{Known}
+use Rattle.stepping.specs.declared.call.Site.the-variants as T
+use Rattle.stepping.specs.declared.call.Waiting.the-variants as W
+use Rattle.stepping.specs.declared.call.Writes.the-variants as R
+use Rattle.underway.specs.Whole.{initFrom, readFrom, statusFrom}
+
+some-blocks : (n : ℕ) → 1 ≤ n → n ≤ 511 → blocksOf n ≡ n
+unfolding blocksOf
+some-blocks n least most = omega arith
+
+pub some-read : (host : Sdmmc) (a n : ℕ) → 1 ≤ n → n ≤ 511 → readFrom host a (blocksOf n) ≡ readFrom host a n
+some-read host a n least most = ap (λ (n : ℕ). readFrom host a n) (some-blocks n least most)
+
+reset-rows : resetController ≡ rowsFrom resetRows
+unfolding resetController row handle rowsFrom
+reset-rows = refl
+
+module _ (j : Job) (k : Known) (held g : List ℕ) (h : Line) where
+  -- refused before its first step
+  pub refused-begins : (e : Error) → next (atPlan j k held g (A.Over (Z.Keeping e))) h ≡ next (keeping (j .host) (failed e)) h
+  unfolding atPlan endPlan
+  refused-begins e = refl
+
+  -- CMD55 of a status call
+  module _ (limit argument : ℕ) (gated : Bool) (gate : h .gated ≡ gated) where
+    begins : next (plug (siteOf j k T.App) (begunPlan limit 55 argument R1 gated)) h ≡ next (plug (siteOf j k T.App) (command limit 55 argument R1)) h
+    begins = same-plug (siteOf j k T.App) _ _ h (parts.begins limit 55 argument R1 gated h (sym gate))
+
+    pub app-on : (c : Command) → begunNext (B.On c) h ≡ next (begunPlan limit 55 argument R1 gated) h
+        → next (atPlan j k held g (A.Command T.App c)) h ≡ next (plug (siteOf j k T.App) (command limit 55 argument R1)) h
+    unfolding atPlan begunNext
+    app-on c e = same-plug (siteOf j k T.App) _ _ h e ∙ begins
+
+    app-failed : next (atPlan j k held g (A.Over (Z.Keeping E.SoftwareTimeout))) h ≡ next (plug (siteOf j k T.App) (fail E.SoftwareTimeout)) h
+    unfolding atPlan endPlan siteOf handle plug
+    app-failed = refl
+
+    pub app-spent : begunNext B.Spent h ≡ next (begunPlan limit 55 argument R1 gated) h
+        → next (atPlan j k held g (A.Over (Z.Keeping E.SoftwareTimeout))) h ≡ next (plug (siteOf j k T.App) (command limit 55 argument R1)) h
+    unfolding begunNext
+    app-spent e = app-failed ∙ same-plug (siteOf j k T.App) (fail E.SoftwareTimeout) (begunPlan limit 55 argument R1 gated) h e ∙ begins
+
+-- an initialisation: its first row is that of the reset
+module _ (j : Job) (k : Known) (held g : List ℕ) where
+  abbrev resets : Clock → ℕ → Plan Closing
+  resets c f = plug (Sites.resetting (j .host) c f) resetController
+
+  resets-first : (c : Clock) (f : ℕ) (h : Line) → next (resets c f) (freshLine (c .frequency)) ≡ next (initFrom (j .host) c f) h
+  unfolding initialise initCard beginInit powerOn handle plug next
+  resets-first c f h = refl
+
+  resets-rows : (c : Clock) (f : ℕ) (h : Line) → next (plug (Sites.resetting (j .host) c f) (rowsFrom (rowsLeft Re.Mask))) h ≡ next (resets c f) h
+  resets-rows c f h = ap (λ (rs : List Row). next (plug (Sites.resetting (j .host) c f) (rowsFrom rs)) h) all-rows ∙ rw (← reset-rows)
+
+  pub resets-begins : (c : Clock) (f : ℕ) (h : Line) → j .asked ≡ Q.Card c f
+      → next (atPlan j k held g (A.Tells (R.Reset Re.Mask))) (freshLine (c .frequency)) ≡ next (initFrom (j .host) c f) h
+  unfolding atPlan writesPlan initialOf frequencyOf
+  resets-begins c f h e =
+      ap (λ (q : Asked). next (plug (Sites.resetting (j .host) (initialOf q) (frequencyOf q)) (rowsFrom (rowsLeft Re.Mask))) (freshLine (c .frequency))) e
+      ∙ resets-rows c f (freshLine (c .frequency)) ∙ resets-first c f h
+
+  -- a call with a data phase of its own, by what was asked
+  abbrev owning : Asked → Plan Closing
+  owning q =
+      plug (inside (accepting (j .host) (hostBy q (j .host))) (dropping (j .host)) whole) (phasePlan (busWith j (j .host .card .rca)) (phaseBy q))
+
+  -- a read: the ready wait
+  pub waits-begins : (a n : ℕ) (h : Line) → j .asked ≡ Q.Blocks a n
+      → next (plug (waitSite j k W.Read) (waitReady (j .host .settings .source .0) (j .host .settings .config) (waitRca j k W.Read))) h
+      ≡ next (readFrom (j .host) a (blocksOf n)) h
+  unfolding waitSite waitRca hostBy phaseBy transferOf plug
+  waits-begins a n h e =
+      ap (λ (q : Asked). next (plug (Sites.approached (j .host) (owning q)) (waitReady (j .host .settings .source .0) (j .host .settings .config) (j .host .card .rca))) h) e
+
+  -- a status call: CMD55
+  pub app-begins : (h : Line) → j .asked ≡ Q.Status
+      → next (plug (siteOf j k T.App) (command (limitAt j) 55 (j .host .card .rca * 2 ^ 16) R1)) h ≡ next (statusFrom (j .host)) h
+  unfolding siteOf hostBy phaseBy transferOf appCommand plug
+  app-begins h e =
+      ap (λ (q : Asked). next (plug (Sites.app (j .host) (owning q)) (command (limitAt j) 55 (j .host .card .rca * 2 ^ 16) R1)) h) e

@@ -1,0 +1,5 @@
+pub mod Rowing
+pub mod Lines
+pub mod Moving
+pub mod Ending
+pub mod Beginning

@@ -1,0 +1,3 @@
+pub mod Whole
+pub mod First
+pub mod Under

@@ -1,0 +1,122 @@
+// What a call has come to: its answer and the next host.
+ghost use mathlib.Core.Path.{_≡_};
+ghost use mathlib.Core.List.{List};
+ghost use Prim.Native.Nat.{ℕ};
+ghost use lib.ListN.{take};
+ghost use Rattle.types.specs.Words.{sdStatusOf};
+ghost use Rattle.step.specs.Next.{next};
+ghost use Rattle.step.specs.Transfer.{allOf};
+ghost use Rattle.stepping.specs.Ahead.{phaseBy, hostBy, wordsIn, endPlan};
+ghost use Rattle.underway.specs.Under.{under, endsAt, closedAt, closedOf, givenUp};
+use crate::call::Call;
+use crate::call::Closed;
+use host::calls;
+use host::host::Called;
+use host::host::Sdmmc;
+use init::identify;
+use stepping::call::Asked;
+use stepping::call::At;
+use stepping::call::End;
+use stepping::call::Gets;
+use stepping::call::Job;
+use stepping::call::Known;
+use tape::progress::Line;
+use types::error::Answer;
+use types::words;
+
+// The SD status that sixteen words make.
+fn status_of(held: [u32; 16]) -> [u32; 16]
+    ensures { λ r. ⌜ r ≡ sdStatusOf (take 16 held) ⌝ }
+{
+    words::sd_status(held)
+}
+
+// The next host of an accepted read or status call.
+fn accepted(job: Job, held: [u32; 16], line: Line) -> Sdmmc
+    ensures { λ r. ⌜ ((g : List ℕ) → r ≡ hostBy (job .asked) (job .host) line (allOf (phaseBy (job .asked)) (wordsIn job Gets.Asked held g))) ⌝ }
+{
+    let host = job.host;
+    let card = host.card;
+    let asked = job.asked;
+    match asked {
+        Asked::Card(_, _) => host.with(line, true, calls::with_status(card, status_of(held))),
+        Asked::Status => host.with(line, true, calls::with_status(card, status_of(held))),
+        Asked::Blocks(_, _) => host.with(line, host.known, card),
+    }
+}
+
+fn closes(answer: Answer, host: Sdmmc) -> Closed
+    ensures { λ r. ⌜ r ≡ record { answer = answer; host = host } ⌝ }
+{
+    Closed {
+        answer: answer,
+        host: host,
+    }
+}
+
+// A call that ended so.
+fn ended(job: Job, known: Known, held: [u32; 16], line: Line, end: End) -> Closed
+    ensures { λ r. ⌜ ((g : List ℕ) → r ≡ closedAt (job .host) (next (endPlan job known (wordsIn job Gets.Asked held g) end) line)) ⌝ }
+{
+    let host = job.host;
+    let card = host.card;
+    match end {
+        End::Accepted => closes(Answer::Accepted, accepted(job, held, line)),
+        End::Found => closes(Answer::Accepted, host.with(line, true, known.card())),
+        End::Keeping(error) => closes(Answer::Refused(error), host.with(line, host.known, card)),
+        End::Dropping(error) => closes(
+            Answer::Refused(error),
+            host.with(line, false, identify::no_card()),
+        ),
+    }
+}
+
+// Whether a call is over, and how it ended.
+pub enum Ends {
+    Over(End),
+    Not,
+}
+
+fn end_of(at: At) -> Ends
+    ensures { λ r. ⌜ r ≡ endsAt at ⌝ }
+{
+    match at {
+        At::Command(_, _) => Ends::Not,
+        At::Ready(_, _) => Ends::Not,
+        At::Data(_, _) => Ends::Not,
+        At::Idle(_, _) => Ends::Not,
+        At::Tells(_) => Ends::Not,
+        At::Over(end) => Ends::Over(end),
+    }
+}
+
+impl Call {
+    // What it has come to. A call that is not over counts as one whose script ended, and leaves the host as before.
+    pub fn closed(self) -> Closed
+        ensures { λ r. ⌜ ((g : List ℕ) → r ≡ closedOf (under g self)) ⌝ }
+    {
+        let job = self.job;
+        let host = job.host;
+        let held = self.held;
+        let line = self.line;
+        let at = self.at;
+        match end_of(at) {
+            Ends::Over(end) => ended(job, self.known, held, line, end),
+            Ends::Not => closes(Answer::ScriptEnded, host),
+        }
+    }
+
+    // Gives up, after so many words and rows: the host before the call is the one to use.
+    pub fn give_up(self, words: usize, rows: usize) -> Called
+        ensures { λ r. ⌜ ((g : List ℕ) → r ≡ givenUp (under g self) words rows) ⌝ }
+    {
+        let job = self.job;
+        let before = job.host;
+        Called {
+            answer: Answer::ScriptEnded,
+            words: words,
+            rows: rows,
+            host: before,
+        }
+    }
+}
