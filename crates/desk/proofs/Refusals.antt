@@ -10,7 +10,7 @@ use Rattle.text.proofs.Ink.{ink-nil, next-nil}
 use Rattle.desk.specs.declared.room.Wish.{Wish}
 use Rattle.desk.specs.declared.room.Wish.the-variants as W
 use Rattle.desk.specs.declared.room.Program.{Program}
-use Rattle.desk.specs.declared.room.Program.the-variants.{Cardtrace, Cardpile}
+use Rattle.desk.specs.declared.room.Program.the-variants.{Cardtrace, Cardpile, Cardsteps}
 use Rattle.desk.specs.Refusal.{refusalText}
 
 -- a text that fits is laid in whole
@@ -32,6 +32,8 @@ fits Cardtrace W.TooMany = omega arith
 fits Cardtrace W.NoRoom = omega arith
 fits Cardpile W.TooMany = omega arith
 fits Cardpile W.NoRoom = omega arith
+fits Cardsteps W.TooMany = omega arith
+fits Cardsteps W.NoRoom = omega arith
 
 -- so the line is laid in whole
 pub said : (program : Program) (wish : Wish) {before after : List ℕ} {place : ℕ} → 64 ≤ length before → Laid 0 (refusalText program wish) before place after

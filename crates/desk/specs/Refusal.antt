@@ -5,11 +5,12 @@ use Rattle.text.specs.Typed.{typed}
 use Rattle.desk.specs.declared.room.Wish.{Wish}
 use Rattle.desk.specs.declared.room.Wish.the-variants as W
 use Rattle.desk.specs.declared.room.Program.{Program}
-use Rattle.desk.specs.declared.room.Program.the-variants.{Cardtrace, Cardpile}
+use Rattle.desk.specs.declared.room.Program.the-variants.{Cardtrace, Cardpile, Cardsteps}
 
 abbrev pub nameText : Program → List ℕ
 nameText Cardtrace = typed "cardtrace"
 nameText Cardpile = typed "cardpile"
+nameText Cardsteps = typed "cardsteps"
 
 unfoldable pub refusalText : Program → Wish → List ℕ
 refusalText program (W.Rows n) = []

@@ -18,6 +18,7 @@ pub enum Room {
 pub enum Program {
     Cardtrace,
     Cardpile,
+    Cardsteps,
 }
 
 // What the arguments ask for: so many rows; or there are too many of them; or the one that there is names no room.
@@ -107,6 +108,7 @@ fn put_name(out: &mut [u8], program: Program) -> usize
     match program {
         Program::Cardtrace => pen::put(out, 0, b"cardtrace"),
         Program::Cardpile => pen::put(out, 0, b"cardpile"),
+        Program::Cardsteps => pen::put(out, 0, b"cardsteps"),
     }
 }
 

@@ -174,6 +174,15 @@ module _ (s : List ℕ) where
     ends (refused h (failed x)) e = record { called = refl; list = refl; place = refl }
     ends (refused h ended) e = record { called = refl; list = refl; place = refl }
 
+  -- the same of any way: a turn that another follows keeps what the call comes to, and the last one tells it
+  pub turn-keeps : (w : Way) (l : List ℕ) → goesOn (turnOf s w l .event) ≡ true
+      → fedFrom s (turnOf s w l .next) (turnOf s w l .list) ≡ fedFrom s w l
+  turn-keeps w l e = goes (w .call .before) (w .used) (w .rows) (w .place) l (w .call .ahead) e .fed
+
+  pub turn-closes : (w : Way) (l : List ℕ) → goesOn (turnOf s w l .event) ≡ false
+      → calledAt (turnOf s w l .next) (turnOf s w l .event) ≡ calledOf (fedFrom s w l)
+  turn-closes w l e = ends (w .call .before) (w .used) (w .rows) (w .place) l (w .call .ahead) e .called
+
   -- on its way from w₀, with the list l₀; `out` are the data words handed out so far
   pub record On (w₀ : Way) (l₀ : List ℕ) (f : Feeding) (l : List ℕ) : Type 0 where
     pub out : List ℕ

@@ -3,16 +3,24 @@
 ghost use mathlib.Core.Path.{_≡_};
 ghost use lib.ListN.{length};
 ghost use Rattle.text.specs.Ink.{Laid};
+ghost use Rattle.host.specs.Calls.{calledOf, statusCame};
+ghost use Rattle.calls.specs.Serve.{comes};
 ghost use Rattle.book.specs.Layout.{contentsOf};
-ghost use Rattle.bench.specs.Bench.{printed, settingsIn};
+ghost use Rattle.bench.specs.Bench.{printed, settingsIn, asking, bufferAfter};
 ghost use Rattle.bench.specs.Trace.{placeAfter};
 ghost use Rattle.meter.specs.Metered.{toldWith, servedAt, servedFrom, metered};
 use bench::print;
 use bench::serve;
 use bench::trace;
 use book::layout;
+use book::layout::Asked;
+use feed::feed::init_card;
+use feed::feed::read_blocks;
+use feed::feed::read_sd_status;
+use host::blocks;
 use host::host::Called;
 use host::host::Sdmmc;
+use types::clock::Hertz;
 
 // A call was served: the next host, where the next script lies, and what the call came to, as one number.
 struct Turn {
@@ -30,8 +38,70 @@ fn told(number: u8, rows: usize, words: usize) -> u64
     top + middle + (words % 0x1_0000_0000) as u64
 }
 
+// A status call, one answer at a time: told as any other.
+fn feed_status(host: Sdmmc, script: &[u32], rows: &mut [u32]) -> Called
+    ensures answered { λ r. ⌜ r ≡ calledOf (statusCame host (now (script .entry)) (now (rows .entry))) ⌝ }
+    ensures listed { λ r. ⌜ now (rows .exit) ≡ statusCame host (now (script .entry)) (now (rows .entry)) .list ⌝ }
+{
+    let read = read_sd_status(host, script, rows);
+    let answer = read.answer;
+    let next = read.host;
+    Called {
+        answer: answer,
+        words: read.words,
+        rows: read.rows,
+        host: next,
+    }
+}
+
+// One call as `serve::ask` has it, one answer at a time.
+fn feed_call(
+    host: Sdmmc,
+    words: &[u32],
+    asked: Asked,
+    rows: &mut [u32],
+    buffer: &mut [u8],
+) -> Called
+    ensures answered { λ r. ⌜ r ≡ calledOf (comes host (asking (now (rows .entry)) (length (now (buffer .entry))) (now (words .entry)) asked)) ⌝ }
+    ensures listed { λ r. ⌜ now (rows .exit) ≡ comes host (asking (now (rows .entry)) (length (now (buffer .entry))) (now (words .entry)) asked) .list ⌝ }
+    ensures filled { λ r. ⌜ now (buffer .exit) ≡ bufferAfter (asking (now (rows .entry)) (length (now (buffer .entry))) (now (words .entry)) asked) (comes host (asking (now (rows .entry)) (length (now (buffer .entry))) (now (words .entry)) asked)) (now (buffer .entry)) ⌝ }
+{
+    let kind = asked.kind;
+    let a = asked.a;
+    let at = asked.script_at;
+    let len = asked.script_len;
+    let script = blocks::part(words, at, len);
+    if kind == 1 {
+        return init_card(host, script, rows, Hertz(a));
+    }
+    if kind == 2 {
+        return read_blocks(host, script, rows, a, buffer);
+    }
+    feed_status(host, script, rows)
+}
+
+// One call, on the script or one answer at a time.
+fn ask(
+    stepped: bool,
+    host: Sdmmc,
+    words: &[u32],
+    asked: Asked,
+    rows: &mut [u32],
+    buffer: &mut [u8],
+) -> Called
+    ensures answered { λ r. ⌜ r ≡ calledOf (comes host (asking (now (rows .entry)) (length (now (buffer .entry))) (now (words .entry)) asked)) ⌝ }
+    ensures listed { λ r. ⌜ now (rows .exit) ≡ comes host (asking (now (rows .entry)) (length (now (buffer .entry))) (now (words .entry)) asked) .list ⌝ }
+    ensures filled { λ r. ⌜ now (buffer .exit) ≡ bufferAfter (asking (now (rows .entry)) (length (now (buffer .entry))) (now (words .entry)) asked) (comes host (asking (now (rows .entry)) (length (now (buffer .entry))) (now (words .entry)) asked)) (now (buffer .entry)) ⌝ }
+{
+    if stepped {
+        return feed_call(host, words, asked, rows, buffer);
+    }
+    serve::ask(host, words, asked, rows, buffer)
+}
+
 // Serves call k, counted from 0, in the lent list and buffer.
 fn serve_call(
+    stepped: bool,
     host: Sdmmc,
     words: &[u32],
     k: u32,
@@ -44,7 +114,7 @@ fn serve_call(
 {
     let asked = layout::call_at(words, k, place);
     let end = trace::behind(words, asked.script_at, asked.script_len);
-    let called = serve::ask(host, words, asked, rows, buffer);
+    let called = ask(stepped, host, words, asked, rows, buffer);
     let answer = called.answer;
     let next = called.host;
     Turn {
@@ -56,6 +126,7 @@ fn serve_call(
 
 // Serves so many calls one after the other; gives what the last came to, and at first what was told before.
 fn serve_calls(
+    stepped: bool,
     host: Sdmmc,
     words: &[u32],
     calls: u32,
@@ -75,7 +146,7 @@ fn serve_calls(
     let mut k: u32 = 0;
     while k < calls {
         let next = turn.host;
-        turn = serve_call(next, words, k, turn.place, rows, buffer);
+        turn = serve_call(stepped, next, words, k, turn.place, rows, buffer);
         k = k + 1;
     }
     turn.told
@@ -83,8 +154,7 @@ fn serve_calls(
 
 // Makes the host of words that are laid out as a book's, however many, and serves their calls in the lent list and buffer;
 // a read fills all of the buffer. Gives what the last call came to, or the host where there is none.
-#[no_mangle]
-pub extern "C" fn boresacu_meter_calls(words: &[u32], rows: &mut [u32], buffer: &mut [u8]) -> u64
+fn serve_list(stepped: bool, words: &[u32], rows: &mut [u32], buffer: &mut [u8]) -> u64
     ensures told { λ r. ⌜ r ≡ metered (now (words .entry)) (now (rows .entry)) (now (buffer .entry)) .told ⌝ }
     ensures listed { λ r. ⌜ now (rows .exit) ≡ metered (now (words .entry)) (now (rows .entry)) (now (buffer .entry)) .list ⌝ }
     ensures filled { λ r. ⌜ now (buffer .exit) ≡ metered (now (words .entry)) (now (rows .entry)) (now (buffer .entry)) .buffer ⌝ }
@@ -99,6 +169,7 @@ pub extern "C" fn boresacu_meter_calls(words: &[u32], rows: &mut [u32], buffer: 
     let host = made.host;
     let before = told(answer.number(), 0, 0);
     serve_calls(
+        stepped,
         host,
         words,
         trace::served(answer, calls),
@@ -106,6 +177,26 @@ pub extern "C" fn boresacu_meter_calls(words: &[u32], rows: &mut [u32], buffer: 
         rows,
         buffer,
     )
+}
+
+// The calls of a list, on the script.
+#[no_mangle]
+pub extern "C" fn boresacu_meter_calls(words: &[u32], rows: &mut [u32], buffer: &mut [u8]) -> u64
+    ensures told { λ r. ⌜ r ≡ metered (now (words .entry)) (now (rows .entry)) (now (buffer .entry)) .told ⌝ }
+    ensures listed { λ r. ⌜ now (rows .exit) ≡ metered (now (words .entry)) (now (rows .entry)) (now (buffer .entry)) .list ⌝ }
+    ensures filled { λ r. ⌜ now (buffer .exit) ≡ metered (now (words .entry)) (now (rows .entry)) (now (buffer .entry)) .buffer ⌝ }
+{
+    serve_list(false, words, rows, buffer)
+}
+
+// The calls of a list, one answer at a time.
+#[no_mangle]
+pub extern "C" fn boresacu_meter_steps(words: &[u32], rows: &mut [u32], buffer: &mut [u8]) -> u64
+    ensures told { λ r. ⌜ r ≡ metered (now (words .entry)) (now (rows .entry)) (now (buffer .entry)) .told ⌝ }
+    ensures listed { λ r. ⌜ now (rows .exit) ≡ metered (now (words .entry)) (now (rows .entry)) (now (buffer .entry)) .list ⌝ }
+    ensures filled { λ r. ⌜ now (buffer .exit) ≡ metered (now (words .entry)) (now (rows .entry)) (now (buffer .entry)) .buffer ⌝ }
+{
+    serve_list(true, words, rows, buffer)
 }
 
 // What is printed of a file's bytes as a book, as far as it fits; gives how many bytes that is.

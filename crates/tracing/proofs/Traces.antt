@@ -56,13 +56,13 @@ pub some-calls : {ws : List ℕ} {room : ℕ} {start : Point} {host : Sdmmc} {pl
 some-calls k calls s h = record { served = k; within = h; whole = never; left = s .laid }
 
 -- a book that was opened, by how it was
-opened-start : (o : Opened) (ws out out′ : List ℕ) (r : Opening) → OpensAs o ws r → Laid 0 (headOf o ws) out (r .at) out′
+pub opened-start : (o : Opened) (ws out out′ : List ℕ) (r : Opening) → OpensAs o ws r → Laid 0 (headOf o ws) out (r .at) out′
     → record { host = r .host; place = r .«script_at»; out = out′ } ≡ startOf o ws out
 unfolding OpensAs startOf
 opened-start (O.Words n) ws out out′ r s l = λ i. record { host = s .host i; place = s .place i; out = l .laid i }
 opened-start O.Bad ws out out′ r s l = λ i. record { host = s .host i; place = s .place i; out = l .laid i }
 
-opened-calls : (o : Opened) (ws : List ℕ) (r : Opening) → OpensAs o ws r → r .calls ≡ callsOf o ws
+pub opened-calls : (o : Opened) (ws : List ℕ) (r : Opening) → OpensAs o ws r → r .calls ≡ callsOf o ws
 unfolding OpensAs callsOf
 opened-calls (O.Words n) ws r s = s .calls
 opened-calls O.Bad ws r s = s .calls

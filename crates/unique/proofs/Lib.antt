@@ -11,6 +11,7 @@ pub mod Init
 pub mod Meter
 pub mod Reader
 pub mod Report
+pub mod Sheet
 pub mod Step
 pub mod Stepping
 pub mod Steps

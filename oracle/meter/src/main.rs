@@ -37,12 +37,17 @@ fn usage() -> bool {
 
 fn tables() {
     let (get_status, status) = status();
-    head("Call");
-    line("initialisation", cost(INITIALISE, &initialisation(), 8));
-    line("SD status", cost(get_status, &status, 8));
+    let mut calls = vec![
+        ("initialisation".to_owned(), cost(INITIALISE, &initialisation(), 8)),
+        ("SD status".to_owned(), cost(get_status, &status, 8)),
+    ];
     for (blocks, times) in [(1, 8), (16, 4), (511, 1)] {
         let (call, script) = read(blocks, 0, 0);
-        line(&format!("read of {blocks}"), cost(call, &script, times));
+        calls.push((format!("read of {blocks}"), cost(call, &script, times)));
+    }
+    head("Call");
+    for (name, cost) in &calls {
+        line(name, *cost);
     }
     println!();
     head("Growth");
@@ -60,6 +65,8 @@ fn tables() {
             cost(get_status, &status, times),
         );
     }
+    println!();
+    steps(&calls);
 }
 
 fn head(name: &str) {
@@ -78,6 +85,7 @@ fn line(name: &str, cost: Cost) {
         rust,
         proved,
         floor,
+        ..
     } = cost;
     let each = words as f64;
     println!(
@@ -88,4 +96,31 @@ fn line(name: &str, cost: Cost) {
         floor / each,
         proved / floor,
     );
+}
+
+/// The proved host on the script and one answer at a time; a step takes a word or gives a row.
+fn steps(calls: &[(String, Cost)]) {
+    println!(
+        "| One answer at a time | words | rows | proved, ns | one answer at a time, ns | one at a time / proved \
+         | ns a step: proved | one at a time | ns a word: proved | one at a time |"
+    );
+    println!("|---|---|---|---|---|---|---|---|---|---|");
+    for (name, cost) in calls {
+        let Cost {
+            words,
+            rows,
+            proved,
+            steps,
+            ..
+        } = *cost;
+        let (each, word) = ((words + rows) as f64, words as f64);
+        println!(
+            "| {name} | {words} | {rows} | {proved:.0} | {steps:.0} | {:.2} | {:.2} | {:.2} | {:.2} | {:.2} |",
+            steps / proved,
+            proved / each,
+            steps / each,
+            proved / word,
+            steps / word,
+        );
+    }
 }

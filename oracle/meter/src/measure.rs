@@ -1,4 +1,5 @@
-//! What one call costs: the Rust on two benches, the proved host, and the floor, in turns in one process.
+//! What one call costs: the Rust on two benches, the proved host on the script and one answer at a time, and the floor, in
+//! turns in one process.
 
 use std::hint::black_box;
 use std::time::{Duration, Instant};
@@ -23,6 +24,8 @@ pub struct Cost {
     pub full: f64,
     pub rust: f64,
     pub proved: f64,
+    /// The proved host's call, one answer at a time.
+    pub steps: f64,
     pub floor: f64,
 }
 
@@ -63,6 +66,10 @@ pub fn cost(call: Call, script: &[u32], times: usize) -> Cost {
         .collect();
     assert_eq!(pairs, seen.rows, "both write the same rows");
     assert_eq!(buffer, seen.blocks, "both read the same bytes");
+    let (mut step_rows, mut step_buffer) = (vec![0; rows.len()], vec![0; buffer.len()]);
+    assert_eq!(proved::steps(&long, &mut step_rows, &mut step_buffer), told);
+    assert_eq!(step_rows, rows, "one answer at a time writes the same rows");
+    assert_eq!(step_buffer, buffer, "one answer at a time reads the same bytes");
 
     let clkcr = host.state().clkcr;
     let mut full = Timed::new(|| {
@@ -81,11 +88,22 @@ pub fn cost(call: Call, script: &[u32], times: usize) -> Cost {
         });
     });
     let (mut other_rows, mut other_buffer) = (rows.clone(), buffer.clone());
+    let (mut other_step_rows, mut other_step_buffer) = (rows.clone(), buffer.clone());
     let mut whole = Timed::new(|| {
         black_box(proved::calls(black_box(&long), &mut rows, &mut buffer));
     });
     let mut start = Timed::new(|| {
         black_box(proved::calls(black_box(&short), &mut other_rows, &mut other_buffer));
+    });
+    let mut step_whole = Timed::new(|| {
+        black_box(proved::steps(black_box(&long), &mut step_rows, &mut step_buffer));
+    });
+    let mut step_start = Timed::new(|| {
+        black_box(proved::steps(
+            black_box(&short),
+            &mut other_step_rows,
+            &mut other_step_buffer,
+        ));
     });
     let mut floor = Timed::new(|| {
         black_box(tested(black_box(script)));
@@ -95,6 +113,8 @@ pub fn cost(call: Call, script: &[u32], times: usize) -> Cost {
         rust.round();
         whole.round();
         start.round();
+        step_whole.round();
+        step_start.round();
         floor.round();
     }
     let cost = Cost {
@@ -103,6 +123,7 @@ pub fn cost(call: Call, script: &[u32], times: usize) -> Cost {
         full: full.least,
         rust: rust.least,
         proved: (whole.least - start.least) / times as f64,
+        steps: (step_whole.least - step_start.least) / times as f64,
         floor: floor.least,
     };
     assert_eq!(
@@ -110,6 +131,8 @@ pub fn cost(call: Call, script: &[u32], times: usize) -> Cost {
         rows[..2 * told.rows],
         "both write the same rows"
     );
+    assert_eq!(step_rows, rows, "one answer at a time writes the same rows");
+    assert_eq!(step_buffer, buffer, "one answer at a time reads the same bytes");
     assert!(
         blocks.iter().flat_map(|block| block.iter()).eq(&buffer),
         "both read the same bytes"

@@ -11,13 +11,13 @@ use Rattle.meter.proofs.serve_calls.Statement.{statement}
 use Rattle.meter.proofs.serve_calls.Tie as tie
 
 abbrev Inv-loop : tie.InvT-loop
-Inv-loop words calls before rows₀ buffer₀ turn₀ k₀ rows buffer turn k =
+Inv-loop stepped words calls before rows₀ buffer₀ turn₀ k₀ rows buffer turn k =
     Serving words calls (servedFrom calls words 0 (contentsOf words) (record { host = turn₀ .host; list = rows₀; buffer = buffer₀; told = before })) k (turn .place)
     (record { host = turn .host; list = rows; buffer = buffer; told = turn .told })
     × ((length rows ≡ length rows₀) × (length buffer ≡ length buffer₀))
 
 abbrev μ-loop : tie.MeasureT-loop
-μ-loop words calls before rows₀ buffer₀ turn₀ k₀ rows buffer turn k = calls - k
+μ-loop stepped words calls before rows₀ buffer₀ turn₀ k₀ rows buffer turn k = calls - k
 
 loop-holds : tie.Need-loop-holds Inv-loop μ-loop
 loop-holds c = (record { within = omega arith; rest = rw (c .contents .ensures, sub-zero) }, (refl, refl))
