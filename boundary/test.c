@@ -5,7 +5,8 @@
  *     test lines             reads calls with their results from standard input, one a line (see lines below)
  *
  * What is due is computed here a second time, from SD's bit positions and the order of the tests, and on purpose in
- * another way than any port would: registers are read bit by bit, divisors counted up, quotients built by doubling.
+ * another way than the code does: registers are read bit by bit, rates from SD's table as it is printed, and the clock's
+ * divisor and frequency are quotients, where the code has no division.
  *
  * Exit status: 0 all agree; 1 a result differs, or some kind of answer was never met; 2 bad usage or a bad line.
  *
@@ -79,20 +80,9 @@ static struct due refused(enum kind kind)
     return accepted(kind, 0);
 }
 
-/* The largest n with n * d at most x. */
-static uint64_t times_in(uint64_t d, uint64_t x)
-{
-    uint64_t n = 0;
-    for (int bit = 31; bit >= 0; bit--) {
-        if ((n + ((uint64_t)1 << bit)) * d <= x) {
-            n += (uint64_t)1 << bit;
-        }
-    }
-    return n;
-}
-
 static struct due clock_due(uint32_t source, uint32_t requested, uint32_t allow_bypass)
 {
+    uint32_t divisor;
     if (source == 0) {
         return refused(CLOCK_NO_SOURCE);
     }
@@ -105,12 +95,14 @@ static struct due clock_due(uint32_t source, uint32_t requested, uint32_t allow_
     if (allow_bypass != 0 && source <= requested) {
         return accepted(CLOCK_BYPASSED, ((uint64_t)1 << 40) | source);
     }
-    for (uint64_t divisor = 2; divisor <= 257; divisor++) {
-        if (divisor * requested >= source) {
-            return accepted(CLOCK_DIVIDED, (divisor - 2) << 32 | times_in(divisor, source));
-        }
+    divisor = source / requested + (source % requested != 0 ? 1 : 0);
+    if (divisor > 257) {
+        return refused(CLOCK_DIVISOR_OVER);
     }
-    return refused(CLOCK_DIVISOR_OVER);
+    if (divisor < 2) {
+        divisor = 2;
+    }
+    return accepted(CLOCK_DIVIDED, (uint64_t)(divisor - 2) << 32 | source / divisor);
 }
 
 /* Bits top to bottom of a register, as SD numbers them. */
@@ -326,6 +318,7 @@ static uint64_t of_any_size(unsigned bits)
 
 static const uint64_t frequencies[] = {
     0, 1, 2, 3, 256, 257, 258, 399999, 400000, 400001, 12500000, 24000000, 25000000, 25000001, 50000000, 50000001,
+    16711934, 16711935, 16711936, /* 257 times the second is the largest source */
     72000000, 79999999, 80000000, 80000001, 102800000, 102800001, 144000000, 160000000, 2147483647, 2147483648,
     4294967294, 4294967295
 };

@@ -37,15 +37,21 @@ END
     cp "$1/target/staticlib/lib$2.a" "$3/x86_64/"
 }
 
-# Compiles the kept module into FOLDER/PROCESSOR/libCRATE.a.
+# Compiles the kept module into FOLDER/PROCESSOR/libCRATE.a, by way of CRATE.s beside it: so whoever looks through that text has
+# seen each instruction of the archive.
 compile_module() { # CRATE FOLDER PROCESSOR WORDS...
     crate=$1 module=$2/module.bc into=$2/$3
     shift 3
     mkdir -p "$into"
     rm -f "$into/lib$crate.a"
-    # the compiler remarks that the module names another processor: shown only where it fails
-    "$tools/bin/clang" --no-default-config "$@" -ffunction-sections -fdata-sections -x ir "$module" -c -o "$into/$crate.o" 2>"$into/said" ||
-        { cat "$into/said" >&2; printf '%s: the module does not compile with %s\n' "$0" "$*" >&2; return 1; }
+    # the compiler remarks that the module names another processor, and which words an assembler has no use for: shown only
+    # where it fails
+    if ! "$tools/bin/clang" --no-default-config "$@" -ffunction-sections -fdata-sections -x ir "$module" -S -o "$into/$crate.s" 2>"$into/said" ||
+        ! "$tools/bin/clang" --no-default-config "$@" -x assembler "$into/$crate.s" -c -o "$into/$crate.o" 2>"$into/said"; then
+        cat "$into/said" >&2
+        printf '%s: the module does not compile with %s\n' "$0" "$*" >&2
+        return 1
+    fi
     "$tools/bin/llvm-ar" rcs "$into/lib$crate.a" "$into/$crate.o"
     rm -f "$into/$crate.o" "$into/said"
 }

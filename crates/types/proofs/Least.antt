@@ -3,8 +3,8 @@
 use Prim.Native.Nat.{ℕ, _+_, _*_, _-_, _/_, _<_, _≤_}
 use mathlib.Core.Bool.{Bool, true, false, cond}
 use mathlib.Core.Path.{_≡_, refl}
-use native.Mathlib.Nat.{div-lt-iff-lt-mul, div-add-mod', mod-lt, mul-le-mul-right, le-trans, add-mul, le-max-left, le-max-right, max-le}
-use native.Mathlib.Omega.{arith}
+use native.Mathlib.Nat.{div-lt-iff-lt-mul, div-add-mod', mod-lt, mul-le-mul-right, le-trans, add-mul, le-max-left, le-max-right, max-le, le-antisymm, le-of-suc-le-suc}
+use native.Mathlib.Omega.{arith, not-le}
 use lib.Dec.{ltb}
 use borrow.Author.Tests.{ne-eqb, le-ltb, ltb-true, ltb-false}
 use Rattle.types.specs.declared.clock.Clock.{Clock}
@@ -46,6 +46,17 @@ module _ (source requested : ℕ) (nonzero : 1 ≤ source) (low : 1 ≤ requeste
   no-less : (e : ℕ) → 2 ≤ e → source ≤ e * requested → divisorOf source requested ≤ e
   unfolding divisorOf
   no-less e h slow = max-le h (up-least e slow)
+
+  -- so what is enough, where the one before is not, is the divisor
+  pub found : (d : ℕ) → 2 ≤ d → source ≤ d * requested → (2 < d → (d - 1) * requested < source) → d ≡ divisorOf source requested
+  found d from2 slow before = le-antisymm (le-of-suc-le-suc (not-le _ _ (λ h. too-small (omega (arith, at-least-2)) (omega arith)))) (no-less d from2 slow)
+    where
+      too-small : 2 < d → divisorOf source requested ≤ d - 1 → ⊥
+      too-small more h = omega (arith, before more, slow-enough, mul-le-mul-right requested h)
+
+  -- and where 257 is not enough, it is over that
+  pub over : 257 * requested < source → 257 < divisorOf source requested
+  over short = not-le _ _ (λ h. omega (arith, slow-enough, mul-le-mul-right requested h))
 
   -- what the definition comes to on this domain
   comes-to : clockOf source requested false

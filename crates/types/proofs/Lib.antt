@@ -5,5 +5,6 @@ pub mod Counted
 pub mod Halves
 pub mod Least
 pub mod Masks
+pub mod Quotient
 pub mod Tables
 pub mod Told

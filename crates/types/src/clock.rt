@@ -1,9 +1,9 @@
 // Frequencies, and the clock divisor.
 ghost use mathlib.Core.Path.{_≡_};
 ghost use mathlib.Core.Bool.{_&&_};
-ghost use Prim.Native.Nat.{_≤_};
+ghost use Prim.Native.Nat.{_*_, _-_, _/_, _<_, _≤_};
 ghost use lib.Dec.{leb};
-ghost use Rattle.types.specs.Leaf.{clockOf, divisorOf};
+ghost use Rattle.types.specs.Leaf.{clockOf};
 use crate::error::Error;
 
 // A frequency in hertz, as in the Rust: never a count of blocks or of words.
@@ -25,18 +25,52 @@ impl Clock {
     // The highest frequency that may be asked for.
     pub const MOST: u32 = 80_000_000;
     // The largest divisor of the source: the register's field is two less, and has eight bits.
-    pub const LARGEST_DIVISOR: u64 = 257;
+    pub const LARGEST_DIVISOR: u32 = 257;
 }
 
-// The source's whole number of hertz over the requested, rounded up, and at least 2.
-fn divisor_for(source: Hertz, requested: Hertz) -> u64
-    requires { ⌜ 1 ≤ requested .0 ⌝ }
-    ensures { λ r. ⌜ (r ≡ divisorOf (source .0) (requested .0)) × (2 ≤ r) ⌝ }
+// The least divisor from 2 on whose multiple of the request reaches the source, or one past the largest where none does. The
+// boot stage links no division routine: the request is added up, at most 256 times.
+fn divisor_for(source: Hertz, requested: Hertz) -> u32
+    ensures { λ r. ⌜ (2 ≤ r) × (r ≤ 258) × (r < 258 → source .0 ≤ r * requested .0) × (2 < r → (r - 1) * requested .0 < source .0) ⌝ }
 {
     let s = source.0;
     let q = requested.0;
-    let up = (s as u64 + (q as u64 - 1)) / q as u64;
-    if up < 2 { 2 } else { up }
+    let mut sum = q;
+    let mut divisor: u32 = 2;
+    while divisor <= Clock::LARGEST_DIVISOR {
+        let next = sum as u64 + q as u64;
+        // what is over 32 bits is over every source
+        if next > 0xffff_ffff {
+            return divisor;
+        }
+        sum = next as u32;
+        if s <= sum {
+            return divisor;
+        }
+        divisor += 1;
+    }
+    divisor
+}
+
+// A whole quotient in 32 steps, as by hand in base 2: the number is doubled into the upper half, the divisor is taken away
+// there wherever it fits, and the quotient's bits follow in the lower half.
+fn quotient(number: u32, divisor: u32) -> u32
+    requires { ⌜ (1 ≤ divisor) × (divisor ≤ 257) ⌝ }
+    ensures { λ r. ⌜ r ≡ number / divisor ⌝ }
+{
+    let place = (divisor as u64) << 32;
+    let mut both = number as u64;
+    let mut left: u32 = 32;
+    loop {
+        both = both + both;
+        if place <= both {
+            both = both - place + 1;
+        }
+        left -= 1;
+        if left == 0 {
+            return (both & 0xffff_ffff) as u32;
+        }
+    }
 }
 
 // Whether the source itself may be the clock.
@@ -57,9 +91,7 @@ pub fn clock_setting(source: Hertz, requested: Hertz, allow_bypass: bool) -> Clo
     if s == 0 {
         return ClockAnswer::Refused(Error::BadClock);
     }
-    if q == 0 {
-        return ClockAnswer::Refused(Error::BadClock);
-    }
+    // a request of 0 is refused by the search: no multiple of it reaches a source
     if q > Clock::MOST {
         return ClockAnswer::Refused(Error::BadClock);
     }
@@ -77,6 +109,6 @@ pub fn clock_setting(source: Hertz, requested: Hertz, allow_bypass: bool) -> Clo
     ClockAnswer::Set(Clock {
         divisor: (divisor - 2) as u8,
         bypass: false,
-        frequency: Hertz(s / divisor as u32),
+        frequency: Hertz(quotient(s, divisor)),
     })
 }

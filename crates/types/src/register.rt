@@ -29,8 +29,8 @@ pub enum SizeAnswer {
     Refused(Error),
 }
 
-// What each unit of TRAN_SPEED stands for, in bits a second.
-const UNITS: [u32; 4] = [100_000, 1_000_000, 10_000_000, 100_000_000];
+// A tenth of what each unit of TRAN_SPEED stands for, in bits a second: so nothing is divided.
+const UNIT_TENTHS: [u32; 4] = [10_000, 100_000, 1_000_000, 10_000_000];
 
 // What each value of TRAN_SPEED stands for, in tenths.
 const TENTHS: [u32; 16] = [
@@ -153,5 +153,5 @@ pub fn transfer_rate(encoded: u8) -> RateAnswer
     if value == 0 {
         return RateAnswer::Refused(Error::UnsupportedCardType);
     }
-    RateAnswer::Rate(UNITS[unit as usize] / 10 * TENTHS[value as usize])
+    RateAnswer::Rate(UNIT_TENTHS[unit as usize] * TENTHS[value as usize])
 }
