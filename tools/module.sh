@@ -37,21 +37,36 @@ END
     cp "$1/target/staticlib/lib$2.a" "$3/x86_64/"
 }
 
-# Compiles the kept module into FOLDER/PROCESSOR/libCRATE.a, by way of CRATE.s beside it: so whoever looks through that text has
-# seen each instruction of the archive.
+# The compiler's words for the reader's processor, a CH32V.
+# shellcheck disable=SC2034
+riscv='--target=riscv32-unknown-none-elf -march=rv32imac -mabi=ilp32'
+
+# Runs the toolchain's compiler. It remarks that the module names another processor, and such things: shown only where it fails.
+compiler() { # WORDS...
+    said=$("$tools/bin/clang" --no-default-config "$@" 2>&1) && return
+    printf '%s\n%s: the module does not compile with %s\n' "$said" "$0" "$*" >&2
+    return 1
+}
+
+# Compiles the kept module into FOLDER/PROCESSOR/libCRATE.a.
 compile_module() { # CRATE FOLDER PROCESSOR WORDS...
     crate=$1 module=$2/module.bc into=$2/$3
     shift 3
     mkdir -p "$into"
+    compiler "$@" -ffunction-sections -fdata-sections -x ir "$module" -c -o "$into/$crate.o" && pack_module
+}
+
+# The same by way of CRATE.s beside the archive: whoever looks through that text has seen each of its instructions. It serves a
+# crate whose functions all end up in those that it exports: the RISC-V assembler takes no call of a name with colons in it.
+assemble_module() { # CRATE FOLDER PROCESSOR WORDS...
+    crate=$1 module=$2/module.bc into=$2/$3
+    shift 3
+    mkdir -p "$into"
+    compiler "$@" -ffunction-sections -fdata-sections -x ir "$module" -S -o "$into/$crate.s" &&
+        compiler "$@" -x assembler "$into/$crate.s" -c -o "$into/$crate.o" && pack_module
+}
+
+pack_module() {
     rm -f "$into/lib$crate.a"
-    # the compiler remarks that the module names another processor, and which words an assembler has no use for: shown only
-    # where it fails
-    if ! "$tools/bin/clang" --no-default-config "$@" -ffunction-sections -fdata-sections -x ir "$module" -S -o "$into/$crate.s" 2>"$into/said" ||
-        ! "$tools/bin/clang" --no-default-config "$@" -x assembler "$into/$crate.s" -c -o "$into/$crate.o" 2>"$into/said"; then
-        cat "$into/said" >&2
-        printf '%s: the module does not compile with %s\n' "$0" "$*" >&2
-        return 1
-    fi
-    "$tools/bin/llvm-ar" rcs "$into/lib$crate.a" "$into/$crate.o"
-    rm -f "$into/$crate.o" "$into/said"
+    "$tools/bin/llvm-ar" rcs "$into/lib$crate.a" "$into/$crate.o" && rm -f "$into/$crate.o"
 }

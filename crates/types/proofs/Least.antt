@@ -3,7 +3,7 @@
 use Prim.Native.Nat.{ℕ, _+_, _*_, _-_, _/_, _<_, _≤_}
 use mathlib.Core.Bool.{Bool, true, false, cond}
 use mathlib.Core.Path.{_≡_, refl}
-use native.Mathlib.Nat.{div-lt-iff-lt-mul, div-add-mod', mod-lt, mul-le-mul-right, le-trans, add-mul, le-max-left, le-max-right, max-le, le-antisymm, le-of-suc-le-suc}
+use native.Mathlib.Nat.{div-lt-iff-lt-mul, div-add-mod', mod-lt, mul-le-mul-right, le-trans, add-mul, le-max-left, le-max-right, max-le, le-antisymm}
 use native.Mathlib.Omega.{arith, not-le}
 use lib.Dec.{ltb}
 use borrow.Author.Tests.{ne-eqb, le-ltb, ltb-true, ltb-false}
@@ -11,18 +11,8 @@ use Rattle.types.specs.declared.clock.Clock.{Clock}
 use Rattle.types.specs.declared.clock.ClockAnswer.the-variants.{Set, Refused}
 use Rattle.types.specs.declared.error.Error.{Error}
 use Rattle.types.specs.declared.error.Error.the-variants.{BadClock}
+use Rattle.types.specs.Least.{Enough, Least}
 use Rattle.types.specs.Leaf.{roundedUp, divisorOf, clockOf}
-
--- d brings the source down to the request
-pub record Enough (source requested d : ℕ) : Type 0 where
-  pub from2 : 2 ≤ d
-  pub to257 : d ≤ 257
-  pub slow : source ≤ d * requested
-
--- and no smaller one does
-pub record Least (source requested d : ℕ) : Type 0 where
-  pub enough : Enough source requested d
-  pub least : (e : ℕ) → Enough source requested e → d ≤ e
 
 module _ (source requested : ℕ) (nonzero : 1 ≤ source) (low : 1 ≤ requested) (high : requested ≤ 80_000_000) where
   -- the quotient rounded up is enough
@@ -47,16 +37,15 @@ module _ (source requested : ℕ) (nonzero : 1 ≤ source) (low : 1 ≤ requeste
   unfolding divisorOf
   no-less e h slow = max-le h (up-least e slow)
 
-  -- so what is enough, where the one before is not, is the divisor
-  pub found : (d : ℕ) → 2 ≤ d → source ≤ d * requested → (2 < d → (d - 1) * requested < source) → d ≡ divisorOf source requested
-  found d from2 slow before = le-antisymm (le-of-suc-le-suc (not-le _ _ (λ h. too-small (omega (arith, at-least-2)) (omega arith)))) (no-less d from2 slow)
-    where
-      too-small : 2 < d → divisorOf source requested ≤ d - 1 → ⊥
-      too-small more h = omega (arith, before more, slow-enough, mul-le-mul-right requested h)
+  -- so the least one that is enough is the divisor
+  pub found : (d : ℕ) → Least source requested d → d ≡ divisorOf source requested
+  found d h =
+      let less = no-less d (h .enough .from2) (h .enough .slow) in
+      le-antisymm (h .least _ (record { from2 = at-least-2; to257 = le-trans less (h .enough .to257); slow = slow-enough })) less
 
-  -- and where 257 is not enough, it is over that
-  pub over : 257 * requested < source → 257 < divisorOf source requested
-  over short = not-le _ _ (λ h. omega (arith, slow-enough, mul-le-mul-right requested h))
+  -- and where none is, it is over 257
+  pub over : ((d : ℕ) → Enough source requested d → ⊥) → 257 < divisorOf source requested
+  over none = not-le _ _ (λ h. none _ (record { from2 = at-least-2; to257 = h; slow = slow-enough }))
 
   -- what the definition comes to on this domain
   comes-to : clockOf source requested false

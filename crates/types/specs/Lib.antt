@@ -2,6 +2,7 @@ pub mod Answer
 pub mod Bits
 pub mod Cases
 pub mod Leaf
+pub mod Least
 pub mod Rules
 pub mod Sd
 pub mod Settings

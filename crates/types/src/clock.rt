@@ -1,9 +1,10 @@
 // Frequencies, and the clock divisor.
 ghost use mathlib.Core.Path.{_≡_};
-ghost use mathlib.Core.Bool.{_&&_};
-ghost use Prim.Native.Nat.{_*_, _-_, _/_, _<_, _≤_};
+ghost use mathlib.Core.Bool.{true, _&&_};
+ghost use Prim.Native.Nat.{_/_, _≤_};
 ghost use lib.Dec.{leb};
 ghost use Rattle.types.specs.Leaf.{clockOf};
+ghost use Rattle.types.specs.Least.{Searched};
 use crate::error::Error;
 
 // A frequency in hertz, as in the Rust: never a count of blocks or of words.
@@ -21,6 +22,12 @@ pub enum ClockAnswer {
     Refused(Error),
 }
 
+// The least divisor that brings a source down to a request, or none that the register has room for.
+enum Divisor {
+    Least(u32),
+    None,
+}
+
 impl Clock {
     // The highest frequency that may be asked for.
     pub const MOST: u32 = 80_000_000;
@@ -28,10 +35,9 @@ impl Clock {
     pub const LARGEST_DIVISOR: u32 = 257;
 }
 
-// The least divisor from 2 on whose multiple of the request reaches the source, or one past the largest where none does. The
-// boot stage links no division routine: the request is added up, at most 256 times.
-fn divisor_for(source: Hertz, requested: Hertz) -> u32
-    ensures { λ r. ⌜ (2 ≤ r) × (r ≤ 258) × (r < 258 → source .0 ≤ r * requested .0) × (2 < r → (r - 1) * requested .0 < source .0) ⌝ }
+// The request is added up until it reaches the source, at most 256 times: the boot stage links no division routine.
+fn divisor_for(source: Hertz, requested: Hertz) -> Divisor
+    ensures { λ r. ⌜ Searched (source .0) (requested .0) r ⌝ }
 {
     let s = source.0;
     let q = requested.0;
@@ -41,15 +47,15 @@ fn divisor_for(source: Hertz, requested: Hertz) -> u32
         let next = sum as u64 + q as u64;
         // what is over 32 bits is over every source
         if next > 0xffff_ffff {
-            return divisor;
+            return Divisor::Least(divisor);
         }
         sum = next as u32;
         if s <= sum {
-            return divisor;
+            return Divisor::Least(divisor);
         }
         divisor += 1;
     }
-    divisor
+    Divisor::None
 }
 
 // A whole quotient in 32 steps, as by hand in base 2: the number is doubled into the upper half, the divisor is taken away
@@ -75,7 +81,7 @@ fn quotient(number: u32, divisor: u32) -> u32
 
 // Whether the source itself may be the clock.
 fn may_bypass(source: Hertz, requested: Hertz, allowed: bool) -> bool
-    ensures { λ r. ⌜ r ≡ (allowed && leb (source .0) (requested .0)) ⌝ }
+    ensures { λ r. ⌜ (r ≡ (allowed && leb (source .0) (requested .0))) × (r ≡ true → source .0 ≤ requested .0) ⌝ }
 {
     let s = source.0;
     let q = requested.0;
@@ -102,13 +108,13 @@ pub fn clock_setting(source: Hertz, requested: Hertz, allow_bypass: bool) -> Clo
             frequency: source,
         });
     }
-    let divisor = divisor_for(source, requested);
-    if divisor > Clock::LARGEST_DIVISOR {
-        return ClockAnswer::Refused(Error::BadClock);
+    let found = divisor_for(source, requested);
+    match found {
+        Divisor::Least(divisor) => ClockAnswer::Set(Clock {
+            divisor: (divisor - 2) as u8,
+            bypass: false,
+            frequency: Hertz(quotient(s, divisor)),
+        }),
+        Divisor::None => ClockAnswer::Refused(Error::BadClock),
     }
-    ClockAnswer::Set(Clock {
-        divisor: (divisor - 2) as u8,
-        bypass: false,
-        frequency: Hertz(quotient(s, divisor)),
-    })
 }

@@ -1,21 +1,28 @@
--- Whenever the loop's test is reached, the sum and one request more are the divisor's multiple, and past 2 the sum is below the
--- source: the divisor before was too small. At most 256 turns: the measure starts there.
-use Prim.Native.Nat.{ℕ, zero, suc, _+_, _*_, _-_, _<_, _≤_}
+-- Whenever the loop's test is reached, the sum and one request more are the divisor's multiple, and past 2 the sum, the multiple
+-- before, is below the source. At most 256 turns: the measure starts there.
+use Prim.Native.Nat.{ℕ, suc, _+_, _*_, _-_, _<_, _≤_}
 use mathlib.Core.Path.{_≡_}
-use native.Mathlib.Nat.{suc-mul, add-mul, one-mul, not-suc-le-zero}
-use native.Mathlib.Omega.{arith}
+use native.Mathlib.Nat.{suc-mul, add-mul, one-mul, mul-le-mul-right, le-of-suc-le-suc}
+use native.Mathlib.Omega.{arith, not-le}
 use borrow.Author.Needs.{needs}
+use Rattle.types.specs.Least.{Enough, Least, Searched}
 use Rattle.types.proofs.clock.divisor_for.Statement.{statement}
 use Rattle.types.proofs.clock.divisor_for.Tie as tie
-use Rattle.types.proofs.clock.divisor_for.Reads as reads
-use Rattle.types.proofs.clock.divisor_for.Lts as lts
 
--- where the sum and one request more are the divisor's multiple, the sum is the multiple before
-before : (s q sum d : ℕ) → 1 ≤ d → sum + q ≡ d * q → sum < s → (d - 1) * q < s
-before s q sum zero h e low = absurd (not-suc-le-zero h)
-before s q sum (suc d) h e low =
-    let pred : suc d - 1 ≡ d = omega arith in
-    rw pred (omega (arith, suc-mul d q))
+-- a divisor that is enough is the least where the multiple before is not
+first : (s q sum d : ℕ) → 2 ≤ d → d ≤ 257 → sum + q ≡ d * q → (2 < d → sum < s) → s ≤ d * q → Least s q d
+first s q sum d from2 to257 multiple low slow =
+    record {
+      enough = record { from2 = from2; to257 = to257; slow = slow };
+      least = λ e h. le-of-suc-le-suc (not-le _ _ (λ more. smaller e h more));
+    }
+  where
+    smaller : (e : ℕ) → Enough s q e → suc e ≤ d → ⊥
+    smaller e h more = omega (arith, low (omega (arith, h .from2)), h .slow, suc-mul e q, mul-le-mul-right q more)
+
+-- none is enough where the multiple of 257 is not
+none : (s q sum : ℕ) → sum + q ≡ 258 * q → sum < s → (d : ℕ) → Enough s q d → ⊥
+none s q sum multiple low d h = omega (arith, h .slow, mul-le-mul-right q (h .to257))
 
 abbrev Inv-loop : tie.InvT-loop
 Inv-loop s q sum₀ divisor₀ sum divisor = (2 ≤ divisor) × (divisor ≤ 258) × (sum ≤ 0xffff_ffff) × (sum + q ≡ divisor * q) × (2 < divisor → sum < s)
@@ -36,17 +43,19 @@ add-next : tie.Need-add-next Inv-loop μ-loop
 add-next c = search needs
 
 returns : tie.Need-returns Inv-loop μ-loop
+unfolding Searched
 returns c =
     let at = c .before .before .loop .inv in
-    (at .0, at .1, λ h. omega arith, λ h. before _ _ _ _ (omega arith) (at .3) (at .4 h))
+    first _ _ _ _ (at .0) (omega arith) (at .3) (at .4) (omega arith)
 
 cast-sum : tie.Need-cast-sum Inv-loop μ-loop
 cast-sum c = search needs
 
 returns-2 : tie.Need-returns-2 Inv-loop μ-loop
+unfolding Searched
 returns-2 c =
     let at = c .before .before .before .loop .inv in
-    (at .0, at .1, λ h. omega arith, λ h. before _ _ _ _ (omega arith) (at .3) (at .4 h))
+    first _ _ _ _ (at .0) (omega arith) (at .3) (at .4) (omega arith)
 
 add-divisor : tie.Need-add-divisor Inv-loop μ-loop
 add-divisor c = search needs
@@ -62,9 +71,11 @@ loop-again c =
     (search needs, search needs, search needs, omega (arith, add-mul divisor 1 q, one-mul q), λ h. omega arith)
 
 returns-3 : tie.Need-returns-3 Inv-loop μ-loop
+unfolding Searched
 returns-3 c =
-    let at = c .before .loop .inv in
-    (at .0, at .1, λ h. omega arith, λ h. before _ _ _ _ (omega arith) (at .3) (at .4 h))
+    let at = c .before .loop in
+    let last : at .divisor ≡ 258 = omega arith in
+    none _ _ _ (rw last at (at .inv .3)) (at .inv .4 (omega arith))
 
 pub divisor-for-spec : {M : Type 1} → statement M
 divisor-for-spec =
