@@ -3,7 +3,8 @@
  *
  * Four functions: the clock divisor, a card's capacity, its transfer rate, and the address of a block. Link them from
  * libboundary.a (boundary/build makes it). They are total: every value of every argument gets an answer, nothing is
- * undefined, none of them keeps state, allocates, or calls back.
+ * undefined, none of them keeps state, allocates, or calls back. For RISC-V (rv32imac) the archive has no instruction that
+ * divides and needs no other library, so that a boot stage can link it.
  *
  * Each returns one 64-bit result:
  *
