@@ -9,6 +9,7 @@ Exit status: 0; 1 a result is not what is due, or the log is not what it is take
 """
 
 import re
+import signal
 import struct
 import subprocess
 import sys
@@ -184,6 +185,7 @@ def tell(archive, program, results, link_map, library):
 
 
 def main():
+    signal.signal(signal.SIGPIPE, signal.SIG_DFL)  # whoever reads only the first lines wants no more
     words = sys.argv[1:]
     if words == ["inputs"]:
         sys.stdout.buffer.write(b"".join(struct.pack("<3I", *case) for case in inputs()))
