@@ -1,6 +1,6 @@
 // Frequencies, and the clock divisor.
 ghost use mathlib.Core.Path.{_≡_};
-ghost use mathlib.Core.Bool.{true, _&&_};
+ghost use mathlib.Core.Bool.{_&&_};
 ghost use Prim.Native.Nat.{_/_, _≤_};
 ghost use lib.Dec.{leb};
 ghost use Rattle.types.specs.Leaf.{clockOf};
@@ -81,7 +81,7 @@ fn quotient(number: u32, divisor: u32) -> u32
 
 // Whether the source itself may be the clock.
 fn may_bypass(source: Hertz, requested: Hertz, allowed: bool) -> bool
-    ensures { λ r. ⌜ (r ≡ (allowed && leb (source .0) (requested .0))) × (r ≡ true → source .0 ≤ requested .0) ⌝ }
+    ensures { λ r. ⌜ r ≡ (allowed && leb (source .0) (requested .0)) ⌝ }
 {
     let s = source.0;
     let q = requested.0;

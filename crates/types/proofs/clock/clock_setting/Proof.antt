@@ -1,13 +1,13 @@
 use Prim.Native.Nat.{ℕ, zero, suc, _*_, _≤_}
-use mathlib.Core.Bool.{Bool, false, _&&_}
+use mathlib.Core.Bool.{Bool, true, false, _&&_}
 use mathlib.Core.Path.{_≡_, sym, _∙_}
 use native.Mathlib.Nat.{mul-zero}
 use native.Mathlib.Omega.{arith}
 use lib.Dec.{leb}
-use borrow.Author.Tests.{eq-eqb, ne-eqb, lt-ltb, le-ltb}
+use borrow.Author.Tests.{eq-eqb, ne-eqb, lt-ltb, le-ltb, leb-true}
 use Rattle.types.specs.Leaf.{clockOf}
 use Rattle.types.specs.Least.{Enough, Least, Searched}
-use Rattle.types.specs.declared.clock.ClockAnswer.the-variants.{Refused}
+use Rattle.types.specs.declared.clock.ClockAnswer.the-variants.{Set, Refused}
 use Rattle.types.specs.declared.error.Error.the-variants.{BadClock}
 use Rattle.types.proofs.Least.{found, over}
 use borrow.Author.Needs.{needs}
@@ -23,6 +23,14 @@ use Rattle.types.proofs.clock.quotient.Reads as quotient-reads
 asked : (s d q : ℕ) → 1 ≤ s → s ≤ d * q → 1 ≤ q
 asked s d zero h slow = absurd (omega (arith, mul-zero d))
 asked s d (suc q) h slow = omega arith
+
+-- what a source at most the request comes to, where that may be passed on
+passed : (s q : ℕ) (allowed : Bool) → 1 ≤ s → q ≤ 80_000_000 → (allowed && leb s q) ≡ true → clockOf s q allowed ≡ Set (record { divisor = 0; bypass = true; frequency = record { 0 = s } })
+unfolding clockOf
+passed s q true h high bypass =
+    let low = leb-true s q bypass in
+    rw (ne-eqb s 0 (λ e. omega arith), ne-eqb q 0 (λ e. omega arith), le-ltb 80_000_000 q high, bypass)
+passed s q false h high bypass = let z : _≡_ {A = ℕ} 0 1 = cc in absurd (omega arith)
 
 -- no divisor brings a source down to 0: such a request is refused with those that are too low
 none : (s q : ℕ) (allowed : Bool) → 1 ≤ s → q ≤ 80_000_000 → (allowed && leb s q) ≡ false → ((d : ℕ) → Enough s q d → ⊥) → clockOf s q allowed ≡ Refused BadClock
@@ -40,12 +48,11 @@ unfolding clockOf
 returns-2 c = rw (ne-eqb _ _ (c .before .if1 .left), ne-eqb (c .before .before .args .requested .0) 0 (λ e. omega arith), lt-ltb _ _ (c .if2 .taken))
 
 returns-3 : tie.Need-returns-3
-unfolding clockOf
 returns-3 c =
     let judged = c .before .before in
     let args = judged .before .before .args in
-    let low = c .before .may-bypass .ensures .1 (c .if3 .taken) in
-    rw (ne-eqb _ _ (judged .before .if1 .left), ne-eqb (args .requested .0) 0 (λ e. omega arith), le-ltb _ _ (judged .if2 .left), sym (c .before .may-bypass .ensures .0) ∙ c .if3 .taken)
+    let bypass : (args .allow-bypass && leb (args .source .0) (args .requested .0)) ≡ true = search (sym (c .before .may-bypass .ensures) ∙ c .if3 .taken) in
+    sym (passed _ _ _ (omega arith) (judged .if2 .left) bypass)
 
 -- what the search says of the divisor that it found
 sought : (c : lts.After-found (may-bypass-reads.Asked, may-bypass-reads.Learnt, divisor-for-reads.Asked, divisor-for-reads.Learnt, quotient-reads.Asked, quotient-reads.Learnt) reads.Pre reads.Post)
@@ -72,7 +79,7 @@ returns-4 c =
     let least = sought (c .before .before) in
     let low : 1 ≤ q = asked s _ q (omega arith) (least .enough .slow) in
     let divisor = found s q (omega arith) low (judged .if2 .left) _ least in
-    let divided = sym (searched .before .before .may-bypass .ensures .0) ∙ searched .before .if3 .left in
+    let divided = sym (searched .before .before .may-bypass .ensures) ∙ searched .before .if3 .left in
     rw (ne-eqb _ _ (judged .before .if1 .left), ne-eqb q 0 (λ e. omega arith), le-ltb _ _ (judged .if2 .left), divided, ← divisor, le-ltb _ _ (least .enough .to257), c .quotient .ensures)
 
 returns-5 : tie.Need-returns-5
@@ -81,7 +88,7 @@ returns-5 c =
     let searched = c .before .before in
     let judged = searched .before .before .before in
     let args = judged .before .before .args in
-    let divided = sym (searched .before .before .may-bypass .ensures .0) ∙ searched .before .if3 .left in
+    let divided = sym (searched .before .before .may-bypass .ensures) ∙ searched .before .if3 .left in
     sym (none (args .source .0) (args .requested .0) (args .allow-bypass) (omega arith) (judged .if2 .left) divided (rw (c .enum-told .given .1) at (searched .divisor-for .ensures)))
 
 pub clock-setting-spec : {M : Type 1} → statement M

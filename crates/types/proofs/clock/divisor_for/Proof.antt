@@ -25,13 +25,13 @@ none : (s q sum : ℕ) → sum + q ≡ 258 * q → sum < s → (d : ℕ) → Eno
 none s q sum multiple low d h = omega (arith, h .slow, mul-le-mul-right q (h .to257))
 
 abbrev Inv-loop : tie.InvT-loop
-Inv-loop s q sum₀ divisor₀ sum divisor = (2 ≤ divisor) × (divisor ≤ 258) × (sum ≤ 0xffff_ffff) × (sum + q ≡ divisor * q) × (2 < divisor → sum < s)
+Inv-loop s q sum₀ divisor₀ sum divisor = (2 ≤ divisor) × (divisor ≤ 258) × (sum + q ≡ divisor * q) × (2 < divisor → sum < s) × (sum ≤ 0xffff_ffff)
 
 abbrev μ-loop : tie.MeasureT-loop
 μ-loop s q sum₀ divisor₀ sum divisor = 258 - divisor
 
 loop-holds : tie.Need-loop-holds Inv-loop μ-loop
-loop-holds c = (search needs, search needs, search needs, omega arith, λ h. omega arith)
+loop-holds c = (search needs, search needs, omega arith, λ h. omega arith, search needs)
 
 cast-next : tie.Need-cast-next Inv-loop μ-loop
 cast-next c = search needs
@@ -46,7 +46,7 @@ returns : tie.Need-returns Inv-loop μ-loop
 unfolding Searched
 returns c =
     let at = c .before .before .loop .inv in
-    first _ _ _ _ (at .0) (omega arith) (at .3) (at .4) (omega arith)
+    first _ _ _ _ (at .0) (omega arith) (at .2) (at .3) (omega arith)
 
 cast-sum : tie.Need-cast-sum Inv-loop μ-loop
 cast-sum c = search needs
@@ -55,7 +55,7 @@ returns-2 : tie.Need-returns-2 Inv-loop μ-loop
 unfolding Searched
 returns-2 c =
     let at = c .before .before .before .loop .inv in
-    first _ _ _ _ (at .0) (omega arith) (at .3) (at .4) (omega arith)
+    first _ _ _ _ (at .0) (omega arith) (at .2) (at .3) (omega arith)
 
 add-divisor : tie.Need-add-divisor Inv-loop μ-loop
 add-divisor c = search needs
@@ -68,14 +68,14 @@ loop-again c =
     let at = c .before .before .before in
     let divisor = at .loop .divisor in
     let q = at .before .args .requested .0 in
-    (search needs, search needs, search needs, omega (arith, add-mul divisor 1 q, one-mul q), λ h. omega arith)
+    (search needs, search needs, omega (arith, add-mul divisor 1 q, one-mul q), λ h. omega arith, search needs)
 
 returns-3 : tie.Need-returns-3 Inv-loop μ-loop
 unfolding Searched
 returns-3 c =
     let at = c .before .loop in
     let last : at .divisor ≡ 258 = omega arith in
-    none _ _ _ (rw last at (at .inv .3)) (at .inv .4 (omega arith))
+    none _ _ _ (rw last at (at .inv .2)) (at .inv .3 (omega arith))
 
 pub divisor-for-spec : {M : Type 1} → statement M
 divisor-for-spec =

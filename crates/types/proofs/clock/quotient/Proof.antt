@@ -1,5 +1,5 @@
 -- The steps left are counted down from 32, which is the measure too: so many and no more are taken.
-use Prim.Native.Nat.{ℕ, suc, _+_, _*_, _-_, _%_, _^_, _<_, _≤_}
+use Prim.Native.Nat.{_*_, _-_, _%_, _^_, _<_, _≤_}
 use mathlib.Core.Logic.{⊎-elim}
 use mathlib.Core.Path.{_≡_, _∙_}
 use native.Mathlib.Nat.{mod-eq-of-lt}
