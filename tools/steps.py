@@ -8,8 +8,9 @@ lines that begin with `row ` or `read `, all from two spaces on).
 
 With --traced EXPECTED is what cardtrace prints of each book, which knows rows and no order of readings. Then the rows, the
 lines of calls and the states have to be the same, and the rest is held to the book itself: a call begins as the book has it,
-its readings are the first words of its script, as many as its line says, and one has no word where the script ended (answer
-21), behind everything else.
+and its readings are the first words of its script, as many as its line says. Where the script ended (answer 21) one more has no
+word, and behind it come the rows that close the call: CLKCR off at most once, then the reset rows, twice at most, and no other;
+where these found no room (answer 22), the first of them.
 
 Prints how many books and lines were equal. Exit status: 0 they are; 1 a book differs (the first is told), or COMMAND fails;
 2 bad usage.
@@ -23,6 +24,9 @@ import sys
 READ = re.compile(r"read (?:status|respcmd|response [0-3]|dma|dcount|data \d+) (?:0x([0-9a-f]{8})|none)")
 ROW = re.compile(r"row \d+ \d+")
 LINE = re.compile(r"\d+ answer (\d+) words (\d+) rows \d+")
+# What may close a call whose script ended.
+RESET = [f"row {register} 0" for register in (9, 10, 7, 4, 1, 2, 3, 5, 6)] + [f"row 8 {0xC007FF}"]
+CLKCR = re.compile(r"row 2 (\d+)")
 # What only cardtrace tells.
 TRACE_ALONE = ("carried ", "status ", "block ")
 BEFORE = 5
@@ -92,15 +96,28 @@ def held_to_script(events, line, script):
     if not told:
         raise Differs(f"no line of a call: {line}")
     answer, used = map(int, told.groups())
-    readings = [event for event in events if event.startswith("read ")]
     for event in events:
         if not (READ.fullmatch(event) or ROW.fullmatch(event)):
             raise Differs(f"no event: {event}")
-    if answer == 21:
-        if used != len(script) or not readings or events[-1] != readings[-1] or not readings.pop().endswith(" none"):
-            raise Differs(f"no reading without a word as the last event of: {line}")
+    ends = next((k for k, event in enumerate(events) if event.endswith(" none")), None)
+    if ends is not None:
+        if answer not in (21, 22) or used != len(script) or not closes(events[ends + 1 :], answer == 21):
+            raise Differs(f"no closing rows, or more than these, behind the reading without a word: {line}")
+        events = events[:ends]
+    elif answer == 21:
+        raise Differs(f"no reading without a word: {line}")
+    readings = [event for event in events if event.startswith("read ")]
     if [READ.fullmatch(reading)[1] for reading in readings] != [f"{word:08x}" for word in script[:used]]:
         raise Differs(f"the readings are not the first words of the script: {line}")
+
+
+def closes(events, wholly):
+    """Whether these events close a call whose script ended, wholly or as far as there was room."""
+    clkcr = CLKCR.fullmatch(events[0]) if events else None
+    resets = events[1:] if clkcr else events
+    if clkcr and int(clkcr[1]) & 256 or resets != (2 * RESET)[: len(resets)]:
+        return False
+    return not wholly or bool(events) and len(resets) % len(RESET) == 0
 
 
 def as_traced(lines, book):

@@ -14,11 +14,12 @@ use Rattle.types.specs.Answer.{errorTold}
 use Rattle.types.specs.Bits.{clear}
 use Rattle.types.specs.Leaf.{Rule as Masked, firstMatch, dataOf}
 use Rattle.types.specs.Sd.{readyOf}
-use Rattle.tape.specs.Plan.{Nothing, refusing}
+use Rattle.tape.specs.Plan.{Nothing}
 use Rattle.tape.specs.declared.rows.Row.{Row}
 use Rattle.tape.specs.Rows.{ICR}
 use Rattle.tape.specs.Steps.{row, waitIdle, resetController, stopData, setClken}
-use Rattle.tape.proofs.Walk.{Rule, Obeys, on-handle, on-give, on-fail, on-then, on-look, on-test, on-word, on-row, on-ensure, on-until, on-data}
+use Rattle.tape.proofs.Walk.{Rule, Obeys, RowsOnly, on-give, on-fail, on-then, on-look, on-test, on-word, on-row, on-ensure, on-until, on-data}
+use Rattle.tape.proofs.Walk.{on-rows, on-closing, rows-row, rows-look, rows-then}
 use Rattle.bus.specs.declared.response.Form.{Form}
 use Rattle.bus.specs.declared.response.Response.{Response}
 use Rattle.bus.specs.declared.transfer.Transfer.{Transfer}
@@ -85,9 +86,12 @@ module _ (rule : Rule) (others : (e : Error) → Other e → rule .refuses e) (r
   unfolding waitIdle
   idle-obeys limit transfer = on-then (on-until limit _ late (on-word _)) (λ _. on-give)
 
-  pub clken-obeys : (on : Bool) → Obeys rule Nothing (setClken on)
+  clken-rows : (on : Bool) → RowsOnly rule (setClken on)
   unfolding setClken
-  clken-obeys on = on-look (λ line i. ordinary _ _ refl)
+  clken-rows on = rows-look (λ line i. rows-row _ _ (rows _ refl))
+
+  pub clken-obeys : (on : Bool) → Obeys rule Nothing (setClken on)
+  clken-obeys on = on-rows (clken-rows on)
 
   complete-obeys : (limit index : ℕ) (form : Form) → Obeys rule (List ℕ) (complete limit index form)
   unfolding complete waitCompletion pollCompletion answer echo responseWords judge
@@ -112,8 +116,7 @@ module _ (rule : Rule) (others : (e : Error) → Other e → rule .refuses e) (r
   command-obeys limit index argument response =
       on-look (λ line i. on-test (line .gated)
       (on-then (clken-obeys true)
-      (λ _. on-handle (refusing (setClken false)) (inner-obeys limit index argument response)
-      (λ ws. on-then (clken-obeys false) (λ _. on-give)) (λ e r. on-then (clken-obeys false) (λ _. on-fail r))))
+      (λ _. on-closing (inner-obeys limit index argument response) (λ ws. on-then (clken-obeys false) (λ _. on-give)) (clken-rows false)))
       (inner-obeys limit index argument response))
 
   pub app-obeys : (limit rca : ℕ) → Obeys rule Nothing (appCommand limit rca)
@@ -192,16 +195,17 @@ module _ (rule : Rule) (others : (e : Error) → Other e → rule .refuses e) (r
       (λ _. ready-obeys source config rca)))
 
   -- The reset rows are not ordinary.
-  pub reset-obeys : ((r : Row) → rule .writes r) → Obeys rule Nothing resetController
+  pub reset-rows : ((r : Row) → rule .writes r) → RowsOnly rule resetController
   unfolding resetController
-  reset-obeys any =
-      on-then (on-row _ _ (any _)) (λ _. on-then (on-row _ _ (any _)) (λ _. on-then (on-row _ _ (any _)) (λ _. on-then (on-row _ _ (any _)) (λ _. on-then (on-row _ _ (any _))
-      (λ _. on-then (on-row _ _ (any _)) (λ _. on-then (on-row _ _ (any _)) (λ _. on-then (on-row _ _ (any _)) (λ _. on-then (on-row _ _ (any _)) (λ _. on-row _ _ (any _))))))))))
+  reset-rows any =
+      rows-then (rows-row _ _ (any _)) (λ _. rows-then (rows-row _ _ (any _)) (λ _. rows-then (rows-row _ _ (any _)) (λ _. rows-then (rows-row _ _ (any _))
+      (λ _. rows-then (rows-row _ _ (any _)) (λ _. rows-then (rows-row _ _ (any _)) (λ _. rows-then (rows-row _ _ (any _)) (λ _. rows-then (rows-row _ _ (any _))
+      (λ _. rows-then (rows-row _ _ (any _)) (λ _. rows-row _ _ (any _))))))))))
 
   pub data-obeys : ((r : Row) → rule .writes r) → (source : ℕ) (config : Config) (transfer : Transfer) (rca : ℕ) → Obeys rule (List ℕ) (blockingData source config transfer rca)
   unfolding blockingData transferData
   data-obeys any source config transfer rca =
-      on-handle (refusing resetController)
+      on-closing
       (on-then (start-obeys config transfer)
       (λ _. on-then (receive-obeys _ _) (λ ws. on-then (end-obeys source config _ rca) (λ _. on-give))))
-      (λ ws. on-give) (λ e r. on-then (reset-obeys any) (λ _. on-fail r))
+      (λ ws. on-give) (reset-rows any)

@@ -48,14 +48,20 @@ cmd13 = on zeros (command 3 13 0x1234_0000 R1) (host true 4)
 abbrev issued : List ℕ
 issued = 2 ∷ 260 ∷ 8 ∷ 0xc5 ∷ 3 ∷ 0x1234_0000 ∷ 4 ∷ 1101 ∷ []
 
--- accepted after one poll that was busy; refused, the clock off as well; the script ended, the clock left on; no room for
--- the row that turns it off
+-- accepted after one poll that was busy; refused, the clock off as well; the script ended, and the same; no room for the row
+-- that turns it off, in either
 pub commands :
-    cmd13 10 (0 ∷ 0 ∷ 0x40 ∷ 13 ∷ 0x900 ∷ 1 ∷ 2 ∷ 3 ∷ []) ∷ cmd13 10 (0 ∷ 0x4 ∷ []) ∷ cmd13 8 (0 ∷ []) ∷ cmd13 8 (0 ∷ 0x4 ∷ []) ∷ []
+    cmd13 10 (0 ∷ 0 ∷ 0x40 ∷ 13 ∷ 0x900 ∷ 1 ∷ 2 ∷ 3 ∷ [])
+    ∷ cmd13 10 (0 ∷ 0x4 ∷ [])
+    ∷ cmd13 10 (0 ∷ [])
+    ∷ cmd13 8 (0 ∷ 0x4 ∷ [])
+    ∷ cmd13 8 (0 ∷ [])
+    ∷ []
     ≡ after (0x900 ∷ 1 ∷ 2 ∷ 3 ∷ []) Going 8 5 (host true 4) (2 ∷ 260 ∷ 8 ∷ 0xc5 ∷ 3 ∷ 0x1234_0000 ∷ 4 ∷ 1101 ∷ 2 ∷ 4 ∷ [])
     ∷ after zeros (Stopped (Refused E.Timeout)) 2 5 (host true 4) (2 ∷ 260 ∷ 8 ∷ 0xc5 ∷ 3 ∷ 0x1234_0000 ∷ 4 ∷ 1101 ∷ 2 ∷ 4 ∷ [])
-    ∷ after zeros (Stopped ScriptEnded) 1 4 (host true 260) issued
+    ∷ after zeros (Stopped ScriptEnded) 1 5 (host true 4) (2 ∷ 260 ∷ 8 ∷ 0xc5 ∷ 3 ∷ 0x1234_0000 ∷ 4 ∷ 1101 ∷ 2 ∷ 4 ∷ [])
     ∷ after zeros (Stopped TraceFull) 2 4 (host true 260) issued
+    ∷ after zeros (Stopped TraceFull) 1 4 (host true 260) issued
     ∷ []
 unfolding run handle ensure until noted word row waitIdle setClken formOf issue pollCompletion waitCompletion echo
     responseWords judge answer complete commandInner command
@@ -86,15 +92,22 @@ begun = 0 ∷ 0 ∷ 0x40 ∷ 51 ∷ 0x920 ∷ 0 ∷ 0 ∷ 0 ∷ []
 abbrev begunRows : List ℕ
 begunRows = 10 ∷ 0 ∷ 9 ∷ 0 ∷ 7 ∷ 0 ∷ 8 ∷ 0x73a ∷ 5 ∷ 5_000_000 ∷ 6 ∷ 8 ∷ 7 ∷ 59 ∷ 2 ∷ 260 ∷ 8 ∷ 0xc5 ∷ 3 ∷ 0 ∷ 4 ∷ 1139 ∷ []
 
+abbrev resetRows : List ℕ
+resetRows = 9 ∷ 0 ∷ 10 ∷ 0 ∷ 7 ∷ 0 ∷ 4 ∷ 0 ∷ 1 ∷ 0 ∷ 2 ∷ 0 ∷ 3 ∷ 0 ∷ 5 ∷ 0 ∷ 6 ∷ 0 ∷ 8 ∷ 0x00c0_07ff ∷ []
+
 -- accepted, after one poll at which the DMA ran; refused with words that remain: DCOUNT is not read, and the reset rows
--- follow
+-- follow; the script ends among the data words, and they follow too, or find no room
 pub transfers :
     cmd51 (host false 260) 36 (begun ++ 0 ∷ 0x4000_0001 ∷ 0x100 ∷ 0 ∷ 0x100 ∷ 0 ∷ 0 ∷ 0xaa ∷ 0xbb ∷ 0 ∷ 0x40 ∷ 13 ∷ 0x900 ∷ 0 ∷ 0 ∷ 0 ∷ [])
     ∷ cmd51 (host true 4) 42 (begun ++ 0x100 ∷ 0 ∷ 0x100 ∷ 5 ∷ 0 ∷ [])
+    ∷ cmd51 (host true 4) 42 (begun ++ 0x100 ∷ 0 ∷ 0x100 ∷ 0 ∷ 0 ∷ 0xaa ∷ [])
+    ∷ cmd51 (host true 4) 24 (begun ++ 0x100 ∷ 0 ∷ 0x100 ∷ 0 ∷ 0 ∷ 0xaa ∷ [])
     ∷ []
     ≡ after (0xaa ∷ 0xbb ∷ []) Going 24 17 (host false 260) (begunRows ++ 9 ∷ 0 ∷ 7 ∷ 0 ∷ 8 ∷ 0x73a ∷ cmd13Rows ++ 0 ∷ 0 ∷ [])
     ∷ after [] (Stopped (Refused E.IncompleteTransfer)) 12 21 (host true 0)
-    (begunRows ++ 9 ∷ 0 ∷ 10 ∷ 0 ∷ 7 ∷ 0 ∷ 4 ∷ 0 ∷ 1 ∷ 0 ∷ 2 ∷ 0 ∷ 3 ∷ 0 ∷ 5 ∷ 0 ∷ 6 ∷ 0 ∷ 8 ∷ 0x00c0_07ff ∷ [])
+    (begunRows ++ resetRows)
+    ∷ after [] (Stopped ScriptEnded) 14 21 (host true 0) (begunRows ++ resetRows)
+    ∷ after [] (Stopped TraceFull) 14 12 (host true 260) (begunRows ++ 9 ∷ 0 ∷ [])
     ∷ []
 unfolding run handle ensure until noted word row waitIdle setClken formOf issue pollCompletion waitCompletion echo
     responseWords judge answer complete commandInner command retryDelay readStatus tryReady waitReady resetController

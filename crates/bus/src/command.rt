@@ -179,7 +179,7 @@ pub fn command_inner(
     complete(issued, rest, start, limit, index, form)
 }
 
-// What the gate makes of a command: the clock off, after an answer and after a refusal alike.
+// What the gate makes of a command: the clock off, after an answer and after a stop alike, unless there is no room.
 fn close_clock(a: Words, rows: &mut [u32]) -> Words
     ensures { λ r. ⌜ ((s : List ℕ) → Settled s (List ℕ) (List ℕ) zeros (giving (setClken false)) (refusing (setClken false)) (a .words) (at (a .progress) (now (rows .entry))) (r .words) (at (r .progress) (now (rows .exit)))) ⌝ }
 {
@@ -192,21 +192,17 @@ fn close_clock(a: Words, rows: &mut [u32]) -> Words
             response::give_words(off, words)
         }
         Pace::Stopped(halt) => match halt {
-            Halt::Refused(e) => {
-                let off = steps::set_clken(p.resumed(), rows, false);
-                Words {
-                    progress: progress::refuse(off, e),
-                    words: [0; 4],
-                }
-            }
-            Halt::ScriptEnded => Words {
-                progress: p,
-                words: [0; 4],
-            },
             Halt::TraceFull => Words {
                 progress: p,
                 words: [0; 4],
             },
+            _ => {
+                let off = steps::set_clken(p.resumed(), rows, false);
+                Words {
+                    progress: off.stop(halt),
+                    words: [0; 4],
+                }
+            }
         },
     }
 }

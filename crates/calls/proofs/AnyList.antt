@@ -15,7 +15,6 @@ use Rattle.types.specs.declared.config.ConfigAnswer.{ConfigAnswer}
 use Rattle.types.specs.declared.config.ConfigAnswer.the-variants as Judged
 use Rattle.types.specs.declared.error.Answer.{Answer}
 use Rattle.types.specs.declared.error.Answer.the-variants as Answered
-use Rattle.types.specs.declared.error.Error.{Error}
 use Rattle.types.specs.declared.error.Error.the-variants as E
 use Rattle.types.specs.Leaf.{addressOf, clockOf}
 use Rattle.types.specs.Settings.{madeOf}
@@ -23,13 +22,14 @@ use Rattle.types.specs.Words.{sdStatusOf}
 use Rattle.tape.specs.declared.progress.Halt.the-variants.{Refused, ScriptEnded, TraceFull}
 use Rattle.tape.specs.declared.progress.Pace.{Pace}
 use Rattle.tape.specs.declared.progress.Pace.the-variants.{Going, Stopped}
-use Rattle.tape.specs.Plan.{Nothing, Plan}
-use Rattle.tape.specs.Run.{State, run, runFrom}
+use Rattle.tape.specs.Plan.{Nothing, Cause, failed, ended, Plan}
+use Rattle.tape.specs.Run.{State, haltOf, run, runFrom}
 use Rattle.bus.specs.Command.{appCommand}
 use Rattle.bus.specs.Ready.{waitReady}
 use Rattle.init.specs.declared.settings.Settings.{Settings}
 use Rattle.init.specs.Initialise as I
 use Rattle.init.specs.Initialise.{sourceOf, limitOf, noCard}
+use Rattle.host.specs.Calls.{answerFor}
 use Rattle.refusals.proofs.InitRefusals.{found-zero}
 use Rattle.refusals.proofs.Untouched.{read-16, status-16}
 use Rattle.refusals.proofs.Leaves.{Leaves, initialise-leaves, read-leaves, status-leaves}
@@ -46,14 +46,14 @@ abbrev Follows : Sdmmc → (Answer → List ℕ → Held) → Came → Type 0
 Follows host rule x = heldOf (x .host) ≡ cond (leftOut (x .answer)) (heldOf host) (rule (x .answer) (x .taken))
 
 -- how its plan ends: what `ends` makes of the record, from what the two hosts hold that it may leave
-ended : (host refused accepted : Sdmmc) (words : List ℕ) (rule : Answer → List ℕ → Held) (q : Pace) (w : State)
-    → ((e : Error) → q ≡ Stopped (Refused e) → heldOf refused ≡ rule (Answered.Refused e) []) → (q ≡ Going → heldOf accepted ≡ rule Answered.Accepted words)
+held-at : (host refused accepted : Sdmmc) (words : List ℕ) (rule : Answer → List ℕ → Held) (q : Pace) (w : State)
+    → ((e : Cause) → q ≡ Stopped (haltOf e) → heldOf refused ≡ rule (answerFor e) []) → (q ≡ Going → heldOf accepted ≡ rule Answered.Accepted words)
     → Follows host rule (ends host refused accepted words q w)
 unfolding ends leftOut
-ended host refused accepted words rule Going w out in′ = in′ refl
-ended host refused accepted words rule (Stopped (Refused e)) w out in′ = out e refl
-ended host refused accepted words rule (Stopped ScriptEnded) w out in′ = refl
-ended host refused accepted words rule (Stopped TraceFull) w out in′ = refl
+held-at host refused accepted words rule Going w out in′ = in′ refl
+held-at host refused accepted words rule (Stopped (Refused e)) w out in′ = out (failed e) refl
+held-at host refused accepted words rule (Stopped ScriptEnded) w out in′ = out ended refl
+held-at host refused accepted words rule (Stopped TraceFull) w out in′ = refl
 
 -- An initialisation.
 
@@ -62,10 +62,11 @@ allowed-none : (b : Bool) (before : Held) → b ≡ false → holdsNone ≡ cond
 allowed-none true before e = let z : _≡_ {A = ℕ} 0 1 = cc in absurd (omega arith)
 allowed-none false before e = refl
 
-none-left : (frequency : ℕ) (e : Error) (found : Card) (before : Held) → (eqb frequency 0 || ltb 50_000_000 frequency) ≡ false
-    → holdsNone ≡ afterInitialise frequency (Answered.Refused e) found before
+none-left : (frequency : ℕ) (e : Cause) (found : Card) (before : Held) → (eqb frequency 0 || ltb 50_000_000 frequency) ≡ false
+    → holdsNone ≡ afterInitialise frequency (answerFor e) found before
 unfolding afterInitialise
-none-left frequency e found before may = allowed-none (eqb frequency 0 || ltb 50_000_000 frequency) before may
+none-left frequency (failed e) found before may = allowed-none (eqb frequency 0 || ltb 50_000_000 frequency) before may
+none-left frequency ended found before may = allowed-none (eqb frequency 0 || ltb 50_000_000 frequency) before may
 
 module _ (host : Sdmmc) (frequency : ℕ) (s l : List ℕ) (c : Clock) (clocked : clockOf (sourceOf (host .settings)) 400_000 false ≡ Clocked.Set c) where
   abbrev initRule : Answer → List ℕ → Held
@@ -81,9 +82,20 @@ module _ (host : Sdmmc) (frequency : ℕ) (s l : List ℕ) (c : Clock) (clocked 
       by true t = rw t
       by false t =
           let x = run s noCard (I.initialise (host .settings) c frequency) 0 0 (freshLine (c .frequency)) l in
-          ended host (dropped host (x .state)) (holding host (x .state) (x .value)) []
+          held-at host (dropped host (x .state)) (holding host (x .state) (x .value)) []
           (λ a words. afterInitialise frequency a (x .value) (heldOf host)) (x .state .progress .pace) (x .state)
           (λ e stopped. none-left frequency e (x .value) (heldOf host) t) (λ g. ap (λ (st : List ℕ). holds (withStatus (x .value) st)) (found-zero s (host .settings) c frequency l g))
+
+-- refused with its data phase begun: no record; and before it: the record that was held
+lost-in-data : (e : Cause) (accepted before : Held) → afterData (answerFor e) true accepted before ≡ holdsNone
+unfolding afterData
+lost-in-data (failed e) accepted before = refl
+lost-in-data ended accepted before = refl
+
+kept-before-data : (e : Cause) (accepted before : Held) → afterData (answerFor e) false accepted before ≡ before
+unfolding afterData
+kept-before-data (failed e) accepted before = refl
+kept-before-data ended accepted before = refl
 
 -- A call with a data phase: `accepted` is what it leaves of the record where it was accepted, from its data words.
 
@@ -103,12 +115,12 @@ module _ (host : Sdmmc) (plan : Plan Nothing) (transfer : Plan (List ℕ)) (next
           → Follows host (λ a words. afterData a (going q) (accepted words) (heldOf host)) (approached host transfer next s q w)
       by Going g =
           let x = runFrom s [] transfer w in
-          ended host (dropped host (x .state)) (next (x .state) (x .value)) (x .value)
+          held-at host (dropped host (x .state)) (next (x .state) (x .value)) (x .value)
           (λ a words. afterData a true (accepted words) (heldOf host)) (x .state .progress .pace) (x .state)
-          (λ e stopped. refl) (λ y. same (x .state) (x .value))
+          (λ e stopped. sym (lost-in-data e (accepted []) (heldOf host))) (λ y. same (x .state) (x .value))
       by (Stopped h) g =
-          ended host (kept host w) host [] (λ a words. afterData a false (accepted words) (heldOf host)) (Stopped h) w
-          (λ e stopped. refl) (λ y. let z : _≡_ {A = ℕ} 0 1 = cc in absurd (omega arith))
+          held-at host (kept host w) host [] (λ a words. afterData a false (accepted words) (heldOf host)) (Stopped h) w
+          (λ e stopped. sym (kept-before-data e (accepted []) (heldOf host))) (λ y. let z : _≡_ {A = ℕ} 0 1 = cc in absurd (omega arith))
 
 -- what is to be held after a call, from its answer and data words
 abbrev ruleOf : Sdmmc → Call → Answer → List ℕ → Held
@@ -174,7 +186,7 @@ leaves host (initialise frequency s l) = initialise-leaves host frequency s l
 leaves host (read index bytes s l) = read-leaves host index bytes s l
 leaves host (status s l) = status-leaves host s l
 
--- 'calls answered ScriptEnded or TraceFull change nothing of the host'
+-- a call that is left out changes nothing of the host
 pub left-out-changes-nothing : (host : Sdmmc) (c : Call) → leftOut (comes host c .answer) ≡ true → comes host c .host ≡ host
 unfolding leftOut
 left-out-changes-nothing host c out = by (comes host c .answer) refl out
@@ -182,7 +194,7 @@ left-out-changes-nothing host c out = by (comes host c .answer) refl out
     by : (a : Answer) → comes host c .answer ≡ a → leftOut a ≡ true → comes host c .host ≡ host
     by Answered.Accepted r o = let z : _≡_ {A = ℕ} 0 1 = cc in absurd (omega arith)
     by (Answered.Refused e) r o = let z : _≡_ {A = ℕ} 0 1 = cc in absurd (omega arith)
-    by Answered.ScriptEnded r o = leaves host c .ended r
+    by Answered.ScriptEnded r o = let z : _≡_ {A = ℕ} 0 1 = cc in absurd (omega arith)
     by Answered.TraceFull r o = leaves host c .full r
     by Answered.BadBook r o = let z : _≡_ {A = ℕ} 0 1 = cc in absurd (omega arith)
 
@@ -281,7 +293,7 @@ initialise-as-new h k frequency s l e c may =
     allow false n = refl
 
 -- 'An initialisation of allowed frequency answers, writes and uses what a new host of the same settings would on the same
--- script and row list, and but for those two answers leaves the same host', whatever calls came before it.
+-- script and row list, and but for TraceFull leaves the same host', whatever calls came before it.
 pub as-a-new-host : (set : Settings) → made set .answer ≡ Answered.Accepted → (past : List Call) (frequency : ℕ) (s l : List ℕ) → allowed frequency ≡ true
     → comes (serve (made set .host) past .host) (initialise frequency s l)
     ≡ asNew (serve (made set .host) past .host) (comes (made set .host) (initialise frequency s l))
@@ -308,16 +320,20 @@ pub status-of-none : (host : Sdmmc) → heldOf host ≡ holdsNone → (s l : Lis
 unfolding comes
 status-of-none host e s l = status-16 host s l (none-known host e)
 
--- after a refused initialisation of allowed frequency, whatever came before it, there is none: so a read answers 16
+-- after a refused initialisation of allowed frequency, or one whose script ended, whatever came before it, there is none: so a
+-- read answers 16
 module _ (set : Settings) (ok : made set .answer ≡ Answered.Accepted) (past : List Call) where
   abbrev pub used : Sdmmc
   used = serve (made set .host) past .host
 
-  module _ (frequency : ℕ) (may : allowed frequency ≡ true) (s l : List ℕ) (e : Error) (refused : comes used (initialise frequency s l) .answer ≡ Answered.Refused e) where
+  module _ (frequency : ℕ) (may : allowed frequency ≡ true) (s l : List ℕ) (e : Cause) (refused : comes used (initialise frequency s l) .answer ≡ answerFor e) where
     pub none-after-a-bad-card : heldOf (comes used (initialise frequency s l) .host) ≡ holdsNone
     unfolding leftOut afterCall afterInitialise
-    none-after-a-bad-card =
-        rw (refused, may) at (follows used (initialise frequency s l) (rw (settings-stay (made set .host) past) (made-clockable set ok)))
+    none-after-a-bad-card = by e refused
+      where
+        by : (e : Cause) → comes used (initialise frequency s l) .answer ≡ answerFor e → heldOf (comes used (initialise frequency s l) .host) ≡ holdsNone
+        by (failed e) r = rw (r, may) at (follows used (initialise frequency s l) (rw (settings-stay (made set .host) past) (made-clockable set ok)))
+        by ended r = rw (r, may) at (follows used (initialise frequency s l) (rw (settings-stay (made set .host) past) (made-clockable set ok)))
 
     pub read-after-a-bad-card : (index bytes : ℕ) (s′ l′ : List ℕ)
         → comes (comes used (initialise frequency s l) .host) (read index bytes s′ l′) ≡ untouched (comes used (initialise frequency s l) .host) E.NoCard l′

@@ -55,17 +55,17 @@ module _ (begun : Bool) (found : Card) (taken : List ℕ) (earlier : List Told) 
   unfolding afterCall afterInitialise afterData initialises readsStatus loses accepted refused lastRecord since lost lastStatus dueOf
   step (initialise frequency s l) Answered.Accepted h = refl
   step (initialise frequency s l) (Answered.Refused e) h = other (initialise frequency s l) (Answered.Refused e) (allowed frequency) refl refl refl
-  step (initialise frequency s l) Answered.ScriptEnded h = other (initialise frequency s l) Answered.ScriptEnded false refl refl refl
+  step (initialise frequency s l) Answered.ScriptEnded h = other (initialise frequency s l) Answered.ScriptEnded (allowed frequency) refl refl refl
   step (initialise frequency s l) Answered.TraceFull h = other (initialise frequency s l) Answered.TraceFull false refl refl refl
   step (initialise frequency s l) Answered.BadBook h = other (initialise frequency s l) Answered.BadBook false refl refl refl
   step (read index bytes s l) Answered.Accepted h = other (read index bytes s l) Answered.Accepted false refl refl refl
   step (read index bytes s l) (Answered.Refused e) h = other (read index bytes s l) (Answered.Refused e) begun refl refl refl
-  step (read index bytes s l) Answered.ScriptEnded h = other (read index bytes s l) Answered.ScriptEnded false refl refl refl
+  step (read index bytes s l) Answered.ScriptEnded h = other (read index bytes s l) Answered.ScriptEnded begun refl refl refl
   step (read index bytes s l) Answered.TraceFull h = other (read index bytes s l) Answered.TraceFull false refl refl refl
   step (read index bytes s l) Answered.BadBook h = other (read index bytes s l) Answered.BadBook false refl refl refl
   step (status s l) Answered.Accepted h = statused s l (lastRecord earlier) (since earlier) (h refl)
   step (status s l) (Answered.Refused e) h = other (status s l) (Answered.Refused e) begun refl refl refl
-  step (status s l) Answered.ScriptEnded h = other (status s l) Answered.ScriptEnded false refl refl refl
+  step (status s l) Answered.ScriptEnded h = other (status s l) Answered.ScriptEnded begun refl refl refl
   step (status s l) Answered.TraceFull h = other (status s l) Answered.TraceFull false refl refl refl
   step (status s l) Answered.BadBook h = other (status s l) Answered.BadBook false refl refl refl
 

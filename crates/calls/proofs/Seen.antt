@@ -1,5 +1,5 @@
--- 'A call whose data phase had begun', as a caller can see it: a refused read or status call had begun its data phase exactly
--- if the last rows that it wrote are the reset rows.
+-- 'A call whose data phase had begun', as a caller can see it: a refused read or status call, one whose script ended among them, had
+-- begun its data phase exactly if the last rows that it wrote are the reset rows.
 use Prim.Native.Nat.{ℕ, _+_, _*_, _-_, _/_, _%_, _<_, _≤_}
 use mathlib.Core.Bool.{Bool, true, false, cond, _&&_}
 use mathlib.Core.List.{List}
@@ -11,19 +11,19 @@ use lib.Seq.{getD-take, getD-drop}
 use borrow.Author.Tests.{eqb-true, eqb-false, eq-eqb}
 use Rattle.types.specs.declared.card.AddressAnswer.{AddressAnswer}
 use Rattle.types.specs.declared.card.AddressAnswer.the-variants as Address
-use Rattle.types.specs.declared.error.Answer.the-variants as Answered
 use Rattle.types.specs.declared.error.Error.{Error}
 use Rattle.types.specs.Leaf.{addressOf}
-use Rattle.tape.specs.declared.progress.Halt.the-variants.{Refused}
 use Rattle.tape.specs.declared.progress.Pace.the-variants.{Going, Stopped}
 use Rattle.tape.specs.Rows.{ICR, placeOf, wordsOf}
-use Rattle.tape.specs.Run.{State}
+use Rattle.tape.specs.Plan.{Cause}
+use Rattle.tape.specs.Run.{State, haltOf}
 use Rattle.tape.proofs.Walk.{Rule, LastRow, starts-last}
 use Rattle.bus.specs.Command.{appCommand}
 use Rattle.bus.proofs.Walks.{Ordinary, app-obeys, ready-obeys}
 use Rattle.init.specs.Initialise.{sourceOf, limitOf}
 use Rattle.host.specs.declared.host.Sdmmc.{Sdmmc}
 use Rattle.host.specs.Calls.{Came, untouched, readCame, statusCame}
+use Rattle.host.specs.Calls.{answerFor}
 use Rattle.refusals.proofs.Guards.{resetRows}
 use Rattle.refusals.proofs.Reset.{ResetAfter, reset-last}
 use Rattle.refusals.proofs.DataRefusals as R
@@ -67,20 +67,20 @@ of-untouched : {x : Came} {host : Sdmmc} {e : Error} {l : List ℕ} → x ≡ un
 of-untouched same = rw same (unbegun (λ r. omega (arith, r .ten)))
 
 -- a call with an approach and a data phase, refused: w is where its approach has come
-of-refused : {e : Error} {w : State} {x : Came} → LastRow Ordinary (w .progress .rows) (w .list) → RefusedIn e w
-    → (w .progress .pace ≡ Stopped (Refused e) → (x .rows ≡ w .progress .rows) × (x .list ≡ w .list)) → (w .progress .pace ≡ Going → ResetLast x)
+of-refused : {e : Cause} {w : State} {x : Came} → LastRow Ordinary (w .progress .rows) (w .list) → RefusedIn e w
+    → (w .progress .pace ≡ Stopped (haltOf e) → (x .rows ≡ w .progress .rows) × (x .list ≡ w .list)) → (w .progress .pace ≡ Going → ResetLast x)
     → Seen (going (w .progress .pace)) x
 unfolding going
 of-refused {x = x} o (R.approach g) early late =
     rw g (unbegun (λ r. not-reset o (rw (early g .0) at (r .ten)) (rw (early g .0, early g .1) at (r .last))))
 of-refused o (R.dataPhase g) early late = record { shown = λ t. late g; only = λ r. rw g }
 
-after-reset : {e : Error} {host : Sdmmc} {w : State} {x : Came} → ResetAfter e host w x → ResetLast x
+after-reset : {e : Cause} {host : Sdmmc} {w : State} {x : Came} → ResetAfter e host w x → ResetLast x
 after-reset r = record { ten = omega (arith, r .rows); last = reset-last r }
 
-module _ (host : Sdmmc) (s l : List ℕ) (e : Error) where
+module _ (host : Sdmmc) (s l : List ℕ) (e : Cause) where
   -- A status call.
-  pub status-begun : comes host (status s l) .answer ≡ Answered.Refused e → Seen (begun host (status s l)) (comes host (status s l))
+  pub status-begun : comes host (status s l) .answer ≡ answerFor e → Seen (begun host (status s l)) (comes host (status s l))
   unfolding comes begun approachOf passed
   status-begun r = by (host .known) refl
     where
@@ -94,7 +94,7 @@ module _ (host : Sdmmc) (s l : List ℕ) (e : Error) where
       by false k = of-untouched (status-16 host s l k)
 
   -- A read.
-  pub read-begun : (index bytes : ℕ) → comes host (read index bytes s l) .answer ≡ Answered.Refused e
+  pub read-begun : (index bytes : ℕ) → comes host (read index bytes s l) .answer ≡ answerFor e
       → Seen (begun host (read index bytes s l)) (comes host (read index bytes s l))
   unfolding comes begun approachOf passed
   read-begun index bytes r =
@@ -108,7 +108,7 @@ module _ (host : Sdmmc) (s l : List ℕ) (e : Error) where
           → Seen (passed (cond (b && d) (readApproach host a) none) (host .line) s l) (readCame host index bytes s l)
       by true true (Address.Address a) k t place =
           let all = whole (eqb-true (bytes % 512) 0 t) in
-          let r′ : readCame host index (512 * (bytes / 512)) s l .answer ≡ Answered.Refused e = rw all r in
+          let r′ : readCame host index (512 * (bytes / 512)) s l .answer ≡ answerFor e = rw all r in
           of-refused (starts-last approachRule s (tt {0}) (host .line) l (ready-obeys approachRule (λ x o. tt) (λ row o. o) (sourceOf (host .settings)) (host .settings .config) (host .card .rca)) tt)
           (read-refused-in host index (bytes / 512) a s l k place e r′)
           (λ g.

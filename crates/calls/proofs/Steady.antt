@@ -43,7 +43,7 @@ ends-steady : (host refused accepted : Sdmmc) (words : List ℕ) (q : Pace) (w :
 unfolding ends
 ends-steady host refused accepted words Going w r a = a
 ends-steady host refused accepted words (Stopped (Refused e)) w r a = r
-ends-steady host refused accepted words (Stopped ScriptEnded) w r a = unmoved
+ends-steady host refused accepted words (Stopped ScriptEnded) w r a = r
 ends-steady host refused accepted words (Stopped TraceFull) w r a = unmoved
 
 served-steady : (host : Sdmmc) (plan : Plan Nothing) (transfer : Plan (List ℕ)) (next : State → List ℕ → Sdmmc) (s l : List ℕ)

@@ -1,11 +1,10 @@
 -- Theorems about whole calls, of a host that was made and has served any list of calls (of one call: refusals/proofs/Whole.antt).
 use Prim.Native.Nat.{ℕ, _≤_}
 use mathlib.Core.Bool.{Bool, true, false, cond, _||_}
-use mathlib.Core.List.{List}
+use mathlib.Core.List.{List, []}
 use mathlib.Core.Path.{_≡_, refl, ap, _∙_}
 use native.Mathlib.Omega.{arith}
 use lib.Dec.{eqb, ltb}
-use lib.ListN.{length}
 use borrow.Author.Tests.{ltb-false}
 use Rattle.types.specs.declared.config.ConfigAnswer.the-variants as Judged
 use Rattle.types.specs.declared.error.Answer.the-variants as Answered
@@ -13,12 +12,15 @@ use Rattle.types.specs.declared.error.Error.the-variants as E
 use Rattle.types.specs.Answer.{errorTold}
 use Rattle.types.specs.Settings.{madeOf}
 use Rattle.init.specs.declared.settings.Settings.{Settings}
-use Rattle.init.specs.Initialise.{sourceOf}
-use Rattle.refusals.proofs.Whole.{Whence17, initialise-17, initialise-21, read-21, read-not-17, status-21, status-not-17}
+use Rattle.tape.proofs.Words.{reach}
+use Rattle.init.specs.Initialise.{sourceOf, noCard}
+use Rattle.refusals.specs.Whole.{initWhole, readWhole, statusWhole}
+use Rattle.refusals.proofs.Ended.{Ended, initialise-ended, read-ended, status-ended}
+use Rattle.refusals.proofs.Whole.{Whence17, wouldWrite, initialise-17, read-not-17, status-not-17}
 use Rattle.host.specs.declared.host.Sdmmc.{Sdmmc}
 use Rattle.host.specs.Calls.{judgedHost, made}
 use Rattle.calls.specs.Serve.{Call, initialise, read, status, comes, serve}
-use Rattle.calls.proofs.AnyList.{Clockable, made-clockable, made-host, scriptOf, settings-stay}
+use Rattle.calls.proofs.AnyList.{Clockable, made-clockable, made-host, settings-stay}
 
 -- a host is made of a source of 2 Hz or more
 made-source : (set : Settings) → made set .answer ≡ Answered.Accepted → 2 ≤ sourceOf set
@@ -41,6 +43,18 @@ From17 host (initialise frequency s l) = Whence17 host frequency
 From17 host (read index bytes s l) = ⊥
 From17 host (status s l) = ⊥
 
+-- how far the call comes in its script, and what it then answers (refusals/proofs/Ended.antt)
+abbrev pub EndedAs : Sdmmc → Call → Type 0
+EndedAs host (initialise frequency s l) =
+    let p = initWhole host frequency in
+    Ended s l (reach s p 0 (host .line)) (wouldWrite s noCard p (host .line)) (comes host (initialise frequency s l))
+EndedAs host (read index bytes s l) =
+    let p = readWhole host index bytes in
+    Ended s l (reach s p 0 (host .line)) (wouldWrite s [] p (host .line)) (comes host (read index bytes s l))
+EndedAs host (status s l) =
+    let p = statusWhole host in
+    Ended s l (reach s p 0 (host .line)) (wouldWrite s [] p (host .line)) (comes host (status s l))
+
 module _ (set : Settings) (ok : made set .answer ≡ Answered.Accepted) (past : List Call) where
   abbrev pub host : Sdmmc
   host = serve (made set .host) past .host
@@ -54,12 +68,12 @@ module _ (set : Settings) (ok : made set .answer ≡ Answered.Accepted) (past : 
   clockable : Clockable (host .settings)
   clockable = rw (settings-stay (made set .host) past) (made-clockable set ok)
 
-  -- at 21 every word of the script was used
-  pub all-words-used : (c : Call) → comes host c .answer ≡ Answered.ScriptEnded → comes host c .words ≡ length (scriptOf c)
+  -- the script's end: 21, or 22 if a closing row finds no room, and all words used; 21 nowhere else
+  pub at-its-end : (c : Call) → EndedAs host c
   unfolding comes Clockable
-  all-words-used (initialise frequency s l) = initialise-21 host from2 (clockable .0) (clockable .1) frequency s l
-  all-words-used (read index bytes s l) = read-21 host s l index bytes
-  all-words-used (status s l) = status-21 host s l
+  at-its-end (initialise frequency s l) = initialise-ended host s l from2 (clockable .0) (clockable .1) frequency
+  at-its-end (read index bytes s l) = read-ended host s l index bytes
+  at-its-end (status s l) = status-ended host s l
 
   -- no call is ever refused by the delay's own BadClock
   pub never-by-the-delay : (c : Call) → comes host c .answer ≡ Answered.Refused E.BadClock → From17 host c

@@ -22,10 +22,11 @@ accepted Answered.ScriptEnded = false
 accepted Answered.TraceFull = false
 accepted Answered.BadBook = false
 
+-- a script's end counts like other refusals
 unfoldable pub refused : Answer → Bool
 refused Answered.Accepted = false
 refused (Answered.Refused e) = true
-refused Answered.ScriptEnded = false
+refused Answered.ScriptEnded = true
 refused Answered.TraceFull = false
 refused Answered.BadBook = false
 

@@ -1,5 +1,5 @@
--- Any list of calls on one host, and the record that is to be held after it. The order's third demand: 'Take any list of calls
--- on one host, leaving out those answered ScriptEnded or TraceFull. The record held is that of the last accepted
+-- Any list of calls on one host, and the record that is to be held after it. The order's third demand, as request P3 changes it:
+-- 'Take any list of calls on one host, leaving out those answered TraceFull. The record held is that of the last accepted
 -- initialisation, its status that of the last accepted status read since, or zero. There is none before the first, nor once an
 -- initialisation of allowed frequency, or a call whose data phase had begun, was refused since.'
 use Prim.Native.Nat.{ℕ, _/_, _%_}
@@ -116,15 +116,15 @@ toldOf host c =
       taken = comes host c .taken;
     }
 
--- the two answers that are left out
+-- the answer that is left out
 unfoldable pub leftOut : Answer → Bool
 leftOut Answered.Accepted = false
 leftOut (Answered.Refused e) = false
-leftOut Answered.ScriptEnded = true
+leftOut Answered.ScriptEnded = false
 leftOut Answered.TraceFull = true
 leftOut Answered.BadBook = false
 
--- what a call came to on another host, as this one's: the two answers leave this host as it was, any other the same host
+-- what a call came to on another host, as this one's: TraceFull leaves this host as it was, any other answer the same host
 abbrev pub asNew : Sdmmc → Came → Came
 asNew host y =
     record {
@@ -170,19 +170,20 @@ holds card = record { answer = Answered.Accepted; card = card }
 abbrev pub allowed : ℕ → Bool
 allowed frequency = not (eqb frequency 0 || ltb 50_000_000 frequency)
 
--- after an initialisation: that of an accepted one, with status zero; none once one of allowed frequency was refused
+-- after an initialisation: that of an accepted one, with status zero; none once one of allowed frequency was refused, or its
+-- script ended
 unfoldable pub afterInitialise : ℕ → Answer → Card → Held → Held
 afterInitialise frequency Answered.Accepted found before = holds (withStatus found (replicate 16 0))
 afterInitialise frequency (Answered.Refused e) found before = cond (allowed frequency) holdsNone before
-afterInitialise frequency Answered.ScriptEnded found before = before
+afterInitialise frequency Answered.ScriptEnded found before = cond (allowed frequency) holdsNone before
 afterInitialise frequency Answered.TraceFull found before = before
 afterInitialise frequency Answered.BadBook found before = before
 
--- after a call with a data phase: none once one was refused whose data phase had begun
+-- after a call with a data phase: none once one was refused, or its script ended, whose data phase had begun
 unfoldable pub afterData : Answer → Bool → Held → Held → Held
 afterData Answered.Accepted begun accepted before = accepted
 afterData (Answered.Refused e) begun accepted before = cond begun holdsNone before
-afterData Answered.ScriptEnded begun accepted before = before
+afterData Answered.ScriptEnded begun accepted before = cond begun holdsNone before
 afterData Answered.TraceFull begun accepted before = before
 afterData Answered.BadBook begun accepted before = before
 

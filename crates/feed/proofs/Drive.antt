@@ -1,12 +1,10 @@
--- What is ahead, run on a script turn by turn; and how many turns that takes, of which each turn leaves one fewer.
+-- What is ahead, run on a script turn by turn; each turn leaves one fewer of those that it takes.
 use Prim.Native.Nat.{ℕ, suc, _+_, _<_, _≤_}
 use mathlib.Core.Path.{_≡_, refl, ap, sym}
-use mathlib.Core.Bool.{cond}
 use mathlib.Core.List.{List}
 use lib.ListN.{length, getD}
-use lib.Dec.{ltb}
 use borrow.Author.Tests.{lt-ltb, le-ltb}
-use Rattle.tape.specs.declared.progress.Halt.the-variants.{ScriptEnded, TraceFull}
+use Rattle.tape.specs.declared.progress.Halt.the-variants.{TraceFull}
 use Rattle.tape.specs.declared.progress.Line.{Line}
 use Rattle.tape.specs.declared.progress.Pace.the-variants.{Stopped}
 use Rattle.tape.specs.declared.rows.Row.{Row}
@@ -14,8 +12,8 @@ use Rattle.tape.specs.declared.script.Reading.{Reading}
 use Rattle.tape.specs.Plan.{Plan, give, refuse, read, write, look, hold}
 use Rattle.tape.specs.Rows.{rowAt, roomOf}
 use Rattle.tape.specs.Run.{after, noted, run}
-use Rattle.step.specs.Next.{Next, asks, tells, over, refused, next, heard, told}
-use Rattle.feed.specs.Runs.{runNext, liesAt, placeRun, placeNext}
+use Rattle.step.specs.Next.{asks, tells, next, heard, told, missed}
+use Rattle.feed.specs.Runs.{runNext, liesAt, placeRun, placeNext, span, nextSpan}
 
 module _ (s : List ℕ) {A : Type 0} (d : A) where
   pub run-next : (p : Plan A) (u n : ℕ) (h : Line) (l : List ℕ) → runNext s d (next p h) u n l ≡ run s d p u n h l
@@ -27,7 +25,7 @@ module _ (s : List ℕ) {A : Type 0} (d : A) where
   run-next (look k) u n h l = run-next (k h) u n h l
   run-next (hold h′ p) u n h l = run-next p u n h′ l
 
-  -- a word; a row; the end of the script, or of the list
+  -- a word; a row; no word left; no room
   pub run-heard : (h : Line) (r : Reading) (k : ℕ → Plan A) (z : Plan A) (u n : ℕ) (l : List ℕ) → u < length s
       → runNext s d (asks h r k z) u n l ≡ runNext s d (heard (asks h r k z) (getD s u 0)) (u + 1) n l
   unfolding runNext heard run
@@ -38,10 +36,10 @@ module _ (s : List ℕ) {A : Type 0} (d : A) where
   unfolding runNext told run
   run-told h r p u n l room = rw (lt-ltb _ _ room) (sym (run-next p u (n + 1) (noted r h) (rowAt l n r)))
 
-  pub run-ended : (h : Line) (r : Reading) (k : ℕ → Plan A) (z : Plan A) (u n : ℕ) (l : List ℕ) → length s ≤ u
-      → runNext s d (asks h r k z) u n l ≡ after d (Stopped ScriptEnded) u n h l
-  unfolding runNext run
-  run-ended h r k z u n l none = rw (le-ltb _ _ none)
+  pub run-missed : (h : Line) (r : Reading) (k : ℕ → Plan A) (z : Plan A) (u n : ℕ) (l : List ℕ) → length s ≤ u
+      → runNext s d (asks h r k z) u n l ≡ runNext s d (missed (asks h r k z)) u n l
+  unfolding runNext missed run
+  run-missed h r k z u n l none = rw (le-ltb _ _ none) (sym (run-next z u n h l))
 
   pub run-full : (h : Line) (r : Row) (p : Plan A) (u n : ℕ) (l : List ℕ) → roomOf l ≤ n
       → runNext s d (tells h r p) u n l ≡ after d (Stopped TraceFull) u n h l
@@ -69,31 +67,16 @@ module _ (s : List ℕ) {A : Type 0} where
   unfolding placeNext told placeRun
   place-told h r p q u n l room = rw (lt-ltb _ _ room) (sym (place-next p q u (n + 1) (noted r h) (rowAt l n r)))
 
-  pub place-ended : (h : Line) (r : Reading) (k : ℕ → Plan A) (z : Plan A) (q u n : ℕ) (l : List ℕ) → length s ≤ u
-      → placeNext s (asks h r k z) q u n l ≡ q
-  unfolding placeNext placeRun
-  place-ended h r k z q u n l none = rw (le-ltb _ _ none)
+  pub place-missed : (h : Line) (r : Reading) (k : ℕ → Plan A) (z : Plan A) (q u n : ℕ) (l : List ℕ) → length s ≤ u
+      → placeNext s (asks h r k z) q u n l ≡ placeNext s (missed (asks h r k z)) q u n l
+  unfolding placeNext missed placeRun
+  place-missed h r k z q u n l none = rw (le-ltb _ _ none) (sym (place-next z q u n h l))
 
   pub place-full : (h : Line) (r : Row) (p : Plan A) (q u n : ℕ) (l : List ℕ) → roomOf l ≤ n → placeNext s (tells h r p) q u n l ≡ q
   unfolding placeNext placeRun
   place-full h r p q u n l none = rw (le-ltb _ _ none)
 
-  -- How many turns a plan takes on a script, given endless room.
-  unfoldable pub span : Plan A → ℕ → Line → ℕ
-  span (give a) u h = 0
-  span (refuse c) u h = 0
-  span (read r k z) u h = suc (cond (ltb u (length s)) (span (k (getD s u 0)) (u + 1) h) 0)
-  span (write r p) u h = suc (span p u (noted r h))
-  span (look k) u h = span (k h) u h
-  span (hold h′ p) u h = span p u h′
-
-  unfoldable pub nextSpan : Next A → ℕ → ℕ
-  nextSpan (asks h r k z) u = span (read r k z) u h
-  nextSpan (tells h r p) u = span (write r p) u h
-  nextSpan (over h a) u = 0
-  nextSpan (refused h c) u = 0
-
-  pub span-next : (p : Plan A) (u : ℕ) (h : Line) → nextSpan (next p h) u ≡ span p u h
+  pub span-next : (p : Plan A) (u : ℕ) (h : Line) → nextSpan s (next p h) u ≡ span s p u h
   unfolding nextSpan next span
   span-next (give a) u h = refl
   span-next (refuse c) u h = refl
@@ -103,10 +86,15 @@ module _ (s : List ℕ) {A : Type 0} where
   span-next (hold h′ p) u h = span-next p u h′
 
   pub heard-span : (h : Line) (r : Reading) (k : ℕ → Plan A) (z : Plan A) (u : ℕ) → u < length s
-      → nextSpan (asks h r k z) u ≡ suc (nextSpan (heard (asks h r k z) (getD s u 0)) (u + 1))
+      → nextSpan s (asks h r k z) u ≡ suc (nextSpan s (heard (asks h r k z) (getD s u 0)) (u + 1))
   unfolding nextSpan heard span
   heard-span h r k z u within = rw (lt-ltb _ _ within) (ap suc (sym (span-next (k (getD s u 0)) (u + 1) h)))
 
-  pub told-span : (h : Line) (r : Row) (p : Plan A) (u : ℕ) → nextSpan (tells h r p) u ≡ suc (nextSpan (told (tells h r p)) u)
+  pub missed-span : (h : Line) (r : Reading) (k : ℕ → Plan A) (z : Plan A) (u : ℕ) → length s ≤ u
+      → nextSpan s (asks h r k z) u ≡ suc (nextSpan s (missed (asks h r k z)) u)
+  unfolding nextSpan missed span
+  missed-span h r k z u none = rw (le-ltb _ _ none) (ap suc (sym (span-next z u h)))
+
+  pub told-span : (h : Line) (r : Row) (p : Plan A) (u : ℕ) → nextSpan s (tells h r p) u ≡ suc (nextSpan s (told (tells h r p)) u)
   unfolding nextSpan told span
   told-span h r p u = ap suc (sym (span-next p u (noted r h)))

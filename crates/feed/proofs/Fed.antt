@@ -1,13 +1,15 @@
--- A call that is fed from a script, on its way: what it comes to from there on is what it comes to from its start. Every turn
--- takes a word or writes a row, so that feeding ends.
-use Prim.Native.Nat.{ℕ, _+_, _-_, _<_}
+-- A call that is fed from a script, on its way: what it comes to from there on is what it comes to from its start. Every turn is
+-- one fewer of those that it takes, so that feeding ends.
+use Prim.Native.Nat.{ℕ, suc, _+_, _<_, _≤_}
 use mathlib.Core.Path.{_≡_, refl, ap, sym, _∙_}
 use mathlib.Core.Bool.{Bool, true, false, cond, not}
 use mathlib.Core.List.{List, []}
 use native.Mathlib.Omega.{arith}
 use lib.Dec.{ltb}
 use lib.ListN.{length, getD, length-set}
-use borrow.Author.Tests.{lt-ltb, ltb-true, ltb-false}
+use borrow.Author.Tests.{lt-ltb, le-ltb, ltb-true, ltb-false}
+use Rattle.types.specs.declared.error.Answer.{Answer}
+use Rattle.types.specs.declared.error.Answer.the-variants as Answered
 use Rattle.tape.specs.declared.progress.Line.{Line}
 use Rattle.tape.specs.declared.rows.Row.{Row}
 use Rattle.tape.specs.declared.script.Reading.{Reading}
@@ -24,13 +26,15 @@ use Rattle.step.proofs.Words.{is-handed}
 use Rattle.stepping.specs.Closing.{Closing}
 use Rattle.underway.specs.declared.call.Call.{Call}
 use Rattle.underway.specs.declared.call.Closed.{Closed}
-use Rattle.underway.specs.Under.{Under, under, answered, written, closedOf}
-use Rattle.feed.specs.Runs.{runNext, cameBy, cameOf, noClosing, liesAt, placeRun, placeNext}
-use Rattle.feed.specs.Turns.{Way, starts, wayOf, Turned, turned, turnBy, turnOf, fedFrom, placeFrom, handedAt, turnedOf, goesOn, calledAt}
+use Rattle.underway.specs.declared.call.Outcome.the-variants as O
+use Rattle.underway.specs.Under.{Under, under, answered, unanswered, written, closedOf}
+use Rattle.feed.specs.Runs.{runNext, cameBy, cameOf, noClosing, liesAt, placeRun, placeNext, nextSpan}
+use Rattle.feed.specs.Turns.{Way, starts, wayOf, Turned, turned, turnBy, turnOf, fedFrom, placeFrom, handedAt, turnedOf, goesOn, calledWith, calledAt}
 use Rattle.feed.specs.declared.turn.Event.the-variants as E
 use Rattle.feed.specs.declared.turn.Feeding.{Feeding}
 use Rattle.feed.specs.declared.turn.Turn.{Turn}
-use Rattle.feed.proofs.Drive.{run-next, run-heard, run-told, run-ended, run-full, place-next, place-heard, place-told, place-ended, place-full}
+use Rattle.feed.proofs.Drive.{run-next, run-heard, run-told, run-missed, run-full, place-next, place-heard, place-told, place-missed, place-full, heard-span, missed-span, told-span}
+use Rattle.feed.proofs.Even.{at-even}
 
 not-both : {b : Bool} → b ≡ true → b ≡ false → ⊥
 not-both t f = let z : _≡_ {A = ℕ} 0 1 = cc in omega arith
@@ -43,14 +47,25 @@ pub turned-true : (b : Bool) → not b ≡ false → b ≡ true
 turned-true true e = refl
 turned-true false e = absurd (not-both refl e)
 
--- what a call that is over has come to
-pub closed-called : (w : Way) (c : Closed) → c ≡ closedOf (w .call)
-    → record { answer = c .answer; words = w .used; rows = w .rows; host = c .host } ≡ calledAt w E.Over
-unfolding calledAt
-closed-called w c e = λ i. record { answer = e i .answer; words = w .used; rows = w .rows; host = e i .host }
+-- what a call has come to, over or not
+module _ (w : Way) (c : Closed) (is : c ≡ closedOf (w .call)) where
+  all : calledWith w (c .host) (c .outcome) ≡ calledAt w
+  all = ap (λ (x : Closed). calledWith w (x .host) (x .outcome)) is
+
+  pub over-called : (answer : Answer) → c .outcome ≡ O.Over answer → record { answer = answer; words = w .used; rows = w .rows; host = c .host } ≡ calledAt w
+  unfolding calledWith
+  over-called answer e = rw e at all
+
+  pub full-called : c .outcome ≡ O.Not → record { answer = Answered.TraceFull; words = w .used; rows = w .rows; host = w .call .before } ≡ calledAt w
+  unfolding calledWith
+  full-called e = rw e at all
+
+-- as many turns are left whatever data words were handed out
+even : (s : List ℕ) (m : Call) (g g′ : List ℕ) (u : ℕ) → nextSpan s (under g m .ahead) u ≡ nextSpan s (under g′ m .ahead) u
+even s m g g′ u = at-even s (m .job) g g′ (m .known) (m .held) (m .at) u (m .line)
 
 module _ (s : List ℕ) where
-  -- a reading that takes its word, and a row that is written
+  -- a reading that takes its word; and below, a row that is written
   pub read-turn : (f : Feeding) (g l : List ℕ) (r : Reading) (call : Call) (place : ℕ) → f .used < length s
       → W.Read r ≡ wantOf (under g (f .call) .ahead)
       → ((g g′ : List ℕ) → HandedBy (wantOf (under g (f .call) .ahead)) (getD s (f .used) 0) g g′ → under g′ call ≡ answered (under g (f .call)) (getD s (f .used) 0))
@@ -63,6 +78,15 @@ module _ (s : List ℕ) where
       let hand : HandedBy (wantOf (under g (f .call) .ahead)) w g (handed r w g) = rw (← asked) (is-handed r w g) in
       rw (lt-ltb _ _ within)
       (λ i. turned (E.Read r w) (record { call = goes g (handed r w g) hand i; used = f .used + 1; rows = f .rows; place = is i }) l)
+
+  -- one that finds none
+  pub missed-turn : (f : Feeding) (g l : List ℕ) (r : Reading) (call : Call) → length s ≤ f .used
+      → ((g : List ℕ) → under g call ≡ unanswered (under g (f .call)))
+      → turnedOf g (record { event = E.Missed r; feeding = record { call = call; used = f .used; rows = f .rows; place = f .place } }) l
+      ≡ turnBy s (wayOf g f) l (W.Read r)
+  unfolding turnBy handedAt
+  missed-turn f g l r call none goes =
+      rw (le-ltb _ _ none) (λ i. turned (E.Missed r) (record { call = goes g i; used = f .used; rows = f .rows; place = f .place }) l)
 
   pub row-turn : (f : Feeding) (g l : List ℕ) (r : Row) (call : Call) → f .rows < roomOf l
       → ((g : List ℕ) → under g call ≡ written (under g (f .call)))
@@ -86,11 +110,11 @@ module _ (s : List ℕ) where
       fed : fedFrom s (t .next) (t .list) ≡ fedFrom s (at x) l
       place : placeFrom s (t .next) (t .list) ≡ placeFrom s (at x) l
       long : length (t .list) ≡ length l
-      less : (length s - t .next .used) + (roomOf l - t .next .rows) < (length s - u) + (roomOf l - n)
+      fewer : nextSpan s x u ≡ suc (nextSpan s (t .next .call .ahead) (t .next .used))
 
     -- and one after which none does
     record Ends (t : Turned) (x : Next Closing) : Type 0 where
-      called : calledAt (t .next) (t .event) ≡ calledOf (fedFrom s (at x) l)
+      called : calledAt (t .next) ≡ calledOf (fedFrom s (at x) l)
       list : t .list ≡ fedFrom s (at x) l .list
       place : t .next .place ≡ placeFrom s (at x) l
 
@@ -101,31 +125,30 @@ module _ (s : List ℕ) where
           (record { call = answered (at (asks h r k z) .call) (getD s u 0); used = u + 1; rows = n; place = liesAt r u q }) l
 
       abbrev missed : Turned
-      missed = turned (E.Missed r) (at (asks h r k z)) l
+      missed = turned (E.Missed r) (record { call = unanswered (at (asks h r k z) .call); used = u; rows = n; place = q }) l
 
-      asks-goes : (t : Bool) → ltb u (length s) ≡ t → goesOn (cond t took missed .event) ≡ true → Goes (cond t took missed) (asks h r k z)
-      unfolding goesOn
-      asks-goes true within e =
+      asks-goes : (t : Bool) → ltb u (length s) ≡ t → Goes (cond t took missed) (asks h r k z)
+      asks-goes true within =
           let some = ltb-true u (length s) within in
           record {
             fed = ap (cameOf b) (sym (run-heard s (noClosing b) h r k z u n l some));
             place = sym (place-heard s h r k z q u n l some);
             long = refl;
-            less = omega arith;
+            fewer = heard-span s h r k z u some;
           }
-      asks-goes false within e = absurd (not-both e refl)
-
-      asks-ends : (t : Bool) → ltb u (length s) ≡ t → goesOn (cond t took missed .event) ≡ false → Ends (cond t took missed) (asks h r k z)
-      unfolding goesOn calledAt cameBy
-      asks-ends true within e = absurd (not-both refl e)
-      asks-ends false within e =
+      asks-goes false within =
           let none = ltb-false u (length s) within in
-          let stops = run-ended s (noClosing b) h r k z u n l none in
           record {
-            called = ap (λ (x : After Closing). calledOf (cameOf b x)) (sym stops);
-            list = ap (λ (x : After Closing). cameOf b x .list) (sym stops);
-            place = sym (place-ended s h r k z q u n l none);
+            fed = ap (cameOf b) (sym (run-missed s (noClosing b) h r k z u n l none));
+            place = sym (place-missed s h r k z q u n l none);
+            long = refl;
+            fewer = missed-span s h r k z u none;
           }
+
+      asks-on : (t : Bool) → goesOn (cond t took missed .event) ≡ true
+      unfolding goesOn
+      asks-on true = refl
+      asks-on false = refl
 
     module _ (h : Line) (r : Row) (p : Plan Closing) where
       abbrev wrote : Turned
@@ -143,12 +166,12 @@ module _ (s : List ℕ) where
             fed = ap (cameOf b) (sym (run-told s (noClosing b) h r p u n l room));
             place = sym (place-told s h r p q u n l room);
             long = simp length-set refl;
-            less = omega arith;
+            fewer = told-span s h r p u;
           }
       tells-goes false within e = absurd (not-both e refl)
 
       tells-ends : (t : Bool) → ltb n (roomOf l) ≡ t → goesOn (cond t wrote full .event) ≡ false → Ends (cond t wrote full) (tells h r p)
-      unfolding goesOn calledAt cameBy
+      unfolding goesOn calledWith closedOf cameBy
       tells-ends true within e = absurd (not-both refl e)
       tells-ends false within e =
           let none = ltb-false n (roomOf l) within in
@@ -161,14 +184,14 @@ module _ (s : List ℕ) where
 
     goes : (x : Next Closing) → goesOn (turnOf s (at x) l .event) ≡ true → Goes (turnOf s (at x) l) x
     unfolding turnBy wantOf goesOn
-    goes (asks h r k z) e = asks-goes h r k z (ltb u (length s)) refl e
+    goes (asks h r k z) e = asks-goes h r k z (ltb u (length s)) refl
     goes (tells h r p) e = tells-goes h r p (ltb n (roomOf l)) refl e
     goes (over h a) e = absurd (not-both e refl)
     goes (refused h c) e = absurd (not-both e refl)
 
     ends : (x : Next Closing) → goesOn (turnOf s (at x) l .event) ≡ false → Ends (turnOf s (at x) l) x
-    unfolding turnBy wantOf runNext placeNext cameBy calledAt closedOf
-    ends (asks h r k z) e = asks-ends h r k z (ltb u (length s)) refl e
+    unfolding turnBy wantOf runNext placeNext cameBy calledWith closedOf
+    ends (asks h r k z) e = absurd (not-both (asks-on h r k z (ltb u (length s))) e)
     ends (tells h r p) e = tells-ends h r p (ltb n (roomOf l)) refl e
     ends (over h a) e = record { called = refl; list = refl; place = refl }
     ends (refused h (failed x)) e = record { called = refl; list = refl; place = refl }
@@ -179,8 +202,21 @@ module _ (s : List ℕ) where
       → fedFrom s (turnOf s w l .next) (turnOf s w l .list) ≡ fedFrom s w l
   turn-keeps w l e = goes (w .call .before) (w .used) (w .rows) (w .place) l (w .call .ahead) e .fed
 
+  -- and leaves one turn fewer
+  pub turn-fewer : (w : Way) (l : List ℕ) → goesOn (turnOf s w l .event) ≡ true
+      → nextSpan s (w .call .ahead) (w .used) ≡ suc (nextSpan s (turnOf s w l .next .call .ahead) (turnOf s w l .next .used))
+  turn-fewer w l e = goes (w .call .before) (w .used) (w .rows) (w .place) l (w .call .ahead) e .fewer
+
+  pub turn-left : (f : Feeding) (t : Turn) (g l l′ : List ℕ) → turnedOf g t l′ ≡ turnOf s (wayOf g f) l → goesOn (t .event) ≡ true
+      → nextSpan s (under [] (f .call) .ahead) (f .used) ≡ suc (nextSpan s (under [] (t .feeding .call) .ahead) (t .feeding .used))
+  turn-left f t g l l′ is e =
+      even s (f .call) [] g (f .used)
+      ∙ turn-fewer (wayOf g f) l (sym (ap (λ (t : Turned). goesOn (t .event)) is) ∙ e)
+      ∙ ap (λ (t : Turned). suc (nextSpan s (t .next .call .ahead) (t .next .used))) (sym is)
+      ∙ ap suc (even s (t .feeding .call) (handedAt (t .event) g) [] (t .feeding .used))
+
   pub turn-closes : (w : Way) (l : List ℕ) → goesOn (turnOf s w l .event) ≡ false
-      → calledAt (turnOf s w l .next) (turnOf s w l .event) ≡ calledOf (fedFrom s w l)
+      → calledAt (turnOf s w l .next) ≡ calledOf (fedFrom s w l)
   turn-closes w l e = ends (w .call .before) (w .used) (w .rows) (w .place) l (w .call .ahead) e .called
 
   -- on its way from w₀, with the list l₀; `out` are the data words handed out so far
@@ -217,19 +253,16 @@ module _ (s : List ℕ) where
         }
 
     pub goes-less : goesOn (t .event) ≡ true
-        → (length s - t .feeding .used) + (roomOf l₀ - t .feeding .rows) < (length s - f .used) + (roomOf l₀ - f .rows)
-    goes-less e =
-        let used : t .feeding .used ≡ there .next .used = ap (λ (t : Turned). t .next .used) (is (on .out)) in
-        let rows : t .feeding .rows ≡ there .next .rows = ap (λ (t : Turned). t .next .rows) (is (on .out)) in
-        rw (used, rows, ← on .long) (going e .less)
+        → nextSpan s (under [] (t .feeding .call) .ahead) (t .feeding .used) < nextSpan s (under [] (f .call) .ahead) (f .used)
+    goes-less e = omega (arith, turn-left f t (on .out) l l′ (is (on .out)) e)
 
-    pub ends-there : goesOn (t .event) ≡ false → (r : Called) → ((g : List ℕ) → r ≡ calledAt (wayOf g (t .feeding)) (t .event))
+    pub ends-there : goesOn (t .event) ≡ false → (r : Called) → ((g : List ℕ) → r ≡ calledAt (wayOf g (t .feeding)))
         → (r ≡ calledOf (fedFrom s w₀ l₀)) × (l′ ≡ fedFrom s w₀ l₀ .list) × (t .feeding .place ≡ placeFrom s w₀ l₀)
     ends-there e r is-called =
         let last =
         ends (under (on .out) (f .call) .before) (f .used) (f .rows) (f .place) l (under (on .out) (f .call) .ahead)
         (sym (ap goesOn event-is) ∙ e) in (
-          is-called (handedAt (t .event) (on .out)) ∙ ap (λ (t : Turned). calledAt (t .next) (t .event)) (is (on .out)) ∙ last .called ∙ ap calledOf (on .fed),
+          is-called (handedAt (t .event) (on .out)) ∙ ap (λ (t : Turned). calledAt (t .next)) (is (on .out)) ∙ last .called ∙ ap calledOf (on .fed),
           ap (λ (t : Turned). t .list) (is (on .out)) ∙ last .list ∙ ap (λ (x : Came). x .list) (on .fed),
           ap (λ (t : Turned). t .next .place) (is (on .out)) ∙ last .place ∙ on .place,
         )

@@ -1,5 +1,6 @@
 pub mod Whole
 pub mod Drive
+pub mod Even
 pub mod Order
 pub mod Fed
 pub mod Stepped

@@ -49,7 +49,7 @@ use Rattle.feed.proofs.Whole.{read-call}
 unfoldable dataless : {A : Type 0} → Plan A → Type 0
 dataless (give a) = Unit {0}
 dataless (refuse c) = Unit {0}
-dataless (read r k z) = ((u q : ℕ) → liesAt r u q ≡ q) × ((w : ℕ) → dataless (k w))
+dataless (read r k z) = ((u q : ℕ) → liesAt r u q ≡ q) × ((w : ℕ) → dataless (k w)) × dataless z
 dataless (write r p) = dataless p
 dataless (look k) = (h : Line) → dataless (k h)
 dataless (hold h p) = dataless p
@@ -66,26 +66,25 @@ unfolding dataless placeRun
 stays s (give a) q u n h l b = refl
 stays s (refuse c) q u n h l b = refl
 stays s (read r k z) q u n h l b =
-    by-place (ltb u (length s)) (stays s (k (getD s u 0)) (liesAt r u q) (u + 1) n h l (b .1 (getD s u 0)) ∙ b .0 u q) refl
+    by-place (ltb u (length s)) (stays s (k (getD s u 0)) (liesAt r u q) (u + 1) n h l (b .1 (getD s u 0)) ∙ b .0 u q) (stays s z q u n h l (b .2))
 stays s (write r p) q u n h l b = by-place (ltb n (roomOf l)) (stays s p q u (n + 1) (noted r h) (rowAt l n r) b) refl
 stays s (look k) q u n h l b = stays s (k h) q u n h l (b h)
 stays s (hold h′ p) q u n h l b = stays s p q u n h′ l b
 
 -- of every way that plans are joined
 
-module _ {A B : Type 0} (f : A → Plan B) (g : Cause → Plan B) (v : (a : A) → Dataless B (f a)) (x : (e : Error) → Dataless B (g (failed e))) where
+module _ {A B : Type 0} (f : A → Plan B) (g : Cause → Plan B) (v : (a : A) → Dataless B (f a)) (x : (e : Cause) → Dataless B (g e)) where
   joined : (p : Plan A) → dataless p → dataless (handle f g p)
   unfolding dataless handle
   joined (give a) b = v a .each
-  joined (refuse (failed e)) b = x e .each
-  joined (refuse ended) b = tt
-  joined (read r k z) b = (b .0, λ w. joined (k w) (b .1 w))
+  joined (refuse e) b = x e .each
+  joined (read r k z) b = (b .0, λ w. joined (k w) (b .1 w), joined z (b .2))
   joined (write r p) b = joined p b
   joined (look k) b = λ h. joined (k h) (b h)
   joined (hold h p) b = joined p b
 
 on-handle : {A B : Type 0} {p : Plan A} {f : A → Plan B} (g : Cause → Plan B)
-    → Dataless A p → ((a : A) → Dataless B (f a)) → ((e : Error) → Dataless B (g (failed e))) → Dataless B (handle f g p)
+    → Dataless A p → ((a : A) → Dataless B (f a)) → ((e : Cause) → Dataless B (g e)) → Dataless B (handle f g p)
 on-handle {p = p} {f = f} g b v x = record { each = joined f g v x p (b .each) }
 
 on-give : {A : Type 0} {a : A} → Dataless A (give a)
@@ -109,7 +108,7 @@ on-test false y n = n
 
 on-word : (r : Reading) → ((u q : ℕ) → liesAt r u q ≡ q) → Dataless ℕ (word r)
 unfolding word dataless
-on-word r e = record { each = (e, λ w. tt) }
+on-word r e = record { each = (e, λ w. tt, tt) }
 
 on-status : Dataless ℕ (word Reading.Status)
 unfolding liesAt
@@ -189,7 +188,7 @@ module _ (s : List ℕ) where
   placeThen f g v Going w q = placeRun s (f v) q (w .progress .used) (w .progress .rows) (w .progress .line) (w .list)
   placeThen f g v (Stopped (Refused e)) w q =
       placeRun s (g (failed e)) q (w .progress .used) (w .progress .rows) (w .progress .line) (w .list)
-  placeThen f g v (Stopped ScriptEnded) w q = q
+  placeThen f g v (Stopped ScriptEnded) w q = placeRun s (g ended) q (w .progress .used) (w .progress .rows) (w .progress .line) (w .list)
   placeThen f g v (Stopped TraceFull) w q = q
 
   abbrev placed : {A B : Type 0} → (A → Plan B) → (Cause → Plan B) → After A → ℕ → ℕ
@@ -206,7 +205,8 @@ module _ (s : List ℕ) where
   place-handle d f g (refuse (failed e)) q u n h l = refl
   place-handle d f g (refuse ended) q u n h l = refl
   place-handle {A} d f g (read r k z) q u n h l =
-      by-both (placed f g) (ltb u (length s)) (place-handle d f g (k (getD s u 0)) (liesAt r u q) (u + 1) n h l) refl
+      by-both (placed f g) (ltb u (length s)) (place-handle d f g (k (getD s u 0)) (liesAt r u q) (u + 1) n h l)
+      (place-handle d f g z q u n h l)
   place-handle {A} d f g (write r p) q u n h l =
       by-both (placed f g) (ltb n (roomOf l)) (place-handle d f g p q u (n + 1) (noted r h) (rowAt l n r)) refl
   place-handle d f g (look k) q u n h l = place-handle d f g (k h) q u n h l
@@ -223,7 +223,7 @@ module _ (s : List ℕ) where
     laid-handle :
         ((q u n u′ n′ : ℕ) (h h′ : Line) (l l′ : List ℕ) → run s d p u n h l .state .progress .pace ≡ Going
         → Lain (taken (run s d′ (f (run s d p u n h l .value)) u′ n′ h′ l′ .value)) (placeRun s (f (run s d p u n h l .value)) (placeRun s p q u n h l) u′ n′ h′ l′))
-        → ((e : Error) (q u n : ℕ) (h : Line) (l : List ℕ) → Lain (taken (run s d′ (g (failed e)) u n h l .value)) (placeRun s (g (failed e)) q u n h l))
+        → ((e : Cause) (q u n : ℕ) (h : Line) (l : List ℕ) → Lain (taken (run s d′ (g e) u n h l .value)) (placeRun s (g e) q u n h l))
         → Laid B d′ taken (handle f g p)
     unfolding nextAt placeThen
     laid-handle good bad =
@@ -233,8 +233,8 @@ module _ (s : List ℕ) where
             → Lain (taken (nextAt s d′ f g (run s d p u n h l .value) a (run s d p u n h l .state) .value))
             (placeThen f g (run s d p u n h l .value) a (run s d p u n h l .state) (placeRun s p q u n h l))
         by q u n h l Going going = good q u n _ _ h _ l _ going
-        by q u n h l (Stopped (Refused e)) going = bad e _ _ _ _ _
-        by q u n h l (Stopped ScriptEnded) going = rw none refl
+        by q u n h l (Stopped (Refused e)) going = bad (failed e) _ _ _ _ _
+        by q u n h l (Stopped ScriptEnded) going = bad ended _ _ _ _ _
         by q u n h l (Stopped TraceFull) going = rw none refl
 
   -- the data words
@@ -329,7 +329,7 @@ module _ (s : List ℕ) where
   transfer-laid source config transfer rca =
       laid-handle [] [] (λ ws. ws) refl give (refusing resetController) (transferData source config transfer rca)
       (λ q u n u′ n′ h h′ l l′ going. taken .each q u n h l)
-      (λ e q u n h l. rw (refusing-none resetController (failed e) u n h l) refl)
+      (λ e q u n h l. rw (refusing-none resetController e u n h l) refl)
     where
       taken : Laid (List ℕ) [] (λ ws. ws) (transferData source config transfer rca)
       taken =

@@ -23,7 +23,7 @@ use Rattle.calls.specs.Serve as S
 use Rattle.calls.specs.Serve.{comes}
 use Rattle.step.specs.declared.wants.Wants.{Wants}
 use Rattle.step.specs.declared.wants.Wants.the-variants as W
-use Rattle.step.specs.Next.{Next, asks, tells, over, refused, next, wantOf, heard, told}
+use Rattle.step.specs.Next.{Next, asks, tells, over, refused, next, wantOf, heard, told, missed}
 use Rattle.step.specs.Transfer.{blocksOf, transferOf, wordsBy}
 use Rattle.stepping.specs.Ahead.{phaseBy, phaseOf, endPlan, atPlan}
 use Rattle.stepping.specs.Closing.{Closing, keeping, dropping, finding, accepting}
@@ -34,13 +34,14 @@ use Rattle.stepping.specs.declared.call.At.the-variants as A
 use Rattle.stepping.specs.declared.call.End.the-variants as Z
 use Rattle.underway.specs.declared.call.Call.{Call}
 use Rattle.underway.specs.declared.call.Closed.{Closed}
+use Rattle.underway.specs.declared.call.Outcome.the-variants as O
 use Rattle.underway.specs.declared.ends.Ends.the-variants as Ends
 use Rattle.underway.specs.Under.{Under, under, endsAt, closedOf}
 use Rattle.underway.proofs.Ending.{closed-under}
-use Rattle.feed.specs.Runs.{runNext, cameBy, cameOf, noClosing}
+use Rattle.feed.specs.Runs.{runNext, cameBy, cameOf, noClosing, nextSpan}
 use Rattle.feed.specs.Turns.{starts, fedFrom}
-use Rattle.feed.specs.Stepped.{Midway, Turn, hears, writes, Turns, still, more, Left, closed, asking, full, planBy, scriptBy, listBy, Stepped}
-use Rattle.feed.proofs.Drive.{run-heard, run-told, run-ended, run-full, nextSpan, heard-span, told-span}
+use Rattle.feed.specs.Stepped.{Midway, Turn, hears, misses, writes, Turns, still, more, Left, closed, full, planBy, scriptBy, listBy, Stepped}
+use Rattle.feed.proofs.Drive.{run-heard, run-told, run-missed, run-full, heard-span, missed-span, told-span}
 use Rattle.feed.proofs.Fed.{fed-whole}
 use Rattle.feed.proofs.Order.{read-none}
 use Rattle.feed.proofs.Whole.{init-call, read-call, status-call}
@@ -67,6 +68,13 @@ module _ (s : List ℕ) where
     heard-same (over h a) q e within = cc
     heard-same (refused h c) q e within = cc
 
+    missed-same : (x : Next Closing) (r : Reading) → W.Read r ≡ wantOf x → length s ≤ u → comesTo (at (missed x)) u n l ≡ comesTo (at x) u n l
+    unfolding wantOf
+    missed-same (asks h r k z) q e none = ap (cameOf host) (sym (run-missed s (noClosing host) h r k z u n l none))
+    missed-same (tells h r p) q e none = cc
+    missed-same (over h a) q e none = cc
+    missed-same (refused h c) q e none = cc
+
     told-same : (x : Next Closing) (r : Row) → W.Write r ≡ wantOf x → n < roomOf l
         → comesTo (at (told x)) u (n + 1) (rowAt l n r) ≡ comesTo (at x) u n l
     unfolding wantOf
@@ -81,24 +89,14 @@ module _ (s : List ℕ) where
     abbrev Comes : Called → Next Closing → Type 0
     Comes r x = (r ≡ calledOf (comesTo (at x) u n l)) × (l ≡ comesTo (at x) u n l .list)
 
-    closed-comes : (x : Next Closing) → W.Nothing ≡ wantOf x
-        → Comes (record { answer = closedOf (at x) .answer; words = u; rows = n; host = closedOf (at x) .host }) x
-    unfolding wantOf runNext closedOf cameBy
-    closed-comes (asks h r k z) e = (cc, cc)
-    closed-comes (tells h r p) e = (cc, cc)
-    closed-comes (over h a) e = (refl, refl)
-    closed-comes (refused h (failed c)) e = (refl, refl)
-    closed-comes (refused h ended) e = (refl, refl)
-
-    asking-comes : (x : Next Closing) (r : Reading) → W.Read r ≡ wantOf x → length s ≤ u
-        → Comes (record { answer = Answered.ScriptEnded; words = u; rows = n; host = host }) x
-    unfolding wantOf cameBy
-    asking-comes (asks h r k z) q e dry =
-        let stops = sym (run-ended s (noClosing host) h r k z u n l dry) in
-        (ap (λ (x : After Closing). calledOf (cameOf host x)) stops, ap (λ (x : After Closing). cameOf host x .list) stops)
-    asking-comes (tells h r p) q e dry = (cc, cc)
-    asking-comes (over h a) q e dry = (cc, cc)
-    asking-comes (refused h c) q e dry = (cc, cc)
+    closed-comes : (x : Next Closing) (answer : Answer) → closedOf (at x) .outcome ≡ O.Over answer
+        → Comes (record { answer = answer; words = u; rows = n; host = closedOf (at x) .host }) x
+    unfolding runNext closedOf cameBy
+    closed-comes (asks h r k z) answer e = (cc, cc)
+    closed-comes (tells h r p) answer e = (cc, cc)
+    closed-comes (over h a) answer e = let same : answer ≡ a .answer = cc in (rw same, refl)
+    closed-comes (refused h (failed c)) answer e = let same : answer ≡ Answered.Refused c = cc in (rw same, refl)
+    closed-comes (refused h ended) answer e = let same : answer ≡ Answered.ScriptEnded = cc in (rw same, refl)
 
     full-comes : (x : Next Closing) (r : Row) → W.Write r ≡ wantOf x → roomOf l ≤ n
         → Comes (record { answer = Answered.TraceFull; words = u; rows = n; host = host }) x
@@ -116,6 +114,8 @@ module _ (s : List ℕ) where
   turn-same : {x y : Midway} → Turn s x y → comesFrom y ≡ comesFrom x
   turn-same (hears {m = m} {g = g} {u = u} {n = n} {l = l} r e within hand goes) =
       ap (λ (v : Under). comesTo v (u + 1) n l) goes ∙ heard-same (under g m .before) u n l (under g m .ahead) r e within
+  turn-same (misses {m = m} {g = g} {u = u} {n = n} {l = l} r e none goes) =
+      ap (λ (v : Under). comesTo v u n l) goes ∙ missed-same (under g m .before) u n l (under g m .ahead) r e none
   turn-same (writes {m = m} {g = g} {u = u} {n = n} {l = l} r e room goes) =
       ap (λ (v : Under). comesTo v u (n + 1) (rowAt l n r)) goes ∙ told-same (under g m .before) u n l (under g m .ahead) r e room
 
@@ -130,6 +130,13 @@ module _ (s : List ℕ) where
   heard-fewer (over h a) q u e within = cc
   heard-fewer (refused h c) q u e within = cc
 
+  missed-fewer : (x : Next Closing) (r : Reading) (u : ℕ) → W.Read r ≡ wantOf x → length s ≤ u → nextSpan s x u ≡ suc (nextSpan s (missed x) u)
+  unfolding wantOf
+  missed-fewer (asks h r k z) q u e none = missed-span s h r k z u none
+  missed-fewer (tells h r p) q u e none = cc
+  missed-fewer (over h a) q u e none = cc
+  missed-fewer (refused h c) q u e none = cc
+
   told-fewer : (x : Next Closing) (r : Row) (u : ℕ) → W.Write r ≡ wantOf x → nextSpan s x u ≡ suc (nextSpan s (told x) u)
   unfolding wantOf
   told-fewer (asks h r k z) q u e = cc
@@ -140,6 +147,8 @@ module _ (s : List ℕ) where
   pub turn-fewer : {x y : Midway} → Turn s x y → turnsLeft x ≡ suc (turnsLeft y)
   turn-fewer (hears {m = m} {g = g} {u = u} r e within hand goes) =
       heard-fewer (under g m .ahead) r u e within ∙ ap (λ (v : Under). suc (nextSpan s (v .ahead) (u + 1))) (sym goes)
+  turn-fewer (misses {m = m} {g = g} {u = u} r e none goes) =
+      missed-fewer (under g m .ahead) r u e none ∙ ap (λ (v : Under). suc (nextSpan s (v .ahead) u)) (sym goes)
   turn-fewer (writes {m = m} {g = g} {u = u} r e room goes) =
       told-fewer (under g m .ahead) r u e ∙ ap (λ (v : Under). suc (nextSpan s (v .ahead) u)) (sym goes)
 
@@ -148,8 +157,7 @@ module _ (s : List ℕ) where
   turns-same (more t ts) = turns-same ts ∙ turn-same t
 
   left-comes : {x : Midway} {r : Called} → Left s x r → (r ≡ calledOf (comesFrom x)) × (x .list ≡ comesFrom x .list)
-  left-comes (closed {m = m} {g = g} {u = u} {n = n} {l = l} e) = closed-comes (under g m .before) u n l (under g m .ahead) e
-  left-comes (asking {m = m} {g = g} {u = u} {n = n} {l = l} r e dry) = asking-comes (under g m .before) u n l (under g m .ahead) r e dry
+  left-comes (closed {m = m} {g = g} {u = u} {n = n} {l = l} answer e) = closed-comes (under g m .before) u n l (under g m .ahead) answer e
   left-comes (full {m = m} {g = g} {u = u} {n = n} {l = l} r e dry) = full-comes (under g m .before) u n l (under g m .ahead) r e dry
 
 -- THE THEOREM. The answer, the words used, the rows written, the next host and the list are those of the call on the script.
@@ -212,12 +220,12 @@ module _ (m : Call) (g : List ℕ) where
   by-asked (Q.Blocks a n) = λ many. own-length (128 * blocksOf n) g
 
   -- a call keeps sixteen words at most: more are those that were handed out
-  over-handed : closedOf (under g m) .answer ≡ Answered.Accepted → Handing (takenIn (under g m .ahead))
+  over-handed : closedOf (under g m) .outcome ≡ O.Over Answered.Accepted → Handing (takenIn (under g m .ahead))
   unfolding endsAt atPlan endPlan phaseOf phaseBy next accepting finding keeping dropping takenIn
   over-handed ok = by (m .at) refl
     where
       waiting : endsAt (m .at) ≡ Ends.Not → ⊥
-      waiting e = other-answer 1 refl (ap (λ (c : Closed). c .answer) (closed-under m g e)) ok
+      waiting e = let over : O.Not ≡ O.Over Answered.Accepted = ap (λ (c : Closed). c .outcome) (closed-under m g e) ∙ ok in let z : _≡_ {A = ℕ} 0 1 = cc in omega arith
 
       by : (p : At) → m .at ≡ p → Handing (takenIn (next (atPlan (m .job) (m .known) (m .held) g p) (m .line)))
       by (A.Command s c) e = absurd (waiting (rw e))
@@ -231,19 +239,18 @@ module _ (m : Call) (g : List ℕ) where
       by (A.Over (Z.Dropping x)) e = λ many. absurd (omega arith)
 
 module _ (s : List ℕ) where
-  taken-closed : (host : Sdmmc) (u n : ℕ) (l : List ℕ) (x : Next Closing) → W.Nothing ≡ wantOf x
-      → comesTo s (record { before = host; ahead = x }) u n l .taken ≡ takenIn x
-  unfolding wantOf runNext cameBy takenIn
-  taken-closed host u n l (asks h r k z) e = cc
-  taken-closed host u n l (tells h r p) e = cc
-  taken-closed host u n l (over h a) e = refl
-  taken-closed host u n l (refused h (failed c)) e = refl
-  taken-closed host u n l (refused h ended) e = refl
+  taken-closed : (host : Sdmmc) (u n : ℕ) (l : List ℕ) (x : Next Closing) (answer : Answer)
+      → closedOf (record { before = host; ahead = x }) .outcome ≡ O.Over answer → comesTo s (record { before = host; ahead = x }) u n l .taken ≡ takenIn x
+  unfolding closedOf runNext cameBy takenIn
+  taken-closed host u n l (asks h r k z) answer e = cc
+  taken-closed host u n l (tells h r p) answer e = cc
+  taken-closed host u n l (over h a) answer e = refl
+  taken-closed host u n l (refused h (failed c)) answer e = refl
+  taken-closed host u n l (refused h ended) answer e = refl
 
   left-handed : {x : Midway} {r : Called} → Left s x r → r .answer ≡ Answered.Accepted → Handing (x .call) (x .out) (comesFrom s x .taken)
-  left-handed (closed {m = m} {g = g} {u = u} {n = n} {l = l} e) ok =
-      rw (taken-closed (under g m .before) u n l (under g m .ahead) e) (over-handed m g ok)
-  left-handed (asking r e dry) ok = absurd (other-answer 1 refl refl ok)
+  left-handed (closed {m = m} {g = g} {u = u} {n = n} {l = l} answer e) ok =
+      rw (taken-closed (under g m .before) u n l (under g m .ahead) answer e) (over-handed m g (e ∙ ap O.Over ok))
   left-handed (full r e dry) ok = absurd (other-answer 2 refl refl ok)
 
 module _ {host : Sdmmc} {index bytes : ℕ} {s l : List ℕ} {r : Called} {last : Midway} (x : Stepped host (S.read index bytes s l) r last) where

@@ -1,5 +1,5 @@
 -- What is ahead of a call, run on a script, and what the call comes to there; and where in the script the data words lie.
-use Prim.Native.Nat.{ℕ, _+_, _*_, _/_}
+use Prim.Native.Nat.{ℕ, suc, _+_, _*_, _/_}
 use mathlib.Core.Bool.{cond}
 use mathlib.Core.List.{List, []}
 use lib.Dec.{eqb, ltb}
@@ -55,7 +55,7 @@ unfoldable pub placeRun : {A : Type 0} → List ℕ → Plan A → ℕ → ℕ �
 placeRun s (give a) place u n h l = place
 placeRun s (refuse c) place u n h l = place
 placeRun s (read r k z) place u n h l =
-    cond (ltb u (length s)) (placeRun s (k (getD s u 0)) (liesAt r u place) (u + 1) n h l) place
+    cond (ltb u (length s)) (placeRun s (k (getD s u 0)) (liesAt r u place) (u + 1) n h l) (placeRun s z place u n h l)
 placeRun s (write r p) place u n h l = cond (ltb n (roomOf l)) (placeRun s p place u (n + 1) (noted r h) (rowAt l n r)) place
 placeRun s (look k) place u n h l = placeRun s (k h) place u n h l
 placeRun s (hold h′ p) place u n h l = placeRun s p place u n h′ l
@@ -65,6 +65,21 @@ placeNext s (asks h r k z) place u n l = placeRun s (read r k z) place u n h l
 placeNext s (tells h r p) place u n l = placeRun s (write r p) place u n h l
 placeNext s (over h a) place u n l = place
 placeNext s (refused h c) place u n l = place
+
+-- how many turns a plan takes on a script, given endless room: its readings and its rows
+unfoldable pub span : {A : Type 0} → List ℕ → Plan A → ℕ → Line → ℕ
+span s (give a) u h = 0
+span s (refuse c) u h = 0
+span s (read r k z) u h = suc (cond (ltb u (length s)) (span s (k (getD s u 0)) (u + 1) h) (span s z u h))
+span s (write r p) u h = suc (span s p u (noted r h))
+span s (look k) u h = span s (k h) u h
+span s (hold h′ p) u h = span s p u h′
+
+unfoldable pub nextSpan : {A : Type 0} → List ℕ → Next A → ℕ → ℕ
+nextSpan s (asks h r k z) u = span s (read r k z) u h
+nextSpan s (tells h r p) u = span s (write r p) u h
+nextSpan s (over h a) u = 0
+nextSpan s (refused h c) u = 0
 
 -- how many words a read of so many bytes takes: 128 for each block, none unless it was accepted
 unfoldable pub countOf : Answer → ℕ → ℕ

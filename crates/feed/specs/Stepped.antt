@@ -1,9 +1,10 @@
--- A call taken one answer at a time from a script, by anybody: each turn is what the contracts of `wants`, `fed` and `went` say
--- of it, and it is left where it is over, where the script has ended or where the list is full.
+-- A call taken one answer at a time from a script, by anybody: each turn is what the contracts of `wants`, `fed`, `missed` and
+-- `went` say of it, and it is left where it is over or where the list is full. Asking at the script's end, it is told so.
 use Prim.Native.Nat.{ℕ, _+_, _<_, _≤_}
 use mathlib.Core.Path.{_≡_}
 use mathlib.Core.List.{List, [], _∷_}
 use lib.ListN.{length, getD}
+use Rattle.types.specs.declared.error.Answer.{Answer}
 use Rattle.types.specs.declared.error.Answer.the-variants as Answered
 use Rattle.tape.specs.declared.rows.Row.{Row}
 use Rattle.tape.specs.declared.script.Reading.{Reading}
@@ -16,7 +17,8 @@ use Rattle.step.specs.declared.wants.Wants.the-variants as W
 use Rattle.step.specs.Next.{next, wantOf, Handed}
 use Rattle.stepping.specs.Closing.{Closing}
 use Rattle.underway.specs.declared.call.Call.{Call}
-use Rattle.underway.specs.Under.{under, answered, written, closedOf, givenUp}
+use Rattle.underway.specs.declared.call.Outcome.the-variants as O
+use Rattle.underway.specs.Under.{under, answered, unanswered, written, closedOf}
 use Rattle.underway.specs.Whole.{initCall, readCall, statusCall}
 
 -- the call, the data words handed out so far, the words taken, the rows written, and the row list
@@ -36,6 +38,10 @@ module _ (s : List ℕ) where
         → W.Read r ≡ wantOf (under g m .ahead) → u < length s → Handed r (getD s u 0) g g′
         → under g′ m′ ≡ answered (under g m) (getD s u 0)
         → Turn (midway m g u n l) (midway m′ g′ (u + 1) n l)
+    misses : {m m′ : Call} {g : List ℕ} {u n : ℕ} {l : List ℕ} (r : Reading)
+        → W.Read r ≡ wantOf (under g m .ahead) → length s ≤ u
+        → under g m′ ≡ unanswered (under g m)
+        → Turn (midway m g u n l) (midway m′ g u n l)
     writes : {m m′ : Call} {g : List ℕ} {u n : ℕ} {l : List ℕ} (r : Row)
         → W.Write r ≡ wantOf (under g m .ahead) → n < roomOf l
         → under g m′ ≡ written (under g m)
@@ -47,10 +53,8 @@ module _ (s : List ℕ) where
 
   -- what it has come to there
   pub data Left : Midway → Called → Type 0 where
-    closed : {m : Call} {g : List ℕ} {u n : ℕ} {l : List ℕ} → W.Nothing ≡ wantOf (under g m .ahead)
-        → Left (midway m g u n l) (record { answer = closedOf (under g m) .answer; words = u; rows = n; host = closedOf (under g m) .host })
-    asking : {m : Call} {g : List ℕ} {u n : ℕ} {l : List ℕ} (r : Reading) → W.Read r ≡ wantOf (under g m .ahead) → length s ≤ u
-        → Left (midway m g u n l) (givenUp (under g m) u n)
+    closed : {m : Call} {g : List ℕ} {u n : ℕ} {l : List ℕ} (answer : Answer) → closedOf (under g m) .outcome ≡ O.Over answer
+        → Left (midway m g u n l) (record { answer = answer; words = u; rows = n; host = closedOf (under g m) .host })
     full : {m : Call} {g : List ℕ} {u n : ℕ} {l : List ℕ} (r : Row) → W.Write r ≡ wantOf (under g m .ahead) → roomOf l ≤ n
         → Left (midway m g u n l) (record { answer = Answered.TraceFull; words = u; rows = n; host = under g m .before })
 

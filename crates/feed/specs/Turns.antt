@@ -8,11 +8,14 @@ use lib.ListN.{length, getD}
 use Rattle.types.specs.declared.error.Answer.the-variants as Answered
 use Rattle.tape.specs.Rows.{rowAt, roomOf}
 use Rattle.host.specs.declared.host.Called.{Called}
+use Rattle.host.specs.declared.host.Sdmmc.{Sdmmc}
 use Rattle.host.specs.Calls.{Came}
 use Rattle.step.specs.declared.wants.Wants.{Wants}
 use Rattle.step.specs.declared.wants.Wants.the-variants as W
 use Rattle.step.specs.Next.{wantOf, handed}
-use Rattle.underway.specs.Under.{Under, under, answered, written, closedOf, givenUp}
+use Rattle.underway.specs.declared.call.Outcome.{Outcome}
+use Rattle.underway.specs.declared.call.Outcome.the-variants as O
+use Rattle.underway.specs.Under.{Under, under, answered, unanswered, written, closedOf}
 use Rattle.feed.specs.Runs.{runNext, cameOf, noClosing, liesAt, placeNext}
 use Rattle.feed.specs.declared.turn.Event.{Event}
 use Rattle.feed.specs.declared.turn.Event.the-variants as E
@@ -43,14 +46,14 @@ abbrev pub turned : Event → Way → List ℕ → Turned
 turned event next list = record { event = event; next = next; list = list }
 
 module _ (s : List ℕ) where
-  -- a turn of a call that waits for this: the next word of the script, or a row into the list; where there is none, or no room,
-  -- it stays as it is
+  -- a turn of a call that waits for this: the next word of the script, and where there is none the call is told so; or a row into
+  -- the list, and where there is no room the call stays as it is
   unfoldable pub turnBy : Way → List ℕ → Wants → Turned
   turnBy w l (W.Read r) =
       cond (ltb (w .used) (length s))
       (turned (E.Read r (getD s (w .used) 0))
       (record { call = answered (w .call) (getD s (w .used) 0); used = w .used + 1; rows = w .rows; place = liesAt r (w .used) (w .place) }) l)
-      (turned (E.Missed r) w l)
+      (turned (E.Missed r) (record { call = unanswered (w .call); used = w .used; rows = w .rows; place = w .place }) l)
   turnBy w l (W.Write r) =
       cond (ltb (w .rows) (roomOf l))
       (turned (E.Wrote r) (record { call = written (w .call); used = w .used; rows = w .rows + 1; place = w .place }) (rowAt l (w .rows) r))
@@ -81,15 +84,15 @@ turnedOf g t l = turned (t .event) (wayOf (handedAt (t .event) g) (t .feeding)) 
 -- whether another turn follows
 unfoldable pub goesOn : Event → Bool
 goesOn (E.Read r w) = true
-goesOn (E.Missed r) = false
+goesOn (E.Missed r) = true
 goesOn (E.Wrote r) = true
 goesOn (E.Full r) = false
 goesOn E.Over = false
 
--- what a call has come to where none follows; left asking it counts as one whose script ended
-unfoldable pub calledAt : Way → Event → Called
-calledAt w (E.Read r v) = givenUp (w .call) (w .used) (w .rows)
-calledAt w (E.Missed r) = givenUp (w .call) (w .used) (w .rows)
-calledAt w (E.Wrote r) = givenUp (w .call) (w .used) (w .rows)
-calledAt w (E.Full r) = record { answer = Answered.TraceFull; words = w .used; rows = w .rows; host = w .call .before }
-calledAt w E.Over = record { answer = closedOf (w .call) .answer; words = w .used; rows = w .rows; host = closedOf (w .call) .host }
+-- what a call has come to where none follows: it is over, or its row found no room, and the host is as before
+unfoldable pub calledWith : Way → Sdmmc → Outcome → Called
+calledWith w host (O.Over answer) = record { answer = answer; words = w .used; rows = w .rows; host = host }
+calledWith w host O.Not = record { answer = Answered.TraceFull; words = w .used; rows = w .rows; host = w .call .before }
+
+abbrev pub calledAt : Way → Called
+calledAt w = calledWith w (closedOf (w .call) .host) (closedOf (w .call) .outcome)

@@ -7,7 +7,6 @@ ghost use Rattle.host.specs.Calls.{calledOf, initialised, readCame, bufferOf, s
 ghost use Rattle.underway.specs.Under.{under};
 ghost use Rattle.feed.specs.Runs.{countOf};
 ghost use Rattle.feed.specs.Turns.{wayOf, starts, fedFrom, placeFrom, calledAt};
-use crate::turn::Event;
 use crate::turn::Feeding;
 use host::blocks;
 use host::calls::given_status;
@@ -24,17 +23,17 @@ pub struct Fed {
     pub place: usize,
 }
 
-fn ended(feeding: Feeding, event: Event) -> Fed
-    ensures { λ r. ⌜ ((g : List ℕ) → r ≡ record { called = calledAt (wayOf g feeding) event; place = feeding .place }) ⌝ }
+fn ended(feeding: Feeding) -> Fed
+    ensures { λ r. ⌜ ((g : List ℕ) → r ≡ record { called = calledAt (wayOf g feeding); place = feeding .place }) ⌝ }
 {
     let place = feeding.place;
     Fed {
-        called: feeding.called(event),
+        called: feeding.called(),
         place: place,
     }
 }
 
-// Feeds a call to its end, or to the end of the script or of the list.
+// Feeds a call to its end, or to the end of the list.
 pub fn feed(call: Call, script: &[u32], rows: &mut [u32]) -> Fed
     ensures answered { λ r. ⌜ r .called ≡ calledOf (fedFrom (now (script .entry)) (starts (under [] call)) (now (rows .entry))) ⌝ }
     ensures listed { λ r. ⌜ now (rows .exit) ≡ fedFrom (now (script .entry)) (starts (under [] call)) (now (rows .entry)) .list ⌝ }
@@ -46,7 +45,7 @@ pub fn feed(call: Call, script: &[u32], rows: &mut [u32]) -> Fed
         let event = turn.event;
         let next = turn.feeding;
         if !event.goes_on() {
-            return ended(next, event);
+            return ended(next);
         }
         feeding = next;
     }

@@ -13,6 +13,7 @@ use tape::rows::Row;
 use tape::script::Reading;
 use types::error::Answer;
 use underway::call::Call;
+use underway::call::Outcome;
 
 // A call that is fed: the words taken and the rows written so far, and where in the script the first data word of its last
 // transfer lay.
@@ -23,7 +24,8 @@ pub struct Feeding {
     pub place: usize,
 }
 
-// What came about: a reading took its word, or found none; a row was written, or found no room; or the call is over.
+// What came about: a reading took its word, or found none, and the call was told so; a row was written, or found no room; or the
+// call is over.
 pub enum Event {
     Read(Reading, u32),
     Missed(Reading),
@@ -39,7 +41,7 @@ impl Event {
     {
         match self {
             Event::Read(_, _) => true,
-            Event::Missed(_) => false,
+            Event::Missed(_) => true,
             Event::Wrote(_) => true,
             Event::Full(_) => false,
             Event::Over => false,
@@ -79,20 +81,25 @@ impl Feeding {
         }
     }
 
-    // A reading: the next word of the script, where there is one.
+    // A reading: the next word of the script; where there is none, the call is told so.
     fn reads(self, script: &[u32], reading: Reading) -> Turn
         ensures { λ r. ⌜ ((g l : List ℕ) → W.Read reading ≡ wantOf (under g (self .call) .ahead) → turnedOf g r l ≡ turnBy (now (script .entry)) (wayOf g self) l (W.Read reading)) ⌝ }
     {
         let used = self.used;
+        let call = self.call;
         if script.len() <= used {
             return Turn {
                 event: Event::Missed(reading),
-                feeding: self,
+                feeding: Feeding {
+                    call: call.missed(),
+                    used: used,
+                    rows: self.rows,
+                    place: self.place,
+                },
             };
         }
         let word = script[used];
         let next = used + 1;
-        let call = self.call;
         Turn {
             event: Event::Read(reading, word),
             feeding: Feeding {
@@ -146,37 +153,30 @@ impl Feeding {
         }
     }
 
-    // What the call has come to, where no turn follows: it is over; or the script has ended, or the list is full, and the host
-    // before it is the one to use.
-    pub fn called(self, event: Event) -> Called
-        ensures { λ r. ⌜ ((g : List ℕ) → r ≡ calledAt (wayOf g self) event) ⌝ }
+    // What the call has come to, where no turn follows: it is over; or its row found no room, and the host before it is the one
+    // to use.
+    pub fn called(self) -> Called
+        ensures { λ r. ⌜ ((g : List ℕ) → r ≡ calledAt (wayOf g self)) ⌝ }
     {
         let call = self.call;
-        match event {
-            Event::Read(_, _) => call.give_up(self.used, self.rows),
-            Event::Missed(_) => call.give_up(self.used, self.rows),
-            Event::Wrote(_) => call.give_up(self.used, self.rows),
-            Event::Full(_) => {
-                let job = call.job;
-                let host = job.host;
-                Called {
-                    answer: Answer::TraceFull,
-                    words: self.used,
-                    rows: self.rows,
-                    host: host,
-                }
-            }
-            Event::Over => {
-                let closed = call.closed();
-                let answer = closed.answer;
-                let host = closed.host;
-                Called {
-                    answer: answer,
-                    words: self.used,
-                    rows: self.rows,
-                    host: host,
-                }
-            }
+        let job = call.job;
+        let before = job.host;
+        let closed = call.closed();
+        let outcome = closed.outcome;
+        let host = closed.host;
+        match outcome {
+            Outcome::Over(answer) => Called {
+                answer: answer,
+                words: self.used,
+                rows: self.rows,
+                host: host,
+            },
+            Outcome::Not => Called {
+                answer: Answer::TraceFull,
+                words: self.used,
+                rows: self.rows,
+                host: before,
+            },
         }
     }
 }

@@ -1,7 +1,7 @@
 -- What each call on a host comes to: its answer, the words it used and the rows it wrote, the row list, the lent buffer and
 -- the next host; for every script, list, buffer and argument. A call is served by running its plan.
 use Prim.Native.Nat.{ℕ, _*_, _/_, _%_, min}
-use mathlib.Core.Bool.{Bool, true, false, cond, not, _||_}
+use mathlib.Core.Bool.{Bool, true, false, cond, _||_}
 use mathlib.Core.List.{List, [], _++_}
 use lib.Dec.{eqb, ltb}
 use lib.ListN.{length, take, drop, replicate}
@@ -25,7 +25,7 @@ use Rattle.tape.specs.declared.progress.Halt.the-variants.{Refused, ScriptEnded
 use Rattle.tape.specs.declared.progress.Line.{Line}
 use Rattle.tape.specs.declared.progress.Pace.{Pace}
 use Rattle.tape.specs.declared.progress.Pace.the-variants.{Going, Stopped}
-use Rattle.tape.specs.Plan.{Nothing, Plan}
+use Rattle.tape.specs.Plan.{Nothing, Cause, failed, ended, Plan}
 use Rattle.tape.specs.Run.{State, run, runFrom}
 use Rattle.bus.specs.declared.transfer.Transfer.{Transfer}
 use Rattle.bus.specs.Command.{appCommand}
@@ -85,11 +85,17 @@ dropped host w = hostOf (host .settings) (w .progress .line) false noCard
 abbrev pub kept : Sdmmc → State → Sdmmc
 kept host w = hostOf (host .settings) (w .progress .line) (host .known) (host .card)
 
--- how a call ends: accepted, refused, or at the script's end or the list's, which leave the host as before
+-- the answer of a call that is refused for this
+abbrev pub answerFor : Cause → Answer
+answerFor (failed e) = Answered.Refused e
+answerFor ended = Answered.ScriptEnded
+
+-- how a call ends: accepted, refused, at the script's end, which leaves what a refusal there does, or without room for a row,
+-- which leaves the host as before
 unfoldable pub ends : Sdmmc → Sdmmc → Sdmmc → List ℕ → Pace → State → Came
 ends host refused accepted words Going w = came Answered.Accepted w words accepted
 ends host refused accepted words (Stopped (Refused e)) w = came (Answered.Refused e) w [] refused
-ends host refused accepted words (Stopped ScriptEnded) w = came Answered.ScriptEnded w [] host
+ends host refused accepted words (Stopped ScriptEnded) w = came Answered.ScriptEnded w [] refused
 ends host refused accepted words (Stopped TraceFull) w = came Answered.TraceFull w [] host
 
 -- Initialisation: any refusal of its plan leaves no record.

@@ -2,12 +2,12 @@
 -- and hosts are the driver's.
 use Prim.Native.Nat.{ℕ}
 use mathlib.Core.Bool.{true, false}
-use mathlib.Core.List.{List, [], _∷_}
+use mathlib.Core.List.{List, [], _∷_, _++_}
 use mathlib.Core.Path.{_≡_, refl}
-use lib.ListN.{replicate}
+use lib.ListN.{replicate, take}
 use Rattle.types.specs.declared.card.CardCapacity.the-variants.{SDSC, SDHC}
 use Rattle.types.specs.declared.card.Signalling.the-variants.{SDR12, SDR25}
-use Rattle.types.specs.declared.error.Answer.the-variants.{Accepted}
+use Rattle.types.specs.declared.error.Answer.the-variants.{Accepted, ScriptEnded, TraceFull}
 use Rattle.types.specs.Leaf.{divisorOf, clockOf, firstMatch, dataOf, countOf, rateOf, unitsOf, addressOf}
 use Rattle.types.specs.Settings.{madeOf}
 use Rattle.types.specs.Words.{bytesOf, counted, sdStatusOf, halvesOf, scrOf}
@@ -19,7 +19,7 @@ use Rattle.bus.specs.Command.{formOf, issue, pollCompletion, waitCompletion, ec
 use Rattle.bus.specs.Ready.{retryDelay, readStatus, tryReady, waitReady}
 use Rattle.bus.specs.Transfer.{arm, startData, clean, pollTransfer, drained, settle, dataComplete, waitData, receive, closeGate, stopTransmission, endData, transferData, blockingData}
 use Rattle.init.specs.declared.settings.Settings.{Settings}
-use Rattle.init.specs.Initialise.{version, timedOut, late, cardVersion, powerOn, beginInit, powerUp, tryPowerUp, waitPowerUp, select, publish, identify, blockLength, readScr, setWidth, setClock, transferClock, takeSwitch, askSwitch, switchSpeed, settleCard, initCard, initialise}
+use Rattle.init.specs.Initialise.{noCard, version, timedOut, late, cardVersion, powerOn, beginInit, powerUp, tryPowerUp, waitPowerUp, select, publish, identify, blockLength, readScr, setWidth, setClock, transferClock, takeSwitch, askSwitch, switchSpeed, settleCard, initCard, initialise}
 use Rattle.host.specs.declared.host.Sdmmc.{Sdmmc}
 use Rattle.host.specs.Calls.{hostOf, ends, initFrom, initialised, transferred, approached, served, readFrom, readKnown, readCame, statusCame, clockedHost, judgedHost, made}
 
@@ -140,3 +140,39 @@ pub status : statusCame statusHost statusScript (replicate 50 0)
     }
 unfolding ensure word timedOut divisorOf clockOf firstMatch dataOf countOf rateOf madeOf bytesOf halvesOf scrOf handle until noted run row holdGated holdClock holdSignalling waitIdle resetController stopData setClken dataFrom configureClock clockDelay formOf issue pollCompletion waitCompletion echo responseWords judge answer complete commandInner command appCommand retryDelay readStatus tryReady waitReady arm startData clean pollTransfer drained settle dataComplete waitData receive closeGate stopTransmission endData transferData blockingData version late cardVersion powerOn beginInit powerUp tryPowerUp waitPowerUp select publish identify blockLength readScr setWidth setClock transferClock takeSwitch askSwitch switchSpeed settleCard initCard initialise ends initFrom initialised transferred approached served readFrom readKnown readCame statusCame unitsOf addressOf counted sdStatusOf clockedHost judgedHost made
 status = refl
+
+-- A card pulled out: the same call cut short. Before initialisation's first reading: the ten reset rows, and ten more, no record;
+-- with room for one row less it is 22, and the host as before.
+abbrev resetWords : List ℕ
+resetWords = 9 ∷ 0 ∷ 10 ∷ 0 ∷ 7 ∷ 0 ∷ 4 ∷ 0 ∷ 1 ∷ 0 ∷ 2 ∷ 0 ∷ 3 ∷ 0 ∷ 5 ∷ 0 ∷ 6 ∷ 0 ∷ 8 ∷ 12584959 ∷ []
+
+pub pulled-at-once : initialised statusHost 25_000_000 [] (replicate 40 0) ∷ initialised statusHost 25_000_000 [] (replicate 38 0) ∷ []
+    ≡ record {
+      answer = ScriptEnded;
+      words = 0;
+      rows = 20;
+      list = resetWords ++ resetWords;
+      taken = [];
+      host = hostOf statusSettings (record { clkcr = 0; gated = false; clock = record { 0 = 396825 }; signalling = SDR12 }) false noCard;
+    }
+    ∷ record { answer = TraceFull; words = 0; rows = 19; list = resetWords ++ take 18 resetWords; taken = []; host = statusHost }
+    ∷ []
+unfolding ensure word timedOut divisorOf clockOf firstMatch dataOf countOf rateOf madeOf bytesOf halvesOf scrOf handle until noted run row holdGated holdClock holdSignalling waitIdle resetController stopData setClken dataFrom configureClock clockDelay formOf issue pollCompletion waitCompletion echo responseWords judge answer complete commandInner command appCommand retryDelay readStatus tryReady waitReady arm startData clean pollTransfer drained settle dataComplete waitData receive closeGate stopTransmission endData transferData blockingData version late cardVersion powerOn beginInit powerUp tryPowerUp waitPowerUp select publish identify blockLength readScr setWidth setClock transferClock takeSwitch askSwitch switchSpeed settleCard initCard initialise ends initFrom initialised transferred approached served readFrom readKnown readCame statusCame unitsOf addressOf counted sdStatusOf clockedHost judgedHost made
+pulled-at-once = refl
+
+-- At a status call's CMD55: the clock off, the record kept. At the last word of its closing ready wait: the clock off, and the
+-- reset rows; no record. With room for nine of these: 22, and the host as before.
+pub pulled : statusCame statusHost [] (replicate 4 0) ∷ statusCame statusHost (take 42 statusScript) (replicate 70 0) ∷ statusCame statusHost (take 42 statusScript) (replicate 68 0) ∷ []
+    ≡ record { answer = ScriptEnded; words = 0; rows = 2; list = 2 ∷ 256 ∷ 2 ∷ 0 ∷ []; taken = []; host = statusHost }
+    ∷ record {
+      answer = ScriptEnded;
+      words = 42;
+      rows = 35;
+      list = statusRows ++ resetWords;
+      taken = [];
+      host = hostOf statusSettings (record { clkcr = 0; gated = true; clock = record { 0 = 12499999 }; signalling = SDR12 }) false noCard;
+    }
+    ∷ record { answer = TraceFull; words = 42; rows = 34; list = statusRows ++ take 18 resetWords; taken = []; host = statusHost }
+    ∷ []
+unfolding ensure word timedOut divisorOf clockOf firstMatch dataOf countOf rateOf madeOf bytesOf halvesOf scrOf handle until noted run row holdGated holdClock holdSignalling waitIdle resetController stopData setClken dataFrom configureClock clockDelay formOf issue pollCompletion waitCompletion echo responseWords judge answer complete commandInner command appCommand retryDelay readStatus tryReady waitReady arm startData clean pollTransfer drained settle dataComplete waitData receive closeGate stopTransmission endData transferData blockingData version late cardVersion powerOn beginInit powerUp tryPowerUp waitPowerUp select publish identify blockLength readScr setWidth setClock transferClock takeSwitch askSwitch switchSpeed settleCard initCard initialise ends initFrom initialised transferred approached served readFrom readKnown readCame statusCame unitsOf addressOf counted sdStatusOf clockedHost judgedHost made
+pulled = refl

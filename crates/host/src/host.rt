@@ -236,7 +236,7 @@ impl Sdmmc {
                     answer: Answer::ScriptEnded,
                     words: p.used,
                     rows: p.rows,
-                    host: self,
+                    host: refused,
                 },
                 Halt::TraceFull => Called {
                     answer: Answer::TraceFull,

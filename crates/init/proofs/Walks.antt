@@ -27,13 +27,13 @@ use Rattle.types.specs.Leaf.{clockOf, countOf, rateOf}
 use Rattle.types.specs.Sd.{sdSpec}
 use Rattle.tape.specs.declared.progress.Line.{Line}
 use Rattle.tape.specs.declared.rows.Row.{Row}
-use Rattle.tape.specs.Plan.{Nothing, guard, refusing, handle, _then_}
+use Rattle.tape.specs.Plan.{Nothing, guard, handle, _then_}
 use Rattle.tape.specs.Run.{noted}
 use Rattle.tape.specs.Steps.{holdGated, holdClock, holdSignalling, resetController}
-use Rattle.tape.proofs.Walk.{Rule, Obeys, on-handle, on-give, on-fail, on-then, on-look, on-hold, on-test, on-row, on-ensure, on-until}
+use Rattle.tape.proofs.Walk.{Rule, Obeys, on-handle, on-rows, on-closing, on-end, on-give, on-fail, on-then, on-look, on-hold, on-test, on-row, on-ensure, on-until}
 use Rattle.bus.specs.Clock.{configureClock, clockDelay}
 use Rattle.bus.proofs.Delays.{Fair, fair, delay-is-a-row}
-use Rattle.bus.proofs.Walks.{Other, Ordinary, unsupported, clken-obeys, command-obeys, app-obeys, retry-obeys, ready-obeys, configure-obeys, reset-obeys, data-obeys}
+use Rattle.bus.proofs.Walks.{Other, Ordinary, unsupported, clken-obeys, command-obeys, app-obeys, retry-obeys, ready-obeys, configure-obeys, reset-rows, data-obeys}
 use Rattle.init.specs.declared.settings.Settings.{Settings}
 use Rattle.init.specs.Initialise.{sourceOf, limitOf, version, timedOut, late, cardVersion, powerOn, beginInit, powerUp, poweredUp, tryPowerUp, waitPowerUp}
 use Rattle.init.specs.Initialise.{counted, select, publish, identify, blockLength, readScr, setWidth, clocked, setClock, rated, transferClock}
@@ -123,13 +123,13 @@ module _ (set : Settings) (from2 : 2 ≤ sourceOf set) where
   card-version-obeys : Obeys rule Bool (cardVersion (limitOf set))
   unfolding cardVersion late
   card-version-obeys =
-      on-handle late (command-obeys rule others any _ 8 _ _) (λ ws. version-obeys _) (λ e r. on-test (timedOut e) on-give (on-fail r))
+      on-handle late (command-obeys rule others any _ 8 _ _) (λ ws. version-obeys _) (λ e r. on-test (timedOut e) on-give (on-fail r)) on-end
 
   begin-obeys : (initial : Clock) → Fair (sourceOf set) (initial .frequency .0) → Obeys rule Bool (beginInit set initial)
   unfolding beginInit powerOn
   begin-obeys initial f =
       on-then
-      (on-then (reset-obeys rule others any row-any)
+      (on-then (on-rows (reset-rows rule others any row-any))
       (λ _. on-then (configure-obeys rule others any _ initial false false)
       (λ _. on-then (on-row _ _ (row-any _)) (λ _. on-then (clken-obeys rule others any true) (λ _. delay-obeys _ 80 f (omega arith))))))
       (λ _. on-then (command-obeys rule others any _ 0 _ _) (λ _. card-version-obeys))
@@ -241,8 +241,7 @@ module _ (set : Settings) (from2 : 2 ≤ sourceOf set) where
   guarded-obey : (initial : Clock) (frequency : ℕ) → Fair (sourceOf set) (initial .frequency .0)
       → Obeys rule Card (guard resetController (initCard set initial frequency))
   guarded-obey initial frequency f =
-      on-handle (refusing resetController) (steps-obey initial frequency f) (λ card. on-give)
-      (λ e r. on-then (reset-obeys rule others any row-any) (λ _. on-fail r))
+      on-closing (steps-obey initial frequency f) (λ card. on-give) (reset-rows rule others any row-any)
 
   -- the plan is that, under its guard
   whole : (initial : Clock) (frequency : ℕ) → initialise set initial frequency ≡ guard resetController (initCard set initial frequency)

@@ -8,15 +8,13 @@ use borrow.Author.Tests.{eq-eqb}
 use Rattle.types.specs.declared.card.AddressAnswer.the-variants as Address
 use Rattle.types.specs.declared.config.Config.{Config}
 use Rattle.types.specs.declared.error.Answer.the-variants as Answered
-use Rattle.types.specs.declared.error.Error.{Error}
 use Rattle.types.specs.Leaf.{addressOf}
 use Rattle.types.specs.Words.{sdStatusOf}
 use Rattle.tape.specs.declared.progress.Halt.the-variants.{Refused, ScriptEnded, TraceFull}
 use Rattle.tape.specs.declared.progress.Pace.{Pace}
 use Rattle.tape.specs.declared.progress.Pace.the-variants.{Going, Stopped}
-use Rattle.tape.specs.Plan.{Nothing, Plan}
-use Rattle.tape.specs.Run.{State, at, run, runFrom}
-use Rattle.tape.specs.declared.progress.Line.{Line}
+use Rattle.tape.specs.Plan.{Nothing, Cause, failed, ended, Plan}
+use Rattle.tape.specs.Run.{State, at, haltOf, run, runFrom}
 use Rattle.refusals.proofs.Guards.{guard-refused}
 use Rattle.refusals.proofs.Reset.{ends-refused, ends-accepted, ResetAfter, reset-after}
 use Rattle.bus.specs.declared.transfer.Transfer.{Transfer}
@@ -28,11 +26,12 @@ use Rattle.host.specs.Calls.{came, holding, dropped, kept, ends}
 use Rattle.host.specs.Calls.{transferred, approached, served, readNext, readPlan, readTransfer, readFrom, readKnown, readCame}
 use Rattle.host.specs.Calls.{statusNext, statusPlan, statusTransfer, statusCame, withStatus}
 use Rattle.host.specs.declared.host.Sdmmc.{Sdmmc}
+use Rattle.host.specs.Calls.{answerFor}
 
 -- Lines 4 and 5: a read and a status call have an approach (ready wait, CMD55) and a data phase.
 
 module _ (host : Sdmmc) (source : ℕ) (config : Config) (transfer : Transfer) (rca : ℕ) (next : State → List ℕ → Sdmmc) (s : List ℕ) where
-  data-refused : (w : State) (e : Error) → transferred host (blockingData source config transfer rca) next s w .answer ≡ Answered.Refused e
+  data-refused : (w : State) (e : Cause) → transferred host (blockingData source config transfer rca) next s w .answer ≡ answerFor e
       → ResetAfter e host (runFrom s [] (transferData source config transfer rca) w .state) (transferred host (blockingData source config transfer rca) next s w)
   unfolding transferred blockingData
   data-refused w e r =
@@ -43,8 +42,8 @@ module _ (host : Sdmmc) (source : ℕ) (config : Config) (transfer : Transfer) (
       (how .1)
 
 -- a call with these two parts is refused in one of them: w is where its approach has come
-pub data RefusedIn (e : Error) (w : State) : Type 0 where
-  approach : w .progress .pace ≡ Stopped (Refused e) → RefusedIn e w
+pub data RefusedIn (e : Cause) (w : State) : Type 0 where
+  approach : w .progress .pace ≡ Stopped (haltOf e) → RefusedIn e w
   dataPhase : w .progress .pace ≡ Going → RefusedIn e w
 
 module _ (host : Sdmmc) (transfer : Plan (List ℕ)) (next : State → List ℕ → Sdmmc) (s : List ℕ) where
@@ -69,24 +68,23 @@ module _ (host : Sdmmc) (transfer : Plan (List ℕ)) (next : State → List ℕ 
         by w (Stopped ScriptEnded) r = let z : _≡_ {A = ℕ} 0 1 = cc in absurd (omega arith)
         by w (Stopped TraceFull) r = let z : _≡_ {A = ℕ} 0 1 = cc in absurd (omega arith)
 
-    refused-in : (e : Error) → served host plan transfer next s l .answer ≡ Answered.Refused e → RefusedIn e (run s (tt {0}) plan 0 0 (host .line) l .state)
+    refused-in : (e : Cause) → served host plan transfer next s l .answer ≡ answerFor e → RefusedIn e (run s (tt {0}) plan 0 0 (host .line) l .state)
     unfolding served approached ends
     refused-in e r = by (run s (tt {0}) plan 0 0 (host .line) l .state .progress .pace) refl r
       where
         w : State
         w = run s (tt {0}) plan 0 0 (host .line) l .state
 
-        by : (q : Pace) → w .progress .pace ≡ q → approached host transfer next s q w .answer ≡ Answered.Refused e → RefusedIn e w
+        by : (q : Pace) → w .progress .pace ≡ q → approached host transfer next s q w .answer ≡ answerFor e → RefusedIn e w
         by Going g r = dataPhase g
-        by (Stopped (Refused x)) g r = let same : x ≡ e = cc in approach (rw same at g)
-        by (Stopped ScriptEnded) g r = let z : _≡_ {A = ℕ} 0 1 = cc in absurd (omega arith)
-        by (Stopped TraceFull) g r = let z : _≡_ {A = ℕ} 0 1 = cc in absurd (omega arith)
+        by (Stopped h) g r = approach (g ∙ ends-refused host (kept host w) host [] w (Stopped h) e r .0)
 
-    early : (e : Error) → run s (tt {0}) plan 0 0 (host .line) l .state .progress .pace ≡ Stopped (Refused e)
+    early : (e : Cause) → run s (tt {0}) plan 0 0 (host .line) l .state .progress .pace ≡ Stopped (haltOf e)
         → served host plan transfer next s l
-        ≡ came (Answered.Refused e) (run s (tt {0}) plan 0 0 (host .line) l .state) [] (kept host (run s (tt {0}) plan 0 0 (host .line) l .state))
+        ≡ came (answerFor e) (run s (tt {0}) plan 0 0 (host .line) l .state) [] (kept host (run s (tt {0}) plan 0 0 (host .line) l .state))
     unfolding served approached ends
-    early e g = rw g
+    early (failed e) g = rw g
+    early ended g = rw g
 
     goes-on : run s (tt {0}) plan 0 0 (host .line) l .state .progress .pace ≡ Going
         → served host plan transfer next s l ≡ transferred host transfer next s (run s (tt {0}) plan 0 0 (host .line) l .state)
@@ -128,21 +126,21 @@ module _ (host : Sdmmc) (index blocks address : ℕ) (s l : List ℕ) (known : h
       read-data g ∙ data-accepted host (readPlan host address blocks) (readNext host) s readWait (rw (read-data g) at r)
 
   -- a refused one: refused in its ready wait (line 4), or in its data phase (line 5)
-  pub read-refused-in : (e : Error) → readCame host index (512 * blocks) s l .answer ≡ Answered.Refused e → RefusedIn e readWait
+  pub read-refused-in : (e : Cause) → readCame host index (512 * blocks) s l .answer ≡ answerFor e → RefusedIn e readWait
   read-refused-in e r =
       refused-in host (readPlan host address blocks) (readNext host) s
       (waitReady (sourceOf (host .settings)) (host .settings .config) (host .card .rca)) l e (rw read-served at r)
 
   -- Line 4. 'Before the data phase of a read (ready wait): rows so far, record kept, no reset.'
-  pub read-early : (e : Error) → readWait .progress .pace ≡ Stopped (Refused e)
-      → readCame host index (512 * blocks) s l ≡ came (Answered.Refused e) readWait [] (kept host readWait)
+  pub read-early : (e : Cause) → readWait .progress .pace ≡ Stopped (haltOf e)
+      → readCame host index (512 * blocks) s l ≡ came (answerFor e) readWait [] (kept host readWait)
   read-early e g =
       read-served
       ∙ early host (readPlan host address blocks) (readNext host) s
       (waitReady (sourceOf (host .settings)) (host .settings .config) (host .card .rca)) l e g
 
   -- Line 5. 'In a data phase: reset rows, no record.'
-  pub read-refused-in-data : (e : Error) → readWait .progress .pace ≡ Going → readCame host index (512 * blocks) s l .answer ≡ Answered.Refused e
+  pub read-refused-in-data : (e : Cause) → readWait .progress .pace ≡ Going → readCame host index (512 * blocks) s l .answer ≡ answerFor e
       → ResetAfter e host readSteps (readCame host index (512 * blocks) s l)
   read-refused-in-data e g r =
       rw (read-data g)
@@ -176,17 +174,17 @@ module _ (host : Sdmmc) (s l : List ℕ) (known : host .known ≡ true) where
       status-data g ∙ data-accepted host (statusPlan host) (statusNext host) s status55 (rw (status-data g) at r)
 
   -- a refused one: refused in its CMD55 (line 4), or in its data phase (line 5)
-  pub status-refused-in : (e : Error) → statusCame host s l .answer ≡ Answered.Refused e → RefusedIn e status55
+  pub status-refused-in : (e : Cause) → statusCame host s l .answer ≡ answerFor e → RefusedIn e status55
   status-refused-in e r =
       refused-in host (statusPlan host) (statusNext host) s (appCommand (limitOf (host .settings)) (host .card .rca)) l e (rw status-served at r)
 
   -- Line 4. 'Before the data phase of a status (CMD55): rows so far, record kept, no reset.'
-  pub status-early : (e : Error) → status55 .progress .pace ≡ Stopped (Refused e)
-      → statusCame host s l ≡ came (Answered.Refused e) status55 [] (kept host status55)
+  pub status-early : (e : Cause) → status55 .progress .pace ≡ Stopped (haltOf e)
+      → statusCame host s l ≡ came (answerFor e) status55 [] (kept host status55)
   status-early e g = status-served ∙ early host (statusPlan host) (statusNext host) s (appCommand (limitOf (host .settings)) (host .card .rca)) l e g
 
   -- Line 5. 'In a data phase: reset rows, no record.'
-  pub status-refused-in-data : (e : Error) → status55 .progress .pace ≡ Going → statusCame host s l .answer ≡ Answered.Refused e
+  pub status-refused-in-data : (e : Cause) → status55 .progress .pace ≡ Going → statusCame host s l .answer ≡ answerFor e
       → ResetAfter e host statusSteps (statusCame host s l)
   status-refused-in-data e g r =
       rw (status-data g)

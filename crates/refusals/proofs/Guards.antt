@@ -1,4 +1,5 @@
--- What a guard leaves: a plan under it that is refused has written the ten reset rows last, with no word used for them.
+-- What a guard leaves: a plan under it that is refused, or whose script has ended, has written the ten reset rows last, with
+-- no word used for them.
 use Prim.Native.Nat.{ℕ, _+_, _≤_}
 use mathlib.Core.Bool.{Bool, true, false, cond}
 use mathlib.Core.List.{List, [], _∷_, _++_}
@@ -8,17 +9,16 @@ use native.Mathlib.Decide.{decLe}
 use lib.Dec.{ltb}
 use lib.ListN.{length, getD, take, drop}
 use borrow.Author.Tests.{le-ltb, lt-ltb}
-use Rattle.types.specs.declared.error.Error.{Error}
 use Rattle.tape.specs.declared.progress.Halt.the-variants.{Refused, ScriptEnded, TraceFull}
 use Rattle.tape.specs.declared.progress.Line.{Line}
 use Rattle.tape.specs.declared.progress.Pace.{Pace}
 use Rattle.tape.specs.declared.progress.Pace.the-variants.{Going, Stopped}
 use Rattle.tape.specs.declared.rows.Row.{Row}
 use Rattle.tape.proofs.Laws.{run-handle}
-use Rattle.tape.specs.Plan.{Nothing, Cause, failed, Plan, give, refuse, read, write, look, hold, handle, _then_, refusing, guard}
+use Rattle.tape.specs.Plan.{Nothing, Cause, failed, ended, Plan, give, refuse, read, write, look, hold, handle, _then_, refusing, guard}
 use Rattle.tape.proofs.Room.{isFull, free, full-exactly, laid-between, run-fits}
 use Rattle.tape.specs.Rows.{ARG, CLKCR, CMD, DCTRL, DCTRL2, DLEN, DTIMER, ICR, MASK, POWER, placeOf, rowAt, roomOf, wordsOf}
-use Rattle.tape.specs.Run.{State, at, After, after, noted, run, runFrom, nextAt}
+use Rattle.tape.specs.Run.{State, at, After, after, noted, haltOf, run, runFrom, nextAt}
 use Rattle.tape.specs.Steps.{row, resetController}
 
 abbrev rowOf : ℕ → ℕ → Row
@@ -72,15 +72,30 @@ reset s u n h l = by (decLe (n + 10) (roomOf l)) (decLe n (roomOf l))
         full (is-full _ (full-exactly s (tt {0}) resetController u n h l before ∙ lt-ltb (roomOf l) (n + 10) (omega arith)))
     by (no over) (no before) = full (rw (le-ltb n (roomOf l) (omega arith)))
 
--- a plan was refused with e at w, and at w′ the reset rows have followed
-pub record Guarded (e : Error) (w w′ : State) : Type 0 where
-  pub refused : w .progress .pace ≡ Stopped (Refused e)
+-- a cause is not that it goes on, nor want of room; and two that stop a call alike are one
+not-going : (e : Cause) → Going ≡ Stopped (haltOf e) → ⊥
+not-going (failed x) r = let z : _≡_ {A = ℕ} 0 1 = cc in omega arith
+not-going ended r = let z : _≡_ {A = ℕ} 0 1 = cc in omega arith
+
+not-full : (e : Cause) → Stopped TraceFull ≡ Stopped (haltOf e) → ⊥
+not-full (failed x) r = let z : _≡_ {A = ℕ} 0 1 = cc in omega arith
+not-full ended r = let z : _≡_ {A = ℕ} 0 1 = cc in omega arith
+
+pub one-cause : (x e : Cause) → Stopped (haltOf x) ≡ Stopped (haltOf e) → x ≡ e
+one-cause (failed x) (failed e) r = let same : x ≡ e = cc in ap failed same
+one-cause (failed x) ended r = let z : _≡_ {A = ℕ} 0 1 = cc in absurd (omega arith)
+one-cause ended (failed e) r = let z : _≡_ {A = ℕ} 0 1 = cc in absurd (omega arith)
+one-cause ended ended r = refl
+
+-- a plan was refused for e at w, and at w′ the reset rows have followed
+pub record Guarded (e : Cause) (w w′ : State) : Type 0 where
+  pub refused : w .progress .pace ≡ Stopped (haltOf e)
   pub reset : ThenReset w w′
 
 module _ (s : List ℕ) {A : Type 0} (d : A) where
-  refusing-reset : (x e : Error) (w : State) → w .progress .pace ≡ Stopped (Refused x)
-      → runFrom s d (refusing resetController (failed x)) w .state .progress .pace ≡ Stopped (Refused e)
-      → Guarded e w (runFrom s d (refusing resetController (failed x)) w .state)
+  refusing-reset : (x e : Cause) (w : State) → w .progress .pace ≡ Stopped (haltOf x)
+      → runFrom s d (refusing resetController x) w .state .progress .pace ≡ Stopped (haltOf e)
+      → Guarded e w (runFrom s d (refusing resetController x) w .state)
   unfolding run nextAt
   refusing-reset x e w g r = rw law (by (reset s u n (w .progress .line) (w .list)) (rw law at r))
     where
@@ -91,13 +106,13 @@ module _ (s : List ℕ) {A : Type 0} (d : A) where
       n = w .progress .rows
 
       on : After Nothing → After A
-      on y = nextAt s d (λ (_ : Nothing). refuse (failed x)) refuse tt (y .state .progress .pace) (y .state)
+      on y = nextAt s d (λ (_ : Nothing). refuse x) refuse tt (y .state .progress .pace) (y .state)
 
-      law : runFrom s d (refusing resetController (failed x)) w ≡ on (runFrom s (tt {0}) resetController w)
-      law = run-handle s (tt {0}) d (λ _. refuse (failed x)) refuse resetController u n (w .progress .line) (w .list)
+      law : runFrom s d (refusing resetController x) w ≡ on (runFrom s (tt {0}) resetController w)
+      law = run-handle s (tt {0}) d (λ _. refuse x) refuse resetController u n (w .progress .line) (w .list)
 
       all : (y : After Nothing) → n + 10 ≤ roomOf (w .list) → y ≡ after tt Going u (n + 10) (clkcrCleared (w .progress .line)) (resetLaid (w .list) n)
-          → on y .state .progress .pace ≡ Stopped (Refused e) → Guarded e w (on y .state)
+          → on y .state .progress .pace ≡ Stopped (haltOf e) → Guarded e w (on y .state)
       all y fits same r =
           let r′ = rw same at r in
           rw same
@@ -107,17 +122,17 @@ module _ (s : List ℕ) {A : Type 0} (d : A) where
           })
 
       short : (y : After Nothing) → y .state .progress .pace ≡ Stopped TraceFull
-          → on y .state .progress .pace ≡ Stopped (Refused e) → Guarded e w (on y .state)
-      short y f r = let r′ = rw f at r in let z : _≡_ {A = ℕ} 0 1 = cc in absurd (omega arith)
+          → on y .state .progress .pace ≡ Stopped (haltOf e) → Guarded e w (on y .state)
+      short y f r = let r′ = rw f at r in absurd (not-full e r′)
 
-      by : Reset s u n (w .progress .line) (w .list) → on (runFrom s (tt {0}) resetController w) .state .progress .pace ≡ Stopped (Refused e)
+      by : Reset s u n (w .progress .line) (w .list) → on (runFrom s (tt {0}) resetController w) .state .progress .pace ≡ Stopped (haltOf e)
           → Guarded e w (on (runFrom s (tt {0}) resetController w) .state)
       by (whole fits same) r = all (runFrom s (tt {0}) resetController w) fits same r
       by (full f) r = short (runFrom s (tt {0}) resetController w) f r
 
-  -- THE LAW of the guard: where a guarded plan is refused, the plan was, with the same error, and the reset rows followed
-  pub guard-refused : (p : Plan A) (u n : ℕ) (h : Line) (l : List ℕ) (e : Error)
-      → run s d (guard resetController p) u n h l .state .progress .pace ≡ Stopped (Refused e)
+  -- THE LAW of the guard: where a guarded plan is refused, the plan was, for the same cause, and the reset rows followed
+  pub guard-refused : (p : Plan A) (u n : ℕ) (h : Line) (l : List ℕ) (e : Cause)
+      → run s d (guard resetController p) u n h l .state .progress .pace ≡ Stopped (haltOf e)
       → Guarded e (run s d p u n h l .state) (run s d (guard resetController p) u n h l .state)
   unfolding run nextAt
   guard-refused p u n h l e r = rw law (by (y .state .progress .pace) refl (rw law at r))
@@ -129,12 +144,12 @@ module _ (s : List ℕ) {A : Type 0} (d : A) where
       law = run-handle s d d give (refusing resetController) p u n h l
 
       by : (q : Pace) → y .state .progress .pace ≡ q
-          → nextAt s d give (refusing resetController) (y .value) q (y .state) .state .progress .pace ≡ Stopped (Refused e)
+          → nextAt s d give (refusing resetController) (y .value) q (y .state) .state .progress .pace ≡ Stopped (haltOf e)
           → Guarded e (y .state) (nextAt s d give (refusing resetController) (y .value) q (y .state) .state)
-      by Going g r = let z : _≡_ {A = ℕ} 0 1 = cc in absurd (omega arith)
-      by (Stopped (Refused x)) g r = refusing-reset x e (y .state) g r
-      by (Stopped ScriptEnded) g r = let z : _≡_ {A = ℕ} 0 1 = cc in absurd (omega arith)
-      by (Stopped TraceFull) g r = let z : _≡_ {A = ℕ} 0 1 = cc in absurd (omega arith)
+      by Going g r = absurd (not-going e r)
+      by (Stopped (Refused x)) g r = refusing-reset (failed x) e (y .state) g r
+      by (Stopped ScriptEnded) g r = refusing-reset ended e (y .state) g r
+      by (Stopped TraceFull) g r = absurd (not-full e r)
 
 -- A plan inside another, reached by joins alone: q is begun at w′ on the way of p from w, and a refusal of q is one of p.
 pub data Inside (s : List ℕ) {B : Type 0} (d′ : B) (q : Plan B) (w′ : State) : (A : Type 0) → Plan A → State → Type 1 where
@@ -153,17 +168,22 @@ unfolding run
 same-state s d d′ (give a) u n h l = refl
 same-state s d d′ (refuse c) u n h l = refl
 same-state s {A} d d′ (read r k z) u n h l =
-    same-by {X = After A} {Y = After A} (λ x. x .state) (λ x. x .state) (ltb u (length s)) _ _ _ _ (same-state s d d′ (k (getD s u 0)) (u + 1) n h l) refl
+    same-by {X = After A} {Y = After A} (λ x. x .state) (λ x. x .state) (ltb u (length s)) _ _ _ _ (same-state s d d′ (k (getD s u 0)) (u + 1) n h l)
+    (same-state s d d′ z u n h l)
 same-state s {A} d d′ (write r p) u n h l =
     same-by {X = After A} {Y = After A} (λ x. x .state) (λ x. x .state) (ltb n (roomOf l)) _ _ _ _ (same-state s d d′ p u (n + 1) (noted r h) (rowAt l n r)) refl
 same-state s d d′ (look k) u n h l = same-state s d d′ (k h) u n h l
 same-state s d d′ (hold h′ p) u n h l = same-state s d d′ p u n h′ l
 
-module _ (s : List ℕ) {B : Type 0} (d′ : B) (q : Plan B) (w′ : State) (x : Error) (r : runFrom s d′ q w′ .state .progress .pace ≡ Stopped (Refused x)) where
-  passed : {A C : Type 0} (d : C) (f : A → Plan C) (v : A) (w : State) → w .progress .pace ≡ Stopped (Refused x)
+module _ (s : List ℕ) {B : Type 0} (d′ : B) (q : Plan B) (w′ : State) (x : Cause) (r : runFrom s d′ q w′ .state .progress .pace ≡ Stopped (haltOf x)) where
+  passed : {A C : Type 0} (d : C) (f : A → Plan C) (v : A) (w : State) → w .progress .pace ≡ Stopped (haltOf x)
       → nextAt s d f refuse v (w .progress .pace) w .state ≡ w
   unfolding nextAt run
-  passed d f v w g = rw g (rw (← g))
+  passed {A} d f v w g = by x g
+    where
+      by : (x : Cause) → w .progress .pace ≡ Stopped (haltOf x) → nextAt s d f refuse v (w .progress .pace) w .state ≡ w
+      by (failed e) g = rw g (rw (← g))
+      by ended g = rw g (rw (← g))
 
   went : {A C : Type 0} (d : C) (f : A → Plan C) (v : A) (w : State) → w .progress .pace ≡ Going
       → nextAt s d f refuse v (w .progress .pace) w .state ≡ runFrom s d (f v) w .state
@@ -200,7 +220,7 @@ module _ (s : List ℕ) {A : Type 0} (P : A → Type 0) where
   yields-refuse c d u n h l g = let z : _≡_ {A = ℕ} 0 1 = cc in absurd (omega arith)
 
   pub yields-handle : {B : Type 0} (d′ : B) (Q : B → Type 0) (f : B → Plan A) (g : Cause → Plan A) (p : Plan B)
-      → Yields s Q p → ((v : B) → Q v → Yields s P (f v)) → ((e : Error) → Yields s P (g (failed e))) → Yields s P (handle f g p)
+      → Yields s Q p → ((v : B) → Q v → Yields s P (f v)) → ((e : Cause) → Yields s P (g e)) → Yields s P (handle f g p)
   unfolding nextAt
   yields-handle {B} d′ Q f g p given next other d u n h l going = rw law (by (y .state .progress .pace) refl (rw law at going))
     where
@@ -214,15 +234,15 @@ module _ (s : List ℕ) {A : Type 0} (P : A → Type 0) where
           → nextAt s d f g (y .value) q (y .state) .state .progress .pace ≡ Going → P (nextAt s d f g (y .value) q (y .state) .value)
       by Going e r =
           next (y .value) (given d′ u n h l e) d (y .state .progress .used) (y .state .progress .rows) (y .state .progress .line) (y .state .list) r
-      by (Stopped (Refused x)) e r = other x d (y .state .progress .used) (y .state .progress .rows) (y .state .progress .line) (y .state .list) r
-      by (Stopped ScriptEnded) e r = let z : _≡_ {A = ℕ} 0 1 = cc in absurd (omega arith)
+      by (Stopped (Refused x)) e r = other (failed x) d (y .state .progress .used) (y .state .progress .rows) (y .state .progress .line) (y .state .list) r
+      by (Stopped ScriptEnded) e r = other ended d (y .state .progress .used) (y .state .progress .rows) (y .state .progress .line) (y .state .list) r
       by (Stopped TraceFull) e r = let z : _≡_ {A = ℕ} 0 1 = cc in absurd (omega arith)
 
   pub yields-then : {B : Type 0} (d′ : B) (p : Plan B) (f : B → Plan A) → ((v : B) → Yields s P (f v)) → Yields s P (p then f)
   yields-then {B} d′ p f next =
-      yields-handle d′ (λ (_ : B). Unit {0}) f refuse p (λ d u n h l g. tt) (λ v _. next v) (λ e. yields-refuse (failed e))
+      yields-handle d′ (λ (_ : B). Unit {0}) f refuse p (λ d u n h l g. tt) (λ v _. next v) yields-refuse
 
   pub yields-guard : A → (q : Plan Nothing) (p : Plan A) → Yields s P p → Yields s P (guard q p)
   yields-guard d q p given =
       yields-handle d P give (refusing q) p given (λ v e. yields-give v e)
-      (λ e. yields-then (tt {0}) q (λ _. refuse (failed e)) (λ _. yields-refuse (failed e)))
+      (λ e. yields-then (tt {0}) q (λ _. refuse e) (λ _. yields-refuse e))

@@ -13,18 +13,15 @@ use Rattle.types.specs.declared.clock.Clock.{Clock}
 use Rattle.types.specs.declared.clock.ClockAnswer.{ClockAnswer}
 use Rattle.types.specs.declared.clock.ClockAnswer.the-variants as Clocked
 use Rattle.types.specs.declared.error.Answer.the-variants as Answered
-use Rattle.types.specs.declared.error.Error.{Error}
 use Rattle.types.specs.declared.error.Error.the-variants as E
 use Rattle.types.specs.Leaf.{clockOf}
 use Rattle.types.specs.Sd.{sdSpec, tranSpeed, wideOf}
-use Rattle.tape.specs.declared.progress.Halt.the-variants.{Refused}
 use Rattle.tape.specs.declared.progress.Pace.the-variants.{Going, Stopped}
-use Rattle.tape.specs.Plan.{Nothing, failed, Plan, refuse, guard, ensure}
-use Rattle.tape.specs.Run.{State, at, After, run, runFrom}
-use Rattle.tape.specs.declared.progress.Line.{Line}
+use Rattle.tape.specs.Plan.{Nothing, Cause, Plan, refuse, guard, ensure}
+use Rattle.tape.specs.Run.{State, at, After, haltOf, run, runFrom}
 use Rattle.tape.specs.Steps.{resetController}
 use Rattle.host.proofs.Ran.{begun}
-use Rattle.refusals.proofs.Guards.{Guarded, guard-refused, Inside, inside-refused, here, first, later, Yields, yields-give, yields-refuse, yields-handle, yields-then, yields-guard}
+use Rattle.refusals.proofs.Guards.{one-cause, Guarded, guard-refused, Inside, inside-refused, here, first, later, Yields, yields-give, yields-refuse, yields-handle, yields-then, yields-guard}
 use Rattle.refusals.proofs.Reset.{ends-refused, ends-accepted, ResetAfter, reset-after}
 use Rattle.bus.specs.declared.transfer.Transfer.{Transfer}
 use Rattle.bus.specs.declared.response.Response.the-variants.{R1, R2}
@@ -35,8 +32,8 @@ use Rattle.init.specs.declared.settings.Settings.{Settings}
 use Rattle.init.specs.Initialise.{sourceOf, limitOf, noCard, beginInit, waitPowerUp, publish, cardOf, select, identify}
 use Rattle.init.specs.Initialise.{scrTransfer, blockLength, readScr, setWidth, transferClock, switchTransfer, offered, takeSwitch, askSwitch, switchSpeed, withScr, settleCard, initCard, initialise}
 use Rattle.host.specs.Calls.{Came, came, holding, dropped, freshLine, initFrom, initialised}
-use Rattle.host.specs.Calls.{made}
 use Rattle.host.specs.declared.host.Sdmmc.{Sdmmc}
+use Rattle.host.specs.Calls.{answerFor}
 
 -- The record of an initialisation has status zero.
 
@@ -62,7 +59,7 @@ init-zero s set c frequency =
     (λ _. yields-then s StatusZero (tt {0}) (transferClock set frequency (tranSpeed (wideOf (card .csd)))) _
     (λ _. yields-then s StatusZero (tt {0}) (switchSpeed set frequency (card .rca) scr) _
     (λ _. yields-give s StatusZero (withScr card scr) none)))))
-    (λ e. yields-refuse s StatusZero (failed e))))
+    (yields-refuse s StatusZero)))
 
 pub found-zero : (s : List ℕ) (set : Settings) (c : Clock) (frequency : ℕ) (l : List ℕ)
     → run s noCard (initialise set c frequency) 0 0 (freshLine (c .frequency)) l .state .progress .pace ≡ Going
@@ -92,7 +89,7 @@ module _ (host : Sdmmc) (frequency : ℕ) (s l : List ℕ) (some : 1 ≤ frequen
   unfolding initialised
   begins = rw (ne-eqb frequency 0 (λ e. omega arith), le-ltb 50_000_000 frequency most, set)
 
-  pub initialise-refused : (e : Error) → initialised host frequency s l .answer ≡ Answered.Refused e → ResetAfter e host initSteps (initialised host frequency s l)
+  pub initialise-refused : (e : Cause) → initialised host frequency s l .answer ≡ answerFor e → ResetAfter e host initSteps (initialised host frequency s l)
   unfolding initFrom initialise
   initialise-refused e r =
       let x = run s noCard (initialise (host .settings) c frequency) 0 0 (freshLine (c .frequency)) l in
@@ -124,11 +121,11 @@ module _ (host : Sdmmc) (frequency : ℕ) (s l : List ℕ) (some : 1 ≤ frequen
 
   -- Line 5, its end: 'inside initialisation the reset rows come twice'. A data phase begun at w on the way of the steps and
   -- refused: where the steps end its reset rows are written, and once more at the end of the call.
-  pub initialise-twice : (transfer : Transfer) (rca : ℕ) (w : State) (x e : Error)
+  pub initialise-twice : (transfer : Transfer) (rca : ℕ) (w : State) (x e : Cause)
       → Inside s [] (blockingData (sourceOf (host .settings)) (host .settings .config) transfer rca) w Card
       (initCard (host .settings) c frequency) (at (begun (freshLine (c .frequency))) l)
-      → runFrom s [] (blockingData (sourceOf (host .settings)) (host .settings .config) transfer rca) w .state .progress .pace ≡ Stopped (Refused x)
-      → initialised host frequency s l .answer ≡ Answered.Refused e
+      → runFrom s [] (blockingData (sourceOf (host .settings)) (host .settings .config) transfer rca) w .state .progress .pace ≡ Stopped (haltOf x)
+      → initialised host frequency s l .answer ≡ answerFor e
       → (x ≡ e) × Guarded x (runFrom s [] (transferData (sourceOf (host .settings)) (host .settings .config) transfer rca) w .state) initSteps
       × ResetAfter e host initSteps (initialised host frequency s l)
   unfolding blockingData
@@ -138,9 +135,9 @@ module _ (host : Sdmmc) (frequency : ℕ) (s l : List ℕ) (some : 1 ≤ frequen
       let once : Guarded x (runFrom s [] p w .state) initSteps =
       rw there (guard-refused s [] p (w .progress .used) (w .progress .rows) (w .progress .line) (w .list) x inner) in
       let again = initialise-refused e r in
-      let at-x : initSteps .progress .pace ≡ Stopped (Refused x) = once .reset .pace ∙ once .refused in
-      let at-e : initSteps .progress .pace ≡ Stopped (Refused e) = again .refused in
-      (cc, once, again)
+      let at-x : initSteps .progress .pace ≡ Stopped (haltOf x) = once .reset .pace ∙ once .refused in
+      let at-e : initSteps .progress .pace ≡ Stopped (haltOf e) = again .refused in
+      (one-cause x e (sym at-x ∙ at-e), once, again)
 
 -- The three data phases of initialisation, for the SCR and twice CMD6, are inside its steps: each where every step before it
 -- went through. First of what follows identification.

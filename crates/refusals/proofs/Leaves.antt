@@ -21,7 +21,6 @@ use Rattle.tape.specs.declared.progress.Pace.{Pace}
 use Rattle.tape.specs.declared.progress.Pace.the-variants.{Going, Stopped}
 use Rattle.tape.specs.Plan.{Nothing, Plan}
 use Rattle.tape.specs.Run.{State, at, run, runFrom}
-use Rattle.tape.specs.declared.progress.Line.{Line}
 use Rattle.tape.proofs.Laws.{by-cases, from-going}
 use Rattle.tape.proofs.Room.{Kept, keeps}
 use Rattle.tape.proofs.Words.{within-script}
@@ -32,16 +31,15 @@ use Rattle.init.specs.Initialise.{sourceOf, limitOf, noCard}
 use Rattle.init.specs.Initialise.{initialise}
 use Rattle.host.specs.Calls.{Came, untouched, holding, dropped, kept, ends, freshLine, initFrom, initialised}
 use Rattle.host.specs.Calls.{transferred, approached, served, readNext, readPlan, readFrom, readKnown, readCame}
-use Rattle.host.specs.Calls.{statusNext, statusPlan, statusCame, bufferOf, blocksFilled, made}
+use Rattle.host.specs.Calls.{statusNext, statusPlan, statusCame, bufferOf, blocksFilled}
 use Rattle.host.specs.declared.host.Sdmmc.{Sdmmc}
 
--- Line 6. '21, 22: rows so far, host as before', and what follows the table: 'The block buffer is written only when the whole
+-- Line 6, as request P3 changes it: '22: rows so far, host as before' (21 is in lines 3 to 5), and what follows the table: 'The block buffer is written only when the whole
 -- call is accepted. ... List words past those rows keep their contents.' Of every call, whatever its argument. (`Kept`, of
 -- the tape: the list is as long as it was, the rows are no more than there is room for, and the words past them stand.) The
 -- settings are those that the host was made with, so that its clock of identification is set (`identification-clock`). No call
 -- uses more words than its script has.
 pub record Leaves (host : Sdmmc) (s l : List ℕ) (x : Came) : Type 0 where
-  pub ended : x .answer ≡ Answered.ScriptEnded → x .host ≡ host
   pub full : x .answer ≡ Answered.TraceFull → x .host ≡ host
   pub taken : (x .answer ≡ Answered.Accepted → ⊥) → x .taken ≡ []
   pub words : x .words ≤ length s
@@ -51,7 +49,6 @@ pub record Leaves (host : Sdmmc) (s l : List ℕ) (x : Came) : Type 0 where
 untouched-leaves : (host : Sdmmc) (e : Error) (s l : List ℕ) → Leaves host s l (untouched host e l)
 untouched-leaves host e s l =
     record {
-      ended = λ r. refl;
       full = λ r. refl;
       taken = λ n. refl;
       words = omega arith;
@@ -64,7 +61,6 @@ ends-leaves : (host refused accepted : Sdmmc) (words s l : List ℕ) (q : Pace) 
 unfolding ends
 ends-leaves host refused accepted words s l Going w sr sa u k =
     record {
-      ended = λ r. let z : _≡_ {A = ℕ} 0 1 = cc in absurd (omega arith);
       full = λ r. let z : _≡_ {A = ℕ} 0 1 = cc in absurd (omega arith);
       taken = λ n. absurd (n refl);
       words = u;
@@ -73,7 +69,6 @@ ends-leaves host refused accepted words s l Going w sr sa u k =
     }
 ends-leaves host refused accepted words s l (Stopped (Refused x)) w sr sa u k =
     record {
-      ended = λ r. let z : _≡_ {A = ℕ} 0 1 = cc in absurd (omega arith);
       full = λ r. let z : _≡_ {A = ℕ} 0 1 = cc in absurd (omega arith);
       taken = λ n. refl;
       words = u;
@@ -81,9 +76,15 @@ ends-leaves host refused accepted words s l (Stopped (Refused x)) w sr sa u k =
       settings = sr;
     }
 ends-leaves host refused accepted words s l (Stopped ScriptEnded) w sr sa u k =
-    record { ended = λ r. refl; full = λ r. refl; taken = λ n. refl; words = u; rows = k; settings = refl }
+    record {
+      full = λ r. let z : _≡_ {A = ℕ} 0 1 = cc in absurd (omega arith);
+      taken = λ n. refl;
+      words = u;
+      rows = k;
+      settings = sr;
+    }
 ends-leaves host refused accepted words s l (Stopped TraceFull) w sr sa u k =
-    record { ended = λ r. refl; full = λ r. refl; taken = λ n. refl; words = u; rows = k; settings = refl }
+    record { full = λ r. refl; taken = λ n. refl; words = u; rows = k; settings = refl }
 
 -- a plan of a call that is going
 going-within : (s : List ℕ) {A : Type 0} (d : A) (p : Plan A) (w : State) → w .progress .pace ≡ Going → w .progress .used ≤ length s

@@ -6,30 +6,34 @@ use mathlib.Core.Path.{_≡_, refl, ap, _∙_}
 use native.Mathlib.Omega.{arith}
 use lib.ListN.{take, drop}
 use lib.Seq.{take-at, drop-at, length-take-le}
-use Rattle.types.specs.declared.clock.Clock.{Clock}
 use Rattle.types.specs.declared.error.Answer.the-variants as Answered
-use Rattle.types.specs.declared.error.Error.{Error}
 use Rattle.tape.specs.declared.progress.Halt.the-variants.{Refused, ScriptEnded, TraceFull}
 use Rattle.tape.specs.declared.progress.Pace.{Pace}
 use Rattle.tape.specs.declared.progress.Pace.the-variants.{Going, Stopped}
-use Rattle.tape.specs.Run.{State, at}
+use Rattle.tape.specs.Plan.{Cause, failed, ended}
+use Rattle.tape.specs.Run.{State, haltOf}
 use Rattle.tape.specs.declared.progress.Line.{Line}
 use Rattle.tape.specs.Rows.{placeOf, roomOf, wordsOf}
 use Rattle.refusals.proofs.Guards.{Guarded, clkcrCleared, resetLaid, resetRows}
 use Rattle.init.specs.Initialise.{noCard}
 use Rattle.host.specs.Calls.{Came, came, dropped, ends, hostOf}
 use Rattle.host.specs.declared.host.Sdmmc.{Sdmmc}
+use Rattle.host.specs.Calls.{answerFor}
 
 -- How a call has ended, from its answer.
 
 module _ (host refused accepted : Sdmmc) (words : List ℕ) (w : State) where
-  pub ends-refused : (q : Pace) (e : Error) → ends host refused accepted words q w .answer ≡ Answered.Refused e
-      → (q ≡ Stopped (Refused e)) × (ends host refused accepted words q w ≡ came (Answered.Refused e) w [] refused)
+  pub ends-refused : (q : Pace) (e : Cause) → ends host refused accepted words q w .answer ≡ answerFor e
+      → (q ≡ Stopped (haltOf e)) × (ends host refused accepted words q w ≡ came (answerFor e) w [] refused)
   unfolding ends
-  ends-refused Going e r = let z : _≡_ {A = ℕ} 0 1 = cc in absurd (omega arith)
-  ends-refused (Stopped (Refused x)) e r = let same : x ≡ e = cc in (rw same, rw same)
-  ends-refused (Stopped ScriptEnded) e r = let z : _≡_ {A = ℕ} 0 1 = cc in absurd (omega arith)
-  ends-refused (Stopped TraceFull) e r = let z : _≡_ {A = ℕ} 0 1 = cc in absurd (omega arith)
+  ends-refused Going (failed e) r = let z : _≡_ {A = ℕ} 0 1 = cc in absurd (omega arith)
+  ends-refused Going ended r = let z : _≡_ {A = ℕ} 0 1 = cc in absurd (omega arith)
+  ends-refused (Stopped (Refused x)) (failed e) r = let same : x ≡ e = cc in (rw same, rw same)
+  ends-refused (Stopped (Refused x)) ended r = let z : _≡_ {A = ℕ} 0 1 = cc in absurd (omega arith)
+  ends-refused (Stopped ScriptEnded) (failed e) r = let z : _≡_ {A = ℕ} 0 1 = cc in absurd (omega arith)
+  ends-refused (Stopped ScriptEnded) ended r = (refl, refl)
+  ends-refused (Stopped TraceFull) (failed e) r = let z : _≡_ {A = ℕ} 0 1 = cc in absurd (omega arith)
+  ends-refused (Stopped TraceFull) ended r = let z : _≡_ {A = ℕ} 0 1 = cc in absurd (omega arith)
 
   pub ends-accepted : (q : Pace) → ends host refused accepted words q w .answer ≡ Answered.Accepted
       → (q ≡ Going) × (ends host refused accepted words q w ≡ came Answered.Accepted w words accepted)
@@ -41,9 +45,9 @@ module _ (host refused accepted : Sdmmc) (words : List ℕ) (w : State) where
 
 -- A refused call whose steps were refused at w: then the ten reset rows, and no record. (Clock, signalling and gate stand as
 -- they were there, and CLKCR is 0.)
-pub record ResetAfter (e : Error) (host : Sdmmc) (w : State) (x : Came) : Type 0 where
-  pub refused : w .progress .pace ≡ Stopped (Refused e)
-  pub answer : x .answer ≡ Answered.Refused e
+pub record ResetAfter (e : Cause) (host : Sdmmc) (w : State) (x : Came) : Type 0 where
+  pub refused : w .progress .pace ≡ Stopped (haltOf e)
+  pub answer : x .answer ≡ answerFor e
   pub words : x .words ≡ w .progress .used
   pub rows : x .rows ≡ w .progress .rows + 10
   pub room : w .progress .rows + 10 ≤ roomOf (w .list)
@@ -52,7 +56,7 @@ pub record ResetAfter (e : Error) (host : Sdmmc) (w : State) (x : Came) : Type 0
   pub next : x .host ≡ hostOf (host .settings) (clkcrCleared (w .progress .line)) false noCard
 
 -- so the last ten of the rows that it wrote are the reset rows
-pub reset-last : {e : Error} {host : Sdmmc} {w : State} {x : Came} → ResetAfter e host w x
+pub reset-last : {e : Cause} {host : Sdmmc} {w : State} {x : Came} → ResetAfter e host w x
     → take 20 (drop (placeOf (x .rows - 10)) (x .list)) ≡ wordsOf resetRows
 unfolding wordsOf
 reset-last {w = w} {x = x} r =
@@ -64,7 +68,7 @@ reset-last {w = w} {x = x} r =
     ∙ ap (take 20) (drop-at (take (2 * n) (w .list)) rest (2 * n) (length-take-le (2 * n) (w .list) (omega (arith, r .room))))
     ∙ take-at (wordsOf resetRows) (drop (2 * (n + 10)) (w .list)) 20 refl)
 
-pub reset-after : {e : Error} {host : Sdmmc} {w w′ : State} {x : Came} → Guarded e w w′ → x ≡ came (Answered.Refused e) w′ [] (dropped host w′)
+pub reset-after : {e : Cause} {host : Sdmmc} {w w′ : State} {x : Came} → Guarded e w w′ → x ≡ came (answerFor e) w′ [] (dropped host w′)
     → ResetAfter e host w x
 reset-after {e} {host} {w} {w′} g same =
     rw same

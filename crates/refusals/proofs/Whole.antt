@@ -1,6 +1,6 @@
 -- Theorems about whole calls. Each call does what its one plan does (`initialise-ran`, `read-ran`, `status-ran`); from that, of
--- every call: when it answers 22, and how many rows it has then written; that at 21 all words were used; whence a 17 comes; and
--- that an accepted read has filled its whole buffer.
+-- every call: when it answers 22, and how many rows it has then written; whence a 17 comes; and that an accepted read has filled
+-- its whole buffer. (21: Ended.antt.)
 use Prim.Native.Nat.{ℕ, _+_, _*_, _-_, _/_, _%_, _≤_, _<_, _^_, min}
 use mathlib.Core.Bool.{Bool, true, false, cond, _||_}
 use mathlib.Core.List.{List, [], append-nil}
@@ -179,7 +179,7 @@ read-room host index bytes s l = room [] (readWhole host index bytes) (host .lin
 pub status-room : (host : Sdmmc) (s l : List ℕ) → Roomed l (wouldWrite s [] (statusWhole host) (host .line)) (statusCame host s l)
 status-room host s l = room [] (statusWhole host) (host .line) s l _ (status-ran host s l)
 
--- 21 and 17, from what holds along a call's plan.
+-- 17, from what holds along a call's plan.
 
 refused-pace : (q : Pace) (e : Error) → answerOf q ≡ Answered.Refused e → q ≡ Stopped (Refused e)
 refused-pace Going e r = let z : _≡_ {A = ℕ} 0 1 = cc in absurd (omega arith)
@@ -187,22 +187,18 @@ refused-pace (Stopped (Refused x)) e r = let same : x ≡ e = cc in rw same
 refused-pace (Stopped ScriptEnded) e r = let z : _≡_ {A = ℕ} 0 1 = cc in absurd (omega arith)
 refused-pace (Stopped TraceFull) e r = let z : _≡_ {A = ℕ} 0 1 = cc in absurd (omega arith)
 
-ended-pace : (q : Pace) → answerOf q ≡ Answered.ScriptEnded → q ≡ Stopped ScriptEnded
+pub ended-pace : (q : Pace) → answerOf q ≡ Answered.ScriptEnded → q ≡ Stopped ScriptEnded
 ended-pace Going r = let z : _≡_ {A = ℕ} 0 1 = cc in absurd (omega arith)
 ended-pace (Stopped (Refused x)) r = let z : _≡_ {A = ℕ} 0 1 = cc in absurd (omega arith)
 ended-pace (Stopped ScriptEnded) r = refl
 ended-pace (Stopped TraceFull) r = let z : _≡_ {A = ℕ} 0 1 = cc in absurd (omega arith)
-
-all-used : {A : Type 0} {rule : Rule} {s : List ℕ} {x : Came} {y : After A} → Ran x y → Obeyed rule s 0 y
-    → x .answer ≡ Answered.ScriptEnded → x .words ≡ length s
-all-used ran o r = ran .words ∙ o .ended (ended-pace _ (sym (ran .answer) ∙ r)) (omega arith)
 
 allowed-error : {A : Type 0} {rule : Rule} {s : List ℕ} {x : Came} {y : After A} → Ran x y → Obeyed rule s 0 y
     → (e : Error) → x .answer ≡ Answered.Refused e → rule .refuses e
 allowed-error ran o e r = o .refused e (refused-pace _ e (sym (ran .answer) ∙ r))
 
 -- reads and status calls are refused with no BadClock
-abbrev unclocked : Rule
+abbrev pub unclocked : Rule
 unclocked = record { holds = λ h. Unit {0}; writes = λ r. Unit {0}; refuses = Other; noted = λ r h i. tt }
 
 units-other : (class : CardCapacity) (index : ℕ) (e : Error) → unitsOf class index ≡ Address.Refused e → Other e
@@ -225,7 +221,7 @@ address-other class blocks index count e r z = by (eqb count 0 || ltb 511 count)
     by false false r = units-other class index e r z
 
 module _ (host : Sdmmc) where
-  read-walk : (index bytes : ℕ) → Obeys unclocked (List ℕ) (readWhole host index bytes)
+  pub read-walk : (index bytes : ℕ) → Obeys unclocked (List ℕ) (readWhole host index bytes)
   unfolding readWhole readAt errorTold
   read-walk index bytes =
       on-test (host .known)
@@ -239,7 +235,7 @@ module _ (host : Sdmmc) where
       at (Address.Refused e) r = on-fail (address-other _ _ _ _ e r)
       at (Address.Address a) r = on-then (ready-obeys unclocked (λ e o. o) (λ r o. tt) _ _ _) (λ _. data-obeys unclocked (λ e o. o) (λ r o. tt) (λ r. tt) _ _ _ _)
 
-  status-walk : Obeys unclocked (List ℕ) (statusWhole host)
+  pub status-walk : Obeys unclocked (List ℕ) (statusWhole host)
   unfolding statusWhole errorTold
   status-walk =
       on-test (host .known) (on-then (app-obeys unclocked (λ e o. o) (λ r o. tt) _ _) (λ _. data-obeys unclocked (λ e o. o) (λ r o. tt) (λ r. tt) _ _ _ _)) (on-fail (λ z. omega arith))
@@ -250,13 +246,6 @@ module _ (host : Sdmmc) where
 
     status-obeyed : Obeyed unclocked s 0 (run s [] (statusWhole host) 0 0 (host .line) l)
     status-obeyed = run-obeys unclocked s [] (statusWhole host) 0 0 (host .line) l (status-walk .each) tt
-
-    -- at 21 every word of the script was used
-    pub read-21 : (index bytes : ℕ) → readCame host index bytes s l .answer ≡ Answered.ScriptEnded → readCame host index bytes s l .words ≡ length s
-    read-21 index bytes = all-used (read-ran host s l index bytes) (read-obeyed index bytes)
-
-    pub status-21 : statusCame host s l .answer ≡ Answered.ScriptEnded → statusCame host s l .words ≡ length s
-    status-21 = all-used (status-ran host s l) status-obeyed
 
     -- neither is refused with 17
     pub read-not-17 : (index bytes : ℕ) (e : Error) → readCame host index bytes s l .answer ≡ Answered.Refused e → errorTold e .number ≡ 17 → ⊥
@@ -274,31 +263,20 @@ pub data Whence17 (host : Sdmmc) (frequency : ℕ) : Type 0 where
 
 module _ (host : Sdmmc) (from2 : 2 ≤ sourceOf (host .settings)) (c : Clock) (clocked : clockOf (sourceOf (host .settings)) 400_000 false ≡ Clocked.Set c) (frequency : ℕ) (s l : List ℕ) where
   -- one of allowed frequency
-  steps : After Card
+  abbrev pub steps : After Card
   steps = run s noCard (initialise (host .settings) c frequency) 0 0 (freshLine (c .frequency)) l
 
-  steps-ran : Ran (initFrom host frequency (Clocked.Set c) s l) steps
-  unfolding initFrom steps
+  pub steps-ran : Ran (initFrom host frequency (Clocked.Set c) s l) steps
+  unfolding initFrom
   steps-ran = ends-ran (steps .value) host (dropped host (steps .state)) (holding host (steps .state) (steps .value)) [] (steps .state)
 
   steps-obeyed : Obeyed (clockRule (host .settings)) s 0 steps
-  unfolding steps
   steps-obeyed =
       let f = fair _ 400_000 false c from2 clocked in
       run-obeys (clockRule (host .settings)) s noCard (initialise (host .settings) c frequency) 0 0 (freshLine (c .frequency)) l
       (initialise-obeys (host .settings) from2 c frequency f .each) f
 
-  -- at 21 every word of the script was used
-  pub initialise-21 : initialised host frequency s l .answer ≡ Answered.ScriptEnded → initialised host frequency s l .words ≡ length s
-  unfolding initialised
-  initialise-21 r = rw clocked (by (eqb frequency 0 || ltb 50_000_000 frequency) (rw clocked at r))
-    where
-      by : (b : Bool) → cond b (untouched host E.BadClock l) (initFrom host frequency (Clocked.Set c) s l) .answer ≡ Answered.ScriptEnded
-          → cond b (untouched host E.BadClock l) (initFrom host frequency (Clocked.Set c) s l) .words ≡ length s
-      by true r = let z : _≡_ {A = ℕ} 0 1 = cc in absurd (omega arith)
-      by false r = all-used steps-ran steps-obeyed r
-
-  -- and a 17 is never the delay's own
+  -- a 17 is never the delay's own
   pub initialise-17 : initialised host frequency s l .answer ≡ Answered.Refused E.BadClock → Whence17 host frequency
   unfolding initialised errorTold
   initialise-17 r = by (eqb frequency 0 || ltb 50_000_000 frequency) refl (rw clocked at r)

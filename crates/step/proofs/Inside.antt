@@ -5,8 +5,8 @@ use mathlib.Core.Bool.{true}
 use mathlib.Core.List.{List}
 use Rattle.tape.specs.declared.progress.Line.{Line}
 use Rattle.tape.specs.Plan.{Plan}
-use Rattle.step.specs.Next.{Next, asks, tells, over, refused, next, heard, told, wantOf, waits, lineAfter}
-use Rattle.step.specs.Context.{Context, plug, plugNext, next-plug, wants-plug, heard-plug, told-plug, line-plug}
+use Rattle.step.specs.Next.{Next, asks, tells, over, refused, next, heard, told, missed, wantOf, waits, lineAfter}
+use Rattle.step.specs.Context.{Context, plug, plugNext, next-plug, wants-plug, heard-plug, missed-plug, told-plug, line-plug}
 use Rattle.step.specs.Command.{commandPlan, commandNext}
 use Rattle.step.specs.declared.command.Command.{Command}
 use Rattle.step.specs.declared.command.CommandStep.{CommandStep}
@@ -29,6 +29,9 @@ module _ {A B : Type 0} (k : Context B A) (p : Plan A) (h : Line) (waiting : wai
 
   pub inside-heard : (w : ℕ) → plugNext k (heard (next p h) w) ≡ heard (next (plug k p) h) w
   inside-heard w = sym (ap (λ (x : Next B). heard x w) (next-plug k p h) ∙ heard-plug k (next p h) w waiting)
+
+  pub inside-missed : plugNext k (missed (next p h)) ≡ missed (next (plug k p) h)
+  inside-missed = sym (ap missed (next-plug k p h) ∙ missed-plug k (next p h) waiting)
 
   pub inside-told : plugNext k (told (next p h)) ≡ told (next (plug k p) h)
   inside-told = sym (ap told (next-plug k p h) ∙ told-plug k (next p h) waiting)

@@ -8,13 +8,13 @@ use Rattle.tape.specs.declared.progress.Line.{Line}
 use lib.Dec.{eqb}
 use Rattle.types.specs.Bits.{clear}
 use Rattle.tape.specs.declared.script.Reading.the-variants as Reading
-use Rattle.tape.specs.Plan.{handle, _then_, fail, until, ensure}
+use Rattle.tape.specs.Plan.{ended, refuse, handle, _then_, fail, until, ensure}
 use Rattle.tape.specs.Steps.{word, row, waitIdle, setClken}
 use Rattle.bus.specs.declared.response.Form.{Form}
 use Rattle.bus.specs.declared.response.Response.{Response}
 use Rattle.bus.specs.Command.{formOf, waitCompletion, pollCompletion, responseWords, judge, issue, complete, commandInner, command}
-use Rattle.step.specs.Next.{Next, next, heard, told, wantOf, lineAfter, waits}
-use Rattle.step.specs.Context.{plug, heard-read, wants-read, waits-read, waits-write, told-read, line-read, heard-write, told-write, line-write}
+use Rattle.step.specs.Next.{Next, next, heard, told, missed, wantOf, lineAfter, waits}
+use Rattle.step.specs.Context.{plug, heard-read, missed-read, missed-write, wants-read, waits-read, waits-write, told-read, line-read, heard-write, told-write, line-write}
 use Rattle.step.specs.Command.{endNext, shut, within, polling, polledAt, tellsPlan, asksPlan, partPlan, begunPlan, readingOf}
 use Rattle.step.specs.declared.command.Ended.{Ended}
 use Rattle.step.specs.declared.command.Ended.the-variants.{Well, Badly}
@@ -117,6 +117,25 @@ module _ (limit index argument : ℕ) (response : Response) (gate : Bool) (h : L
   unasked T.Argument w = sym (heard-write (shut gate) h _ _ w)
   unasked T.Order w = sym (heard-write (shut gate) h _ _ w)
   unasked (T.Close x) w = refl
+
+  -- where no word will come
+  pub unanswered : (a : Asks) → next (plug (shut gate) (refuse ended)) h ≡ missed (asking a)
+  unfolding asksPlan within polling waitIdle waitCompletion pollCompletion until responseWords word handle plug
+  unanswered (A.Idle n) = sym (missed-read (shut gate) h _ _ _)
+  unanswered (A.Poll n) = sym (missed-read (shut gate) h _ _ _)
+  unanswered A.Echo = sym (missed-read (shut gate) h _ _ _)
+  unanswered A.First = sym (missed-read (shut gate) h _ _ _)
+  unanswered (A.Second a) = sym (missed-read (shut gate) h _ _ _)
+  unanswered (A.Third a b) = sym (missed-read (shut gate) h _ _ _)
+  unanswered (A.Fourth a b c) = sym (missed-read (shut gate) h _ _ _)
+
+  pub unmissed : (t : Tells) → telling t h ≡ missed (telling t h)
+  unfolding tellsPlan issue setClken row handle plug next missed
+  unmissed T.Open = refl
+  unmissed T.Icr = sym (missed-write (shut gate) h _ _)
+  unmissed T.Argument = sym (missed-write (shut gate) h _ _)
+  unmissed T.Order = sym (missed-write (shut gate) h _ _)
+  unmissed (T.Close x) = refl
 
   abbrev Unwritten : Asks → Type 0
   Unwritten a = next (asksPlan limit index argument response gate a) (lineAfter (asking a)) ≡ told (asking a)

@@ -13,19 +13,22 @@ use Rattle.types.specs.declared.error.Error.the-variants as E
 use Rattle.types.specs.declared.status.DataAnswer.the-variants.{Clean, Failed}
 use Rattle.tape.specs.declared.progress.Line.{Line}
 use Rattle.tape.specs.declared.rows.Row.{Row}
-use Rattle.tape.specs.Plan.{Nothing, Plan, failed, give, fail, handle, ensure, until}
+use Rattle.tape.specs.Plan.{Nothing, Plan, give, fail, handle, ensure, until}
 use Rattle.tape.specs.Run.{noted}
 use Rattle.tape.specs.Steps.{word, row, waitIdle, stopData, resetController, setClken, dataFrom, dataWords}
 use Rattle.bus.specs.declared.response.Response.the-variants.{R1}
 use Rattle.bus.specs.declared.transfer.Transfer.{Transfer}
 use Rattle.bus.specs.Ready.{waitReady}
 use Rattle.bus.specs.Transfer.{arm, startData, clean, pollTransfer, drained, settle, dataComplete, waitData, receive, closeGate, stopTransmission, endData, transferData, blockingData}
-use Rattle.step.specs.Next.{Next, tells, over, refused, next, heard, told, wantOf, waits, lineAfter}
+use Rattle.step.specs.Next.{Next, tells, over, refused, next, heard, told, missed, wantOf, waits, lineAfter}
 use Rattle.step.specs.Context.{plug, plugNext, next-plug}
 use Rattle.step.specs.Command.{commandPlan, commandNext, endNext, begunPlan, begunNext}
 use Rattle.step.specs.Rows.{rowsFrom, resetRows, armRows, stopRows}
 use Rattle.step.specs.Reset.{restLeft, stepLeft, all-rows}
 use Rattle.step.specs.Arm.{armRest, armNext, all-arm, stopRest, stopNext, all-stop}
+use Rattle.step.specs.Why.{causeOf}
+use Rattle.step.specs.declared.why.Why.the-variants as Y
+use Rattle.step.specs.declared.why.Why.{Why}
 use Rattle.step.specs.Ready.{limitAt, readyPlan, readyNext}
 use Rattle.step.specs.Transfer.{transferOf, topOf, placeOf, afterOf, allOf, readingAt, phasePlan, received, armed, startSite, ending, stopping, unclocked, stopSite, closing, refusal, idling, polling, taking, readsPlan, stopped, writesPlan, rowAt, toldPlan, dataPlan}
 use Rattle.step.specs.declared.arm.Arm.{Arm}
@@ -87,11 +90,11 @@ module _ (bus : Bus) (phase : Phase) (h : Line) where
   begins = refl
 
   -- a refusal: the guard's reset rows, and then the refusal
-  pub refusing : (ws : List ℕ) (e : Error) → telling ws (W.Reset Re.Mask e) ≡ next (refusal bus phase e) h
+  pub refusing : (ws : List ℕ) (e : Why) → telling ws (W.Reset Re.Mask e) ≡ next (refusal bus phase e) h
   unfolding writesPlan refusal plug handle
   refusing ws e = ap (λ (rs : List Row). next (plug (closing bus phase e) (rowsFrom rs)) h) all-rows ∙ rw (← reset-rows)
 
-  pub idle-over : next (refusal bus phase E.SoftwareTimeout) h ≡ next (idling bus phase 0) h
+  pub idle-over : next (refusal bus phase (Y.Failed E.SoftwareTimeout)) h ≡ next (idling bus phase 0) h
   unfolding refusal idling waitIdle until handle plug
   idle-over = refl
 
@@ -99,7 +102,7 @@ module _ (bus : Bus) (phase : Phase) (h : Line) where
   unfolding readsPlan
   idle-goes ws n = refl
 
-  pub polls-over : next (refusal bus phase E.SoftwareTimeout) h ≡ next (polling bus phase 0) h
+  pub polls-over : next (refusal bus phase (Y.Failed E.SoftwareTimeout)) h ≡ next (polling bus phase 0) h
   unfolding refusal polling until handle plug
   polls-over = refl
 
@@ -116,7 +119,7 @@ module _ (bus : Bus) (phase : Phase) (h : Line) where
       (e ∙ ap (λ (p : Plan (List ℕ)). next p h) (parts.begins-inner (limitAt bus) (transferOf phase .index) (transferOf phase .argument) R1))
 
   pub starts-failed : (ws : List ℕ) → begunNext B.Spent h ≡ next (begunPlan (limitAt bus) (transferOf phase .index) (transferOf phase .argument) R1 false) h
-      → next (refusal bus phase E.SoftwareTimeout) h ≡ next (toldPlan bus phase ws W.Open) h
+      → next (refusal bus phase (Y.Failed E.SoftwareTimeout)) h ≡ next (toldPlan bus phase ws W.Open) h
   unfolding refusal toldPlan begunNext startSite handle plug
   starts-failed ws e =
       same-plug (startSite bus phase) (fail E.SoftwareTimeout) _ h
@@ -130,7 +133,7 @@ module _ (bus : Bus) (phase : Phase) (h : Line) where
   unfolding polling startSite commandNext endNext plugNext receive waitData handle plug next
   starting-well w = refl
 
-  pub starting-badly : (e : Error) → next (refusal bus phase e) h ≡ plugNext (startSite bus phase) (commandNext (C.Over (X.Badly e)) h)
+  pub starting-badly : (e : Why) → next (refusal bus phase e) h ≡ plugNext (startSite bus phase) (commandNext (C.Over (X.Badly e)) h)
   unfolding refusal startSite commandNext endNext plugNext handle plug next
   starting-badly e = refl
 
@@ -143,7 +146,7 @@ module _ (bus : Bus) (phase : Phase) (h : Line) where
   unfolding readyNext ending plugNext handle plug next
   waiting-done ws = refl
 
-  pub waiting-failed : (ws : List ℕ) (e : Error) → next (refusal bus phase e) h ≡ plugNext (ending bus phase ws) (readyNext bus (RS.Failed e) h)
+  pub waiting-failed : (ws : List ℕ) (e : Why) → next (refusal bus phase e) h ≡ plugNext (ending bus phase ws) (readyNext bus (RS.Failed e) h)
   unfolding readyNext refusal ending plugNext handle plug
   waiting-failed ws e = refl
 
@@ -159,7 +162,7 @@ module _ (bus : Bus) (phase : Phase) (h : Line) where
   unfolding stopSite commandNext endNext plugNext handle plug next
   stopping-well ws w = sym (next-plug (ending bus phase ws) ready h)
 
-  pub stopping-badly : (ws : List ℕ) (e : Error) → next (refusal bus phase e) h ≡ plugNext (stopSite bus phase ws) (commandNext (C.Over (X.Badly e)) h)
+  pub stopping-badly : (ws : List ℕ) (e : Why) → next (refusal bus phase e) h ≡ plugNext (stopSite bus phase ws) (commandNext (C.Over (X.Badly e)) h)
   unfolding refusal stopSite ending commandNext endNext plugNext handle plug next
   stopping-badly ws e = refl
 
@@ -180,7 +183,7 @@ module _ (bus : Bus) (phase : Phase) (h : Line) where
     stops-on c e b = same-plug (stopSite bus phase ws) _ _ h b ∙ stops e
 
     pub stops-failed : eqb (transferOf phase .index) 18 ≡ true → begunNext B.Spent h ≡ next (begunPlan (limitAt bus) 12 0 R1 gated) h
-        → next (refusal bus phase E.SoftwareTimeout) h ≡ next (plug (unclocked bus phase ws) (give tt)) h
+        → next (refusal bus phase (Y.Failed E.SoftwareTimeout)) h ≡ next (plug (unclocked bus phase ws) (give tt)) h
     unfolding begunNext refusal stopSite ending handle plug
     stops-failed e b = same-plug (stopSite bus phase ws) (fail E.SoftwareTimeout) _ h b ∙ stops e
 
@@ -194,11 +197,11 @@ module _ (bus : Bus) (phase : Phase) (h : Line) where
 
   -- after a row
   module _ (ws : List ℕ) where
-    pub reset-on : (r r′ : Reset) (e : Error) → stepLeft (ReS.At r′) ≡ restLeft r → telling ws (W.Reset r′ e) ≡ next (toldPlan bus phase ws (W.Reset r e)) h
+    pub reset-on : (r r′ : Reset) (e : Why) → stepLeft (ReS.At r′) ≡ restLeft r → telling ws (W.Reset r′ e) ≡ next (toldPlan bus phase ws (W.Reset r e)) h
     unfolding writesPlan toldPlan stepLeft
     reset-on r r′ e p = ap (λ (rs : List Row). next (plug (closing bus phase e) (rowsFrom rs)) h) p
 
-    pub reset-done : (r : Reset) (e : Error) → stepLeft ReS.Done ≡ restLeft r → refused h (failed e) ≡ next (toldPlan bus phase ws (W.Reset r e)) h
+    pub reset-done : (r : Reset) (e : Why) → stepLeft ReS.Done ≡ restLeft r → refused h (causeOf e) ≡ next (toldPlan bus phase ws (W.Reset r e)) h
     unfolding toldPlan stepLeft plug handle rowsFrom next
     reset-done r e p = ap (λ (rs : List Row). next (plug (closing bus phase e) (rowsFrom rs)) h) p
 
@@ -221,6 +224,17 @@ module _ (bus : Bus) (phase : Phase) (h : Line) where
     stop-done r p = ap (λ (rs : List Row). next (plug (stopping bus phase ws) (rowsFrom rs)) h) p
 
     -- after a word
+    -- where no word will come
+    pub unanswered : (r : Reads) → next (refusal bus phase Y.NoWord) h ≡ missed (asking ws r)
+    unfolding readsPlan refusal idling waitIdle polling until dataComplete pollTransfer settle dataFrom word handle plug next missed
+    unanswered (R.Idle n) = refl
+    unanswered (R.First n) = refl
+    unanswered (R.FirstDma n v) = refl
+    unanswered (R.Again n) = refl
+    unanswered (R.AgainDma n v) = refl
+    unanswered (R.Count n) = refl
+    unanswered (R.Word m) = refl
+
     pub idle-ends : (n w : ℕ) → clear 0x3800 w ≡ true → telling ws (W.Arm Ar.Dctrl2) ≡ heard (asking ws (R.Idle n)) w
     unfolding writesPlan readsPlan idling waitIdle until word handle plug next heard
     idle-ends n w e = ap (λ (rs : List Row). next (plug (armed bus phase) (rowsFrom rs)) h) (all-arm timeout (transferOf phase)) ∙ rw (e, ← arm-rows)
@@ -233,11 +247,11 @@ module _ (bus : Bus) (phase : Phase) (h : Line) where
     unfolding readsPlan polling until dataComplete pollTransfer clean word handle plug next heard
     first-clean n w e = rw e
 
-    pub first-bad : (n w : ℕ) (x : Error) → dataOf w ≡ Failed x → next (refusal bus phase x) h ≡ heard (asking ws (R.First n)) w
+    pub first-bad : (n w : ℕ) (x : Error) → dataOf w ≡ Failed x → next (refusal bus phase (Y.Failed x)) h ≡ heard (asking ws (R.First n)) w
     unfolding readsPlan refusal polling until dataComplete pollTransfer clean word handle plug next heard
     first-bad n w x e = rw e
 
-    pub dma-bad : (n v w : ℕ) → clear 0x8000_0000 w ≡ false → next (refusal bus phase E.Dma) h ≡ heard (asking ws (R.FirstDma n v)) w
+    pub dma-bad : (n v w : ℕ) → clear 0x8000_0000 w ≡ false → next (refusal bus phase (Y.Failed E.Dma)) h ≡ heard (asking ws (R.FirstDma n v)) w
     unfolding readsPlan refusal ensure word handle plug next heard
     dma-bad n v w e = rw e
 
@@ -253,11 +267,11 @@ module _ (bus : Bus) (phase : Phase) (h : Line) where
     unfolding readsPlan settle pollTransfer clean word handle plug next heard
     again-clean n w e = rw e
 
-    pub again-bad : (n w : ℕ) (x : Error) → dataOf w ≡ Failed x → next (refusal bus phase x) h ≡ heard (asking ws (R.Again n)) w
+    pub again-bad : (n w : ℕ) (x : Error) → dataOf w ≡ Failed x → next (refusal bus phase (Y.Failed x)) h ≡ heard (asking ws (R.Again n)) w
     unfolding readsPlan refusal settle pollTransfer clean word handle plug next heard
     again-bad n w x e = rw e
 
-    pub settle-bad : (n v w : ℕ) → clear 0x8000_0000 w ≡ false → next (refusal bus phase E.Dma) h ≡ heard (asking ws (R.AgainDma n v)) w
+    pub settle-bad : (n v w : ℕ) → clear 0x8000_0000 w ≡ false → next (refusal bus phase (Y.Failed E.Dma)) h ≡ heard (asking ws (R.AgainDma n v)) w
     unfolding readsPlan refusal ensure word handle plug next heard
     settle-bad n v w e = rw e
 
@@ -267,7 +281,7 @@ module _ (bus : Bus) (phase : Phase) (h : Line) where
     settle-goes n v w e f = rw (e, f)
 
     pub settle-remains : (n v w : ℕ) → clear 0x8000_0000 w ≡ true → (clear 0x100 v || not (clear 0x3000 v)) ≡ false
-        → eqb (w % 2 ^ 16) 0 ≡ false → next (refusal bus phase E.IncompleteTransfer) h ≡ heard (asking ws (R.AgainDma n v)) w
+        → eqb (w % 2 ^ 16) 0 ≡ false → next (refusal bus phase (Y.Failed E.IncompleteTransfer)) h ≡ heard (asking ws (R.AgainDma n v)) w
     unfolding readsPlan refusal drained ensure word handle plug next heard
     settle-remains n v w e f z = rw (e, f, z)
 
@@ -276,7 +290,7 @@ module _ (bus : Bus) (phase : Phase) (h : Line) where
     unfolding readsPlan drained ensure word handle plug next heard
     settle-drained n v w e f z = rw (e, f, z)
 
-    pub count-bad : (n w : ℕ) → eqb w 0 ≡ false → next (refusal bus phase E.IncompleteTransfer) h ≡ heard (asking ws (R.Count n)) w
+    pub count-bad : (n w : ℕ) → eqb w 0 ≡ false → next (refusal bus phase (Y.Failed E.IncompleteTransfer)) h ≡ heard (asking ws (R.Count n)) w
     unfolding readsPlan refusal ensure word handle plug next heard
     count-bad n w e = rw e
 
@@ -390,6 +404,10 @@ module _ (bus : Bus) (phase : Phase) (ws : List ℕ) (h : Line) where
   writes-wait : (t : Writes) → waits (next (writesPlan bus phase ws t) h) ≡ true
   unfolding waits
   writes-wait t = ap waits (rowed t .same)
+
+  pub writes-missed : (t : Writes) → next (writesPlan bus phase ws t) h ≡ missed (next (writesPlan bus phase ws t) h)
+  unfolding missed
+  writes-missed t = rowed t .same ∙ sym (ap missed (rowed t .same))
 
   pub writes-heard : (t : Writes) (w : ℕ) → next (writesPlan bus phase ws t) h ≡ heard (next (writesPlan bus phase ws t) h) w
   unfolding heard

@@ -4,7 +4,6 @@ use mathlib.Core.Path.{_≡_, refl, ap, sym, _∙_}
 use mathlib.Core.Bool.{Bool, true, false, cond}
 use Rattle.types.specs.Leaf.{roundedUp}
 use Rattle.types.specs.Sd.{readyOf}
-use Rattle.types.specs.declared.error.Error.{Error}
 use Rattle.types.specs.declared.error.Error.the-variants as E
 use Rattle.tape.specs.declared.progress.Line.{Line}
 use Rattle.tape.specs.Plan.{Nothing, failed, give, fail, _then_, handle, until}
@@ -16,6 +15,8 @@ use Rattle.bus.specs.Ready.{retryDelay, readStatus, tryReady, waitReady}
 use Rattle.step.specs.Next.{Next, over, refused, next, told, wantOf, waits, lineAfter}
 use Rattle.step.specs.Context.{Context, plug, plugNext, next-plug}
 use Rattle.step.specs.Command.{commandPlan, commandNext, endNext, listOf, begunPlan, begunNext}
+use Rattle.step.specs.Why.{causeOf}
+use Rattle.step.specs.declared.why.Why.{Why}
 use Rattle.step.specs.Ready.{limitAt, attempts, tried, asked, readyPlan, readyNext}
 use Rattle.step.specs.declared.command.Begun.the-variants as B
 use Rattle.step.specs.declared.command.Command.{Command}
@@ -74,7 +75,7 @@ module _ (bus : Bus) (h : Line) where
     unfolding commandNext endNext plugNext next
     asking-well w = refl
 
-    pub asking-badly : (e : Error) → refused h (failed e) ≡ plugNext (asked bus n) (commandNext (C.Over (X.Badly e)) h)
+    pub asking-badly : (e : Why) → refused h (causeOf e) ≡ plugNext (asked bus n) (commandNext (C.Over (X.Badly e)) h)
     unfolding commandNext endNext plugNext asked handle plug next
     asking-badly e = refl
 

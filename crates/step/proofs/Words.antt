@@ -8,7 +8,7 @@ use borrow.Author.Tests.{lt-ltb}
 use lib.Seq.{take-all}
 use Rattle.tape.specs.declared.script.Reading.{Reading}
 use Rattle.tape.specs.declared.script.Reading.the-variants as Reading
-use Rattle.tape.specs.Plan.{Plan, failed, ended, give, refuse, read, write, look, hold, handle}
+use Rattle.tape.specs.Plan.{Plan, give, refuse, read, write, look, hold, handle}
 use Rattle.step.specs.Next.{Handed, handed}
 use Rattle.step.specs.Transfer.{blocksOf, transferOf, placeOf, putAt}
 use Rattle.step.specs.declared.transfer.Phase.{Phase}
@@ -20,8 +20,7 @@ pub appends : (ws : List ℕ) (w : ℕ) (p : Plan (List ℕ))
     ≡ handle (λ rest. give ((ws ++ (w ∷ [])) ++ rest)) refuse p
 unfolding handle
 appends ws w (give a) = ap give (sym (append-assoc ws (w ∷ []) a))
-appends ws w (refuse (failed e)) = refl
-appends ws w (refuse ended) = refl
+appends ws w (refuse c) = refl
 appends ws w (read r k z) = λ i. read r (λ v. appends ws w (k v) i) (appends ws w z i)
 appends ws w (write r p) = ap (write r) (appends ws w p)
 appends ws w (look k) = λ i. look (λ h. appends ws w (k h) i)
@@ -30,8 +29,7 @@ appends ws w (hold h p) = ap (hold h) (appends ws w p)
 pub then-give : {A : Type 0} (p : Plan A) → handle give refuse p ≡ p
 unfolding handle
 then-give (give a) = refl
-then-give (refuse (failed e)) = refl
-then-give (refuse ended) = refl
+then-give (refuse c) = refl
 then-give (read r k z) = λ i. read r (λ v. then-give (k v) i) (then-give z i)
 then-give (write r p) = ap (write r) (then-give p)
 then-give (look k) = λ i. look (λ h. then-give (k h) i)

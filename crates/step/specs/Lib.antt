@@ -6,3 +6,4 @@ pub mod Reset
 pub mod Arm
 pub mod Ready
 pub mod Transfer
+pub mod Why

@@ -12,6 +12,7 @@ use Rattle.bus.specs.Ready.{retryDelay, tryReady}
 use Rattle.step.specs.Next.{Next, over, refused, next}
 use Rattle.step.specs.Context.{Context, whole, plug, andThen}
 use Rattle.step.specs.Command.{commandPlan}
+use Rattle.step.specs.Why.{causeOf}
 use Rattle.step.specs.declared.ready.Bus.{Bus}
 use Rattle.step.specs.declared.ready.Ready.{Ready}
 use Rattle.step.specs.declared.ready.Ready.the-variants as R
@@ -48,7 +49,7 @@ module _ (bus : Bus) where
   unfoldable pub readyNext : ReadyStep → Line → Next Nothing
   readyNext (S.On r) h = next (readyPlan r) h
   readyNext S.Done h = over h tt
-  readyNext (S.Failed e) h = refused h (failed e)
+  readyNext (S.Failed why) h = refused h (causeOf why)
 
   unfoldable pub waitsNext : Waits → Line → Next Nothing
   waitsNext (B.On r) h = next (readyPlan r) h

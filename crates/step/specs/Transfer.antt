@@ -7,14 +7,13 @@ use mathlib.Core.List.{List, [], _++_}
 use lib.Dec.{eqb, ltb}
 use lib.ListN.{take, set}
 use Rattle.types.specs.Bits.{clear}
-use Rattle.types.specs.declared.error.Error.{Error}
 use Rattle.types.specs.declared.error.Error.the-variants as E
 use Rattle.types.specs.declared.config.Config.{Config}
 use Rattle.tape.specs.declared.progress.Line.{Line}
 use Rattle.tape.specs.declared.rows.Row.{Row}
 use Rattle.tape.specs.declared.script.Reading.{Reading}
 use Rattle.tape.specs.declared.script.Reading.the-variants as Reading
-use Rattle.tape.specs.Plan.{Nothing, Plan, failed, give, refuse, _then_, refusing, fail, ensure, until}
+use Rattle.tape.specs.Plan.{Nothing, Plan, give, refuse, _then_, refusing, ensure, until}
 use Rattle.tape.specs.Rows.{CLKCR, clkenOf}
 use Rattle.tape.specs.Steps.{word, waitIdle, resetController, setClken, dataFrom, dataWords}
 use Rattle.bus.specs.declared.response.Response.the-variants.{R1}
@@ -27,6 +26,8 @@ use Rattle.host.specs.Calls.{readTransfer, statusTransfer}
 use Rattle.step.specs.Next.{Next, over, refused, next, Handed}
 use Rattle.step.specs.Context.{Context, whole, inside, plug, andThen}
 use Rattle.step.specs.Command.{commandPlan}
+use Rattle.step.specs.Why.{causeOf}
+use Rattle.step.specs.declared.why.Why.{Why}
 use Rattle.step.specs.Ready.{readyPlan}
 use Rattle.step.specs.Rows.{rowOf, rowsFrom}
 use Rattle.step.specs.Reset.{resetRow, restLeft, rowsLeft}
@@ -159,12 +160,12 @@ module _ (bus : Bus) (phase : Phase) where
   stopSite ws = andThen (λ _. give (tt {0})) (andThen (λ _. waitReady source config (bus .rca)) (ending ws))
 
   -- where a refusal's reset rows lead
-  abbrev pub closing : Error → Context (List ℕ) Nothing
-  closing e = andThen (λ _. refuse (failed e)) whole
+  abbrev pub closing : Why → Context (List ℕ) Nothing
+  closing why = andThen (λ _. refuse (causeOf why)) whole
 
   -- PLANS, in order.
-  unfoldable pub refusal : Error → Plan (List ℕ)
-  refusal e = plug guarded (fail e)
+  unfoldable pub refusal : Why → Plan (List ℕ)
+  refusal why = plug guarded (refuse (causeOf why))
 
   unfoldable pub idling : ℕ → Plan (List ℕ)
   idling n =
@@ -212,7 +213,7 @@ module _ (bus : Bus) (phase : Phase) where
   stopped ws = plug (stopping ws) (rowsFrom [])
 
   unfoldable pub writesPlan : List ℕ → Writes → Plan (List ℕ)
-  writesPlan ws (W.Reset r e) = plug (closing e) (rowsFrom (rowsLeft r))
+  writesPlan ws (W.Reset r why) = plug (closing why) (rowsFrom (rowsLeft r))
   writesPlan ws (W.Arm a) = plug armed (rowsFrom (armLeft (config .«data_transfer_timeout») transfer a))
   writesPlan ws W.Open = opening
   writesPlan ws (W.Stop s) = plug (stopping ws) (rowsFrom (stopLeft s))
@@ -220,14 +221,14 @@ module _ (bus : Bus) (phase : Phase) where
 
   -- its row, and what is ahead once it is written
   unfoldable pub rowAt : Line → Writes → Row
-  rowAt h (W.Reset r e) = resetRow r
+  rowAt h (W.Reset r why) = resetRow r
   rowAt h (W.Arm a) = armRow (config .«data_transfer_timeout») transfer a
   rowAt h W.Open = rowOf CLKCR (clkenOf (h .clkcr) true)
   rowAt h (W.Stop s) = stopRow s
   rowAt h W.Gate = rowOf CLKCR (clkenOf (h .clkcr) false)
 
   unfoldable pub toldPlan : List ℕ → Writes → Plan (List ℕ)
-  toldPlan ws (W.Reset r e) = plug (closing e) (rowsFrom (restLeft r))
+  toldPlan ws (W.Reset r why) = plug (closing why) (rowsFrom (restLeft r))
   toldPlan ws (W.Arm a) = plug armed (rowsFrom (armRest (config .«data_transfer_timeout») transfer a))
   toldPlan ws W.Open = plug startSite (commandInner limit (transfer .index) (transfer .argument) R1)
   toldPlan ws (W.Stop s) = plug (stopping ws) (rowsFrom (stopRest s))
@@ -243,7 +244,7 @@ module _ (bus : Bus) (phase : Phase) where
   unfoldable pub dataNext : List ℕ → DataStep → Line → Next (List ℕ)
   dataNext ws (S.On d) h = next (dataPlan ws d) h
   dataNext ws S.Done h = over h (allOf phase ws)
-  dataNext ws (S.Failed e) h = refused h (failed e)
+  dataNext ws (S.Failed why) h = refused h (causeOf why)
 
 -- ws′ has the word w after a reading, where ws were there before it
 unfoldable pub HandedAt : Phase → Data → ℕ → List ℕ → List ℕ → Type 0

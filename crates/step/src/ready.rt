@@ -3,7 +3,7 @@ ghost use mathlib.Core.Path.{_≡_};
 ghost use Rattle.tape.specs.declared.progress.Line.{Line};
 ghost use Rattle.tape.specs.Plan.{give};
 ghost use Rattle.bus.specs.Ready.{waitReady};
-ghost use Rattle.step.specs.Next.{next, wantOf, heard, told, lineAfter};
+ghost use Rattle.step.specs.Next.{next, wantOf, heard, told, missed, lineAfter};
 ghost use Rattle.step.specs.Context.{plug, plugNext};
 ghost use Rattle.step.specs.Command.{commandNext, listOf};
 ghost use Rattle.step.specs.Ready.{attempts, asked, readyPlan, readyNext, waitsNext};
@@ -13,6 +13,7 @@ use crate::command::CommandStep;
 use crate::command::Ended;
 use crate::command::Words;
 use crate::wants::Wants;
+use crate::why::Why;
 use bus::ready;
 use bus::response::Response;
 use tape::progress::Line;
@@ -45,7 +46,7 @@ pub enum Waits {
 pub enum ReadyStep {
     On(Ready),
     Done,
-    Failed(Error),
+    Failed(Why),
 }
 
 impl Bus {
@@ -80,7 +81,7 @@ impl Bus {
     {
         match waits {
             Waits::On(ready) => ReadyStep::On(ready),
-            Waits::Spent => ReadyStep::Failed(Error::SoftwareTimeout),
+            Waits::Spent => ReadyStep::Failed(Why::Failed(Error::SoftwareTimeout)),
         }
     }
 
@@ -104,7 +105,7 @@ impl Bus {
             CommandStep::On(command) => ReadyStep::On(Ready::Asks(left, command)),
             CommandStep::Over(ended) => match ended {
                 Ended::Well(words) => self.answered(left, words),
-                Ended::Badly(error) => ReadyStep::Failed(error),
+                Ended::Badly(why) => ReadyStep::Failed(why),
             },
         }
     }
@@ -133,6 +134,16 @@ impl Ready {
     {
         match self {
             Ready::Asks(left, command) => bus.asking(left, command.fed(word)),
+            Ready::Delay(_) => ReadyStep::On(self),
+        }
+    }
+
+    // Where no word will come; unasked, as it was.
+    pub fn missed(self, bus: Bus) -> ReadyStep
+        ensures { λ r. ⌜ ((h : Line) → readyNext bus r h ≡ missed (next (readyPlan bus self) h)) ⌝ }
+    {
+        match self {
+            Ready::Asks(left, command) => bus.asking(left, command.missed()),
             Ready::Delay(_) => ReadyStep::On(self),
         }
     }

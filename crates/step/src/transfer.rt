@@ -8,7 +8,7 @@ ghost use lib.ListN.{length, take};
 ghost use Rattle.types.specs.Bits.{clear};
 ghost use Rattle.tape.specs.declared.progress.Line.{Line};
 ghost use Rattle.tape.specs.Plan.{give};
-ghost use Rattle.step.specs.Next.{next, wantOf, heard, told, lineAfter, Handed};
+ghost use Rattle.step.specs.Next.{next, wantOf, heard, told, missed, lineAfter, Handed};
 ghost use Rattle.step.specs.Context.{plug, plugNext};
 ghost use Rattle.step.specs.Command.{commandNext};
 ghost use Rattle.step.specs.Ready.{readyNext};
@@ -27,6 +27,7 @@ use crate::ready::ReadyStep;
 use crate::reset::Reset;
 use crate::reset::ResetStep;
 use crate::wants::Wants;
+use crate::why::Why;
 use bus::response::Response;
 use bus::transfer::Transfer;
 use tape::progress::Line;
@@ -61,7 +62,7 @@ pub enum Reads {
 
 // Its rows outside commands. Those that reset the controller follow a refusal.
 pub enum Writes {
-    Reset(Reset, Error),
+    Reset(Reset, Why),
     Arm(Arm),
     Open,
     Stop(Stop),
@@ -81,7 +82,7 @@ pub enum Data {
 pub enum DataStep {
     On(Data),
     Done,
-    Failed(Error),
+    Failed(Why),
 }
 
 // Whether a status word says that the transfer is not over yet.
@@ -249,10 +250,17 @@ impl Bus {
     }
 
     // A refusal: the reset rows come first.
-    fn refuses(self, phase: Phase, error: Error) -> Data
-        ensures { λ r. ⌜ ((ws : List ℕ) (h : Line) → next (dataPlan self phase ws r) h ≡ next (refusal self phase error) h) ⌝ }
+    fn drops(self, phase: Phase, why: Why) -> Data
+        ensures { λ r. ⌜ ((ws : List ℕ) (h : Line) → next (dataPlan self phase ws r) h ≡ next (refusal self phase why) h) ⌝ }
     {
-        Data::Tells(Writes::Reset(Reset::Mask, error))
+        Data::Tells(Writes::Reset(Reset::Mask, why))
+    }
+
+    // The same with an error of its own.
+    fn refuses(self, phase: Phase, error: Error) -> Data
+        ensures { λ r. ⌜ ((ws : List ℕ) (h : Line) → next (dataPlan self phase ws r) h ≡ next (refusal self phase (Why.Failed error)) h) ⌝ }
+    {
+        self.drops(phase, Why::Failed(error))
     }
 
     // The idle wait, with so many polls.
@@ -314,7 +322,7 @@ impl Bus {
             CommandStep::On(command) => Data::Start(command),
             CommandStep::Over(ended) => match ended {
                 Ended::Well(_) => self.polls(phase, self.config.poll_limit),
-                Ended::Badly(error) => self.refuses(phase, error),
+                Ended::Badly(why) => self.drops(phase, why),
             },
         }
     }
@@ -326,7 +334,7 @@ impl Bus {
         match step {
             ReadyStep::On(ready) => DataStep::On(Data::Ready(ready)),
             ReadyStep::Done => DataStep::Done,
-            ReadyStep::Failed(error) => DataStep::On(self.refuses(phase, error)),
+            ReadyStep::Failed(why) => DataStep::On(self.drops(phase, why)),
         }
     }
 
@@ -338,7 +346,7 @@ impl Bus {
             CommandStep::On(command) => DataStep::On(Data::Stop(command)),
             CommandStep::Over(ended) => match ended {
                 Ended::Well(_) => self.waiting(phase, self.tries(self.wait_ready(gated))),
-                Ended::Badly(error) => DataStep::On(self.refuses(phase, error)),
+                Ended::Badly(why) => DataStep::On(self.drops(phase, why)),
             },
         }
     }
@@ -375,11 +383,11 @@ impl Bus {
         ensures { λ r. ⌜ ((ws : List ℕ) (h : Line) → h .gated ≡ gated → dataNext self phase ws r h ≡ next (toldPlan self phase ws writes) h) ⌝ }
     {
         match writes {
-            Writes::Reset(reset, error) => {
+            Writes::Reset(reset, why) => {
                 let step = reset.after();
                 match step {
-                    ResetStep::At(reset) => DataStep::On(Data::Tells(Writes::Reset(reset, error))),
-                    ResetStep::Done => DataStep::Failed(error),
+                    ResetStep::At(reset) => DataStep::On(Data::Tells(Writes::Reset(reset, why))),
+                    ResetStep::Done => DataStep::Failed(why),
                 }
             }
             Writes::Arm(arm) => {
@@ -548,6 +556,19 @@ impl Data {
             Data::Start(command) => DataStep::On(bus.starting(phase, command.fed(word))),
             Data::Stop(command) => bus.stopping(phase, gated, command.fed(word)),
             Data::Ready(ready) => bus.waiting(phase, ready.fed(bus, word)),
+        }
+    }
+
+    // Where no word will come; unasked, as it was.
+    pub fn missed(self, bus: Bus, phase: Phase, gated: bool) -> DataStep
+        ensures { λ r. ⌜ ((ws : List ℕ) (h : Line) → h .gated ≡ gated → dataNext bus phase ws r h ≡ missed (next (dataPlan bus phase ws self) h)) ⌝ }
+    {
+        match self {
+            Data::Asks(_) => DataStep::On(bus.drops(phase, Why::NoWord)),
+            Data::Tells(_) => DataStep::On(self),
+            Data::Start(command) => DataStep::On(bus.starting(phase, command.missed())),
+            Data::Stop(command) => bus.stopping(phase, gated, command.missed()),
+            Data::Ready(ready) => bus.waiting(phase, ready.missed(bus)),
         }
     }
 

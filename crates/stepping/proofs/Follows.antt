@@ -22,12 +22,12 @@ use Rattle.types.specs.declared.register.RateAnswer.the-variants as Rated
 use Rattle.types.specs.declared.status.Scr.{Scr}
 use Rattle.tape.specs.declared.progress.Line.{Line}
 use Rattle.tape.specs.declared.rows.Row.{Row}
-use Rattle.tape.specs.Plan.{Nothing, Plan, failed, give, fail, handle, ensure, until}
+use Rattle.tape.specs.Plan.{Nothing, Plan, give, refuse, fail, handle, ensure, until}
 use Rattle.tape.specs.Steps.{row, holdClock, holdGated, holdSignalling}
 use Rattle.bus.specs.declared.clock.DelayAnswer.the-variants as Delay
 use Rattle.bus.specs.declared.response.Response.the-variants.{None, R1, R2, R3, R6, R7}
 use Rattle.bus.specs.Clock.{configureClock, clockDelay, delayed}
-use Rattle.bus.specs.Command.{command, appCommand}
+use Rattle.bus.specs.Command.{appCommand}
 use Rattle.bus.specs.Ready.{retryDelay}
 use Rattle.init.specs.Initialise.{sourceOf, version, timedOut, late, cardVersion, powerUp, tryPowerUp, waitPowerUp, highCapacity, same, select, publish, identify, readScr, setWidth, setClock, transferClock, switchSpeed, askSwitch, takeSwitch, offered, switched, settleCard}
 use Rattle.step.specs.declared.command.Words.{Words}
@@ -38,11 +38,14 @@ use Rattle.step.specs.Command.{listOf}
 use Rattle.step.specs.Context.{plug}
 use Rattle.step.specs.Next.{Next, next}
 use Rattle.step.specs.Reset.{restLeft, stepLeft}
+use Rattle.step.specs.Why.{causeOf}
+use Rattle.step.specs.declared.why.Why.{Why}
+use Rattle.step.specs.declared.why.Why.the-variants as Y
 use Rattle.step.specs.Rows.{rowsFrom}
 use Rattle.step.specs.Transfer.{transferOf, allOf}
 use Rattle.stepping.specs.Closing.{Closing}
 use Rattle.stepping.specs.Sites as Sites
-use Rattle.stepping.specs.Ahead.{cardBy, initialOf, frequencyOf, forgiven, phaseOf, lineSet, resetOn, closeOn, rcaOf, waitRca, sentSite, waitSite, getsSite, clockOn, changeSite, idling, refusal, powering, writesPlan, toldPlan, endPlan, followPlan}
+use Rattle.stepping.specs.Ahead.{cardBy, initialOf, frequencyOf, excused, forgiven, phaseOf, lineSet, resetOn, closeOn, rcaOf, waitRca, sentSite, waitSite, getsSite, clockOn, changeSite, idling, refusal, powering, writesPlan, toldPlan, endPlan, followPlan}
 use Rattle.stepping.specs.declared.call.Change.the-variants as C
 use Rattle.stepping.specs.declared.call.End.the-variants as Z
 use Rattle.stepping.specs.declared.call.Follow.{Follow}
@@ -94,10 +97,11 @@ module _ (j : Job) (k : Known) (h : Line) where
   follows k ws f = next (followPlan j k ws f) h
 
   -- a command that failed: CMD8 forgives Timeout
-  pub fails : (ws : List ℕ) (s : Sent) (e : Error) → forgiven s e ≡ false → follows k ws (F.Refuses e) ≡ sent s (fail e)
-  unfolding followPlan forgiven sentSite refusal late handle plug
+  pub fails : (ws : List ℕ) (s : Sent) (e : Why) → forgiven s e ≡ false → follows k ws (F.Refuses e) ≡ sent s (refuse (causeOf e))
+  unfolding followPlan forgiven excused sentSite refusal late handle plug
   fails ws S.Cmd0 e f = refl
-  fails ws S.Cmd8 e f = rw f
+  fails ws S.Cmd8 (Y.Failed e) f = rw f
+  fails ws S.Cmd8 Y.NoWord f = refl
   fails ws (S.Power55 n) e f = refl
   fails ws (S.Power41 n) e f = refl
   fails ws S.Cmd2 e f = refl
@@ -109,8 +113,8 @@ module _ (j : Job) (k : Known) (h : Line) where
   fails ws S.Width55 e f = refl
   fails ws S.Width6 e f = refl
 
-  unforgiven : (s : Sent) → forgiven s E.SoftwareTimeout ≡ false
-  unfolding forgiven timedOut
+  unforgiven : (s : Sent) → forgiven s (Y.Failed E.SoftwareTimeout) ≡ false
+  unfolding forgiven excused timedOut
   unforgiven S.Cmd0 = refl
   unforgiven S.Cmd8 = refl
   unforgiven (S.Power55 n) = refl
@@ -124,16 +128,17 @@ module _ (j : Job) (k : Known) (h : Line) where
   unforgiven S.Width55 = refl
   unforgiven S.Width6 = refl
 
-  pub spent : (ws : List ℕ) (s : Sent) → follows k ws (F.Refuses E.SoftwareTimeout) ≡ sent s (fail E.SoftwareTimeout)
-  spent ws s = fails ws s E.SoftwareTimeout (unforgiven s)
+  pub spent : (ws : List ℕ) (s : Sent) → follows k ws (F.Refuses (Y.Failed E.SoftwareTimeout)) ≡ sent s (fail E.SoftwareTimeout)
+  spent ws s = fails ws s (Y.Failed E.SoftwareTimeout) (unforgiven s)
 
   not-false : false ≡ true → ⊥
   not-false e = let z : _≡_ {A = ℕ} 0 1 = cc in omega arith
 
-  pub forgives : (s : Sent) (e : Error) → forgiven s e ≡ true → next (plug (Sites.begun (j .host) initial frequency) (give false)) h ≡ sent s (fail e)
-  unfolding forgiven sentSite late handle plug
+  pub forgives : (s : Sent) (e : Why) → forgiven s e ≡ true → next (plug (Sites.begun (j .host) initial frequency) (give false)) h ≡ sent s (refuse (causeOf e))
+  unfolding forgiven excused sentSite late handle plug
   forgives S.Cmd0 e f = absurd (not-false f)
-  forgives S.Cmd8 e f = rw f
+  forgives S.Cmd8 (Y.Failed e) f = rw f
+  forgives S.Cmd8 Y.NoWord f = absurd (not-false f)
   forgives (S.Power55 n) e f = absurd (not-false f)
   forgives (S.Power41 n) e f = absurd (not-false f)
   forgives S.Cmd2 e f = absurd (not-false f)
@@ -147,7 +152,7 @@ module _ (j : Job) (k : Known) (h : Line) where
 
   module _ (ws : List ℕ) where
     -- power-up
-    pub powers-over : (v : Bool) → follows k ws (F.Refuses E.SoftwareTimeout) ≡ next (powering j v 0) h
+    pub powers-over : (v : Bool) → follows k ws (F.Refuses (Y.Failed E.SoftwareTimeout)) ≡ next (powering j v 0) h
     unfolding followPlan refusal powering until handle plug
     powers-over v = refl
 
@@ -178,13 +183,13 @@ module _ (j : Job) (k : Known) (h : Line) where
       version-one e f = rw (e, f)
 
       pub version-other : eqb (w .a) 0x1aa ≡ false → eqb (bitAnd (w .a) 0xfdff_e008) 0x0040_0000 ≡ false
-          → follows k ws (F.Refuses E.UnsupportedCardVersion) ≡ came S.Cmd8
+          → follows k ws (F.Refuses (Y.Failed E.UnsupportedCardVersion)) ≡ came S.Cmd8
       unfolding followPlan sentSite refusal version ensure handle plug
       version-other e f = rw (e, f)
 
       -- ACMD41
       module _ (n : ℕ) where
-        pub power-untaken : clear 0x20 (w .a) ≡ true → follows k ws (F.Refuses E.UnsupportedCardType) ≡ came (S.Power55 n)
+        pub power-untaken : clear 0x20 (w .a) ≡ true → follows k ws (F.Refuses (Y.Failed E.UnsupportedCardType)) ≡ came (S.Power55 n)
         unfolding followPlan sentSite refusal ensure handle plug
         power-untaken e = rw e
 
@@ -193,7 +198,7 @@ module _ (j : Job) (k : Known) (h : Line) where
         unfolding followPlan sentSite ensure handle plug
         power-taken e = rw e
 
-        pub power-none : clear 0x0030_0000 (w .a) ≡ true → follows k ws (F.Refuses E.UnsupportedCardType) ≡ came (S.Power41 n)
+        pub power-none : clear 0x0030_0000 (w .a) ≡ true → follows k ws (F.Refuses (Y.Failed E.UnsupportedCardType)) ≡ came (S.Power41 n)
         unfolding followPlan sentSite refusal ensure handle plug
         power-none e = rw e
 
@@ -210,7 +215,7 @@ module _ (j : Job) (k : Known) (h : Line) where
       unfolding followPlan sentSite publish handle plug
       cmd2-on = refl
 
-      pub address-none : eqb (w .a / 2 ^ 16) 0 ≡ true → follows k ws (F.Refuses E.ResponseMismatch) ≡ came S.Cmd3
+      pub address-none : eqb (w .a / 2 ^ 16) 0 ≡ true → follows k ws (F.Refuses (Y.Failed E.ResponseMismatch)) ≡ came S.Cmd3
       unfolding followPlan sentSite refusal ensure handle plug
       address-none e = rw e
 
@@ -221,12 +226,12 @@ module _ (j : Job) (k : Known) (h : Line) where
       abbrev told : ℕ
       told = wideOf (halvesOf (listOf w))
 
-      pub csd-other : same (highCapacity (k .ocr)) (eqb (bits told 127 126) 1) ≡ false → follows k ws (F.Refuses E.UnsupportedCardType) ≡ came S.Cmd9
+      pub csd-other : same (highCapacity (k .ocr)) (eqb (bits told 127 126) 1) ≡ false → follows k ws (F.Refuses (Y.Failed E.UnsupportedCardType)) ≡ came S.Cmd9
       unfolding followPlan sentSite refusal select ensure handle plug
       csd-other e = rw e
 
       pub csd-bad : (x : Error) → same (highCapacity (k .ocr)) (eqb (bits told 127 126) 1) ≡ true → countOf told ≡ Counted.Refused x
-          → follows k ws (F.Refuses x) ≡ came S.Cmd9
+          → follows k ws (F.Refuses (Y.Failed x)) ≡ came S.Cmd9
       unfolding followPlan sentSite refusal select ensure handle plug
       csd-bad x e f = rw (e, f)
 
@@ -244,7 +249,7 @@ module _ (j : Job) (k : Known) (h : Line) where
       unfolding followPlan sentSite appCommand handle plug
       cmd16-on = refl
 
-      pub scr-untaken : clear 0x20 (w .a) ≡ true → follows k ws (F.Refuses E.UnsupportedCardType) ≡ came S.Scr55
+      pub scr-untaken : clear 0x20 (w .a) ≡ true → follows k ws (F.Refuses (Y.Failed E.UnsupportedCardType)) ≡ came S.Scr55
       unfolding followPlan sentSite refusal ensure handle plug
       scr-untaken e = rw e
 
@@ -252,7 +257,7 @@ module _ (j : Job) (k : Known) (h : Line) where
       unfolding followPlan sentSite getsSite rcaOf phaseOf transferOf ensure handle plug
       scr-taken e = rw e
 
-      pub width-untaken : clear 0x20 (w .a) ≡ true → follows k ws (F.Refuses E.UnsupportedCardType) ≡ came S.Width55
+      pub width-untaken : clear 0x20 (w .a) ≡ true → follows k ws (F.Refuses (Y.Failed E.UnsupportedCardType)) ≡ came S.Width55
       unfolding followPlan sentSite refusal ensure handle plug
       width-untaken e = rw e
 
@@ -270,13 +275,13 @@ module _ (j : Job) (k : Known) (h : Line) where
     scr-fits s l is e = rw (← is, e)
 
     pub scr-narrow : (s : Scr) (l : List ℕ) → s .0 ≡ scrOf (getD l 0 0) (getD l 1 0) → (oneLine (s .0) && (not (j .host .settings .wide) || fourLines (s .0))) ≡ false
-        → follows k ws (F.Refuses E.UnsupportedBusWidth) ≡ next (plug (getsSite j k G.Scr) (give l)) h
+        → follows k ws (F.Refuses (Y.Failed E.UnsupportedBusWidth)) ≡ next (plug (getsSite j k G.Scr) (give l)) h
     unfolding followPlan getsSite refusal setWidth ensure handle plug
     scr-narrow s l is e = rw (← is, e)
 
     -- the transfer clock
     pub rate-bad : (x : Error) → rateOf (tranSpeed (wideOf (halvesOf (listOf (k .csd))))) ≡ Rated.Refused x
-        → follows k ws (F.Refuses x) ≡ next (plug (Sites.widened (j .host) initial frequency card (k .scr)) (give tt)) h
+        → follows k ws (F.Refuses (Y.Failed x)) ≡ next (plug (Sites.widened (j .host) initial frequency card (k .scr)) (give tt)) h
     unfolding followPlan refusal transferClock handle plug
     rate-bad x e = rw e
 
@@ -287,7 +292,7 @@ module _ (j : Job) (k : Known) (h : Line) where
     rate-good rate e = rw e
 
     pub clock-bad : (x : Error) (requested : ℕ) → clockOf source requested (j .host .settings .config .«allow_clock_bypass») ≡ Clocked.Refused x
-        → follows k ws (F.Refuses x) ≡ next (plug (Sites.clockSet (j .host) initial frequency card (k .scr)) (setClock (j .host .settings) requested)) h
+        → follows k ws (F.Refuses (Y.Failed x)) ≡ next (plug (Sites.clockSet (j .host) initial frequency card (k .scr)) (setClock (j .host .settings) requested)) h
     unfolding followPlan refusal setClock handle plug
     clock-bad x requested e = rw e
 
@@ -298,7 +303,7 @@ module _ (j : Job) (k : Known) (h : Line) where
 
     -- the clock of SDR25
     pub speed-bad : (x : Error) → clockOf source (min frequency 50_000_000) (j .host .settings .config .«allow_clock_bypass») ≡ Clocked.Refused x
-        → follows k ws (F.Refuses x) ≡ next (plug (Sites.switchDelay (j .host) initial frequency card (k .scr)) (give tt)) h
+        → follows k ws (F.Refuses (Y.Failed x)) ≡ next (plug (Sites.switchDelay (j .host) initial frequency card (k .scr)) (give tt)) h
     unfolding followPlan refusal setClock handle plug
     speed-bad x e = rw e
 
@@ -335,7 +340,7 @@ module _ (j : Job) (k : Known) (h : Line) where
     unfolding followPlan endPlan getsSite handle plug
     check-declines l e = rw e
 
-    pub switch-failed : (l : List ℕ) → switched l ≡ false → follows k ws (F.Refuses E.SignalingSwitchFailed) ≡ next (plug (getsSite j k G.Switch) (give l)) h
+    pub switch-failed : (l : List ℕ) → switched l ≡ false → follows k ws (F.Refuses (Y.Failed E.SignalingSwitchFailed)) ≡ next (plug (getsSite j k G.Switch) (give l)) h
     unfolding followPlan getsSite refusal ensure handle plug
     switch-failed l e = rw e
 
@@ -350,7 +355,7 @@ module _ (j : Job) (k : Known) (h : Line) where
     switch-spins l v e d = ap (λ (p : Plan Nothing). next (plug (Sites.switchDelay (j .host) initial frequency card (k .scr)) p) h) d ∙ switch-done l e
 
     pub switch-refused : (l : List ℕ) (x : Error) → switched l ≡ true → delayed (Delay.Refused x) ≡ clockDelay source (h .clock .0) 8
-        → follows k ws (F.Refuses x) ≡ next (plug (getsSite j k G.Switch) (give l)) h
+        → follows k ws (F.Refuses (Y.Failed x)) ≡ next (plug (getsSite j k G.Switch) (give l)) h
     unfolding followPlan refusal delayed handle plug
     switch-refused l x e d = ap (λ (p : Plan Nothing). next (plug (Sites.switchDelay (j .host) initial frequency card (k .scr)) p) h) d ∙ switch-done l e
 
@@ -365,7 +370,7 @@ module _ (j : Job) (k : Known) (h : Line) where
     open-spins v e = ap (λ (p : Plan Nothing). next (plug (Sites.poweredOn (j .host) initial frequency) p) h) e
 
     pub open-refused : (x : Error) → delayed (Delay.Refused x) ≡ clockDelay source (initial .frequency .0) 80
-        → follows k ws (F.Refuses x) ≡ next (plug (Sites.opened (j .host) initial frequency) (give tt)) h
+        → follows k ws (F.Refuses (Y.Failed x)) ≡ next (plug (Sites.opened (j .host) initial frequency) (give tt)) h
     unfolding followPlan refusal delayed handle plug
     open-refused x e = ap (λ (p : Plan Nothing). next (plug (Sites.poweredOn (j .host) initial frequency) p) h) e
 
@@ -375,7 +380,7 @@ module _ (j : Job) (k : Known) (h : Line) where
     reset-on r (ReS.At r′) p = ap (λ (rs : List Row). next (plug (Sites.resetting (j .host) initial frequency) (rowsFrom rs)) h) p
     reset-on r ReS.Done p = ap (λ (rs : List Row). next (plug (Sites.resetting (j .host) initial frequency) (rowsFrom rs)) h) p
 
-    pub close-on : (r : Reset) (e : Error) (s : ResetStep) → stepLeft s ≡ restLeft r → follows k ws (closeOn s e) ≡ next (toldPlan j k (R.Close r e)) h
+    pub close-on : (r : Reset) (e : Why) (s : ResetStep) → stepLeft s ≡ restLeft r → follows k ws (closeOn s e) ≡ next (toldPlan j k (R.Close r e)) h
     unfolding followPlan closeOn writesPlan endPlan toldPlan stepLeft rowsFrom handle plug
     close-on r e (ReS.At r′) p = ap (λ (rs : List Row). next (plug (Sites.refused (j .host) initial frequency e) (rowsFrom rs)) h) p
     close-on r e ReS.Done p = ap (λ (rs : List Row). next (plug (Sites.refused (j .host) initial frequency e) (rowsFrom rs)) h) p

@@ -5,11 +5,10 @@ use mathlib.Core.Bool.{Bool, true, false}
 use mathlib.Core.List.{List}
 use Rattle.types.specs.Bits.{clear}
 use Rattle.types.specs.declared.card.CardCapacity.the-variants.{SDSC, SDHC}
-use Rattle.types.specs.declared.error.Error.{Error}
 use Rattle.types.specs.declared.error.Error.the-variants as E
 use Rattle.tape.specs.declared.progress.Line.{Line}
 use Rattle.tape.specs.declared.rows.Row.{Row}
-use Rattle.tape.specs.Plan.{give, fail, handle, ensure, until}
+use Rattle.tape.specs.Plan.{give, refuse, fail, handle, ensure, until}
 use Rattle.tape.specs.Steps.{word, row, waitIdle, resetController}
 use Rattle.bus.specs.declared.response.Response.{Response}
 use Rattle.bus.specs.declared.response.Response.the-variants.{R1}
@@ -29,8 +28,11 @@ use Rattle.step.specs.declared.transfer.Data.{Data}
 use Rattle.step.specs.declared.transfer.DataStep.the-variants as DS
 use Rattle.step.specs.Command.{commandPlan, commandNext, endNext, listOf, begunPlan, begunNext}
 use Rattle.step.specs.Context.{plug, plugNext, next-plug}
-use Rattle.step.specs.Next.{Next, next, heard}
+use Rattle.step.specs.Next.{Next, next, heard, missed}
 use Rattle.step.specs.Ready.{readyPlan, readyNext, waitsNext}
+use Rattle.step.specs.Why.{causeOf}
+use Rattle.step.specs.declared.why.Why.{Why}
+use Rattle.step.specs.declared.why.Why.the-variants as Y
 use Rattle.step.specs.Reset.{all-rows}
 use Rattle.step.specs.Rows.{rowsFrom, resetRows}
 use Rattle.step.specs.Transfer.{allOf, phasePlan, dataPlan, dataNext}
@@ -79,16 +81,16 @@ module _ (j : Job) (k : Known) (h : Line) where
   unfolding followPlan waitSite sentSite blockLength appCommand handle plug
   ready-high ws e = rw e
 
-  pub unready-read : (ws : List ℕ) (e : Error) → follows ws (F.Over (Z.Keeping e)) ≡ next (plug (waitSite j k W.Read) (fail e)) h
+  pub unready-read : (ws : List ℕ) (e : Why) → follows ws (F.Over (Z.Keeping e)) ≡ next (plug (waitSite j k W.Read) (refuse (causeOf e))) h
   unfolding followPlan endPlan waitSite handle plug
   unready-read ws e = refl
 
-  pub unready-selected : (ws : List ℕ) (e : Error) → follows ws (F.Refuses e) ≡ next (plug (waitSite j k W.Selected) (fail e)) h
+  pub unready-selected : (ws : List ℕ) (e : Why) → follows ws (F.Refuses e) ≡ next (plug (waitSite j k W.Selected) (refuse (causeOf e))) h
   unfolding followPlan refusal waitSite handle plug
   unready-selected ws e = refl
 
   -- CMD55 of a status call
-  pub app-untaken : (ws : List ℕ) (w : Words) → clear 0x20 (w .a) ≡ true → follows ws (F.Over (Z.Keeping E.UnsupportedCardType)) ≡ next (plug (siteOf j k T.App) (give (listOf w))) h
+  pub app-untaken : (ws : List ℕ) (w : Words) → clear 0x20 (w .a) ≡ true → follows ws (F.Over (Z.Keeping (Y.Failed E.UnsupportedCardType))) ≡ next (plug (siteOf j k T.App) (give (listOf w))) h
   unfolding followPlan endPlan siteOf ensure handle plug
   app-untaken ws w e = rw e
 
@@ -96,7 +98,7 @@ module _ (j : Job) (k : Known) (h : Line) where
   unfolding followPlan siteOf getsSite rcaOf phaseOf ensure handle plug
   app-taken ws w e = rw e
 
-  pub app-failed : (ws : List ℕ) (e : Error) → follows ws (F.Over (Z.Keeping e)) ≡ next (plug (siteOf j k T.App) (fail e)) h
+  pub app-failed : (ws : List ℕ) (e : Why) → follows ws (F.Over (Z.Keeping e)) ≡ next (plug (siteOf j k T.App) (refuse (causeOf e))) h
   unfolding followPlan endPlan siteOf handle plug
   app-failed ws e = refl
 
@@ -104,13 +106,13 @@ module _ (j : Job) (k : Known) (h : Line) where
   unfolding siteOf
   init-site s p = refl
 
-  pub init-failed : (s : Sent) (e : Error) → next (plug (sentSite j k s) (fail e)) h ≡ next (plug (siteOf j k (T.Init s)) (fail e)) h
+  pub init-failed : (s : Sent) (e : Why) → next (plug (sentSite j k s) (refuse (causeOf e))) h ≡ next (plug (siteOf j k (T.Init s)) (refuse (causeOf e))) h
   unfolding siteOf
   init-failed s e = refl
 
   module _ (held g : List ℕ) where
     -- a refusal: the reset rows of its guard
-    pub closes : (e : Error) → next (atPlan j k held g (A.Tells (R.Close Re.Mask e))) h ≡ next (refusal j e) h
+    pub closes : (e : Why) → next (atPlan j k held g (A.Tells (R.Close Re.Mask e))) h ≡ next (refusal j e) h
     unfolding atPlan writesPlan refusal plug handle
     closes e =
         ap (λ (rs : List Row). next (plug (Sites.refused (j .host) (initialOf (j .asked)) (frequencyOf (j .asked)) e) (rowsFrom rs)) h) all-rows ∙ rw (← reset-rows)
@@ -126,7 +128,7 @@ module _ (j : Job) (k : Known) (h : Line) where
       sends-on c e = same-plug (sentSite j k s) _ _ h e ∙ begins
 
       pub sends-spent : begunNext B.Spent h ≡ next (begunPlan (limitAt j) index argument response gated) h
-          → next (refusal j E.SoftwareTimeout) h ≡ next (plug (sentSite j k s) (command (limitAt j) index argument response)) h
+          → next (refusal j (Y.Failed E.SoftwareTimeout)) h ≡ next (plug (sentSite j k s) (command (limitAt j) index argument response)) h
       unfolding begunNext followPlan
       sends-spent e =
           F′.spent j k h g s
@@ -144,21 +146,28 @@ module _ (j : Job) (k : Known) (h : Line) where
     waits-spent w e = same-plug (waitSite j k w) (fail E.SoftwareTimeout) (waitReady (j .host .settings .source .0) (j .host .settings .config) (waitRca j k w)) h e
 
     pub waits-read : waitsNext (busWith j (waitRca j k W.Read)) Wa.Spent h ≡ next (waitReady (j .host .settings .source .0) (j .host .settings .config) (waitRca j k W.Read)) h
-        → next (atPlan j k held g (A.Over (Z.Keeping E.SoftwareTimeout))) h ≡ next (plug (waitSite j k W.Read) (waitReady (j .host .settings .source .0) (j .host .settings .config) (waitRca j k W.Read))) h
+        → next (atPlan j k held g (A.Over (Z.Keeping (Y.Failed E.SoftwareTimeout)))) h ≡ next (plug (waitSite j k W.Read) (waitReady (j .host .settings .source .0) (j .host .settings .config) (waitRca j k W.Read))) h
     unfolding atPlan followPlan
-    waits-read e = unready-read (wordsIn j G.Asked held g) E.SoftwareTimeout ∙ waits-spent W.Read e
+    waits-read e = unready-read (wordsIn j G.Asked held g) (Y.Failed E.SoftwareTimeout) ∙ waits-spent W.Read e
 
     pub waits-selected : waitsNext (busWith j (waitRca j k W.Selected)) Wa.Spent h ≡ next (waitReady (j .host .settings .source .0) (j .host .settings .config) (waitRca j k W.Selected)) h
-        → next (refusal j E.SoftwareTimeout) h ≡ next (plug (waitSite j k W.Selected) (waitReady (j .host .settings .source .0) (j .host .settings .config) (waitRca j k W.Selected))) h
+        → next (refusal j (Y.Failed E.SoftwareTimeout)) h ≡ next (plug (waitSite j k W.Selected) (waitReady (j .host .settings .source .0) (j .host .settings .config) (waitRca j k W.Selected))) h
     unfolding followPlan
-    waits-selected e = unready-selected g E.SoftwareTimeout ∙ waits-spent W.Selected e
+    waits-selected e = unready-selected g (Y.Failed E.SoftwareTimeout) ∙ waits-spent W.Selected e
 
     -- an idle wait before a clock row
-    pub idle-over : (c : Change) → next (refusal j E.SoftwareTimeout) h ≡ next (idling j k c 0) h
+    pub idle-over : (c : Change) → next (refusal j (Y.Failed E.SoftwareTimeout)) h ≡ next (idling j k c 0) h
     unfolding refusal idling clockOn changeSite waitIdle until row handle plug
     idle-over Ch.Initial = refl
     idle-over Ch.Transfer = refl
     idle-over Ch.Switch = refl
+
+    -- where no status word will come
+    pub idle-missed : (c : Change) (n : ℕ) → next (refusal j Y.NoWord) h ≡ missed (next (atPlan j k held g (A.Idle c n)) h)
+    unfolding atPlan refusal idling clockOn changeSite waitIdle until word row handle plug next missed
+    idle-missed Ch.Initial n = refl
+    idle-missed Ch.Transfer n = refl
+    idle-missed Ch.Switch n = refl
 
     pub idle-goes : (c : Change) (n : ℕ) → next (atPlan j k held g (A.Idle c n)) h ≡ next (idling j k c (suc n)) h
     unfolding atPlan
@@ -191,7 +200,7 @@ module _ (j : Job) (k : Known) (h : Line) where
     unfolding commandNext endNext plugNext next
     command-well s w = refl
 
-    pub command-badly : (s : Site) (e : Error) → next (plug (siteOf j k s) (fail e)) h ≡ plugNext (siteOf j k s) (commandNext (C.Over (X.Badly e)) h)
+    pub command-badly : (s : Site) (e : Why) → next (plug (siteOf j k s) (refuse (causeOf e))) h ≡ plugNext (siteOf j k s) (commandNext (C.Over (X.Badly e)) h)
     unfolding commandNext endNext plugNext next
     command-badly s e = refl
 
@@ -203,7 +212,7 @@ module _ (j : Job) (k : Known) (h : Line) where
     unfolding readyNext plugNext
     ready-done w = refl
 
-    pub ready-failed : (w : Waiting) (e : Error) → next (plug (waitSite j k w) (fail e)) h ≡ plugNext (waitSite j k w) (readyNext (busWith j (waitRca j k w)) (RS.Failed e) h)
+    pub ready-failed : (w : Waiting) (e : Why) → next (plug (waitSite j k w) (refuse (causeOf e))) h ≡ plugNext (waitSite j k w) (readyNext (busWith j (waitRca j k w)) (RS.Failed e) h)
     unfolding readyNext plugNext
     ready-failed w e = refl
 
@@ -217,7 +226,7 @@ module _ (j : Job) (k : Known) (h : Line) where
     unfolding dataNext plugNext
     data-done gets = refl
 
-    pub data-failed : (gets : Gets) (e : Error) → next (plug (getsSite j k gets) (fail e)) h
+    pub data-failed : (gets : Gets) (e : Why) → next (plug (getsSite j k gets) (refuse (causeOf e))) h
         ≡ plugNext (getsSite j k gets) (dataNext (busWith j (rcaOf j k gets)) (phaseOf (j .asked) gets) (wordsIn j gets held g) (DS.Failed e) h)
     unfolding dataNext plugNext
     data-failed gets e = refl

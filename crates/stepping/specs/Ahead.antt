@@ -6,10 +6,9 @@ use Rattle.types.specs.Leaf.{roundedUp}
 use Rattle.types.specs.declared.card.Card.{Card}
 use Rattle.types.specs.declared.card.Signalling.the-variants.{SDR25}
 use Rattle.types.specs.declared.clock.Clock.{Clock}
-use Rattle.types.specs.declared.error.Error.{Error}
 use Rattle.tape.specs.declared.progress.Line.{Line}
 use Rattle.tape.specs.declared.rows.Row.{Row}
-use Rattle.tape.specs.Plan.{Nothing, Plan, failed, give, fail}
+use Rattle.tape.specs.Plan.{Nothing, Plan, give, refuse}
 use Rattle.tape.specs.Rows.{POWER, CLKCR, DELAY, clkcrOf, clkenOf}
 use Rattle.tape.specs.Steps.{row, waitIdle, setClken}
 use Rattle.bus.specs.Command.{command}
@@ -28,6 +27,9 @@ use Rattle.step.specs.Ready.{readyPlan}
 use Rattle.step.specs.Reset.{resetRow, restLeft, rowsLeft}
 use Rattle.step.specs.Rows.{rowOf, rowsFrom}
 use Rattle.step.specs.Transfer.{allOf, wordsBy, phasePlan, dataPlan}
+use Rattle.step.specs.Why.{causeOf}
+use Rattle.step.specs.declared.why.Why.{Why}
+use Rattle.step.specs.declared.why.Why.the-variants as Y
 use Rattle.stepping.specs.Closing.{Closing, keeping, dropping, finding, accepting, readHost, statusHost}
 use Rattle.stepping.specs.Sites as Sites
 use Rattle.stepping.specs.declared.call.Asked.{Asked}
@@ -81,10 +83,14 @@ hostBy (Q.Card c f) host = statusHost host
 hostBy Q.Status host = statusHost host
 hostBy (Q.Blocks a n) host = readHost host
 
--- Timeout at CMD8 is no refusal
-unfoldable pub forgiven : Sent → Error → Bool
+-- Timeout at CMD8 is no refusal; that no word will come is one
+unfoldable pub excused : Why → Bool
+excused (Y.Failed e) = timedOut e
+excused Y.NoWord = false
+
+unfoldable pub forgiven : Sent → Why → Bool
 forgiven S.Cmd0 e = false
-forgiven S.Cmd8 e = timedOut e
+forgiven S.Cmd8 e = excused e
 forgiven (S.Power55 n) e = false
 forgiven (S.Power41 n) e = false
 forgiven S.Cmd2 e = false
@@ -121,7 +127,7 @@ unfoldable pub resetOn : ResetStep → Follow
 resetOn (ReS.At r) = F.Tells (R.Reset r)
 resetOn ReS.Done = F.Idles C.Initial
 
-unfoldable pub closeOn : ResetStep → Error → Follow
+unfoldable pub closeOn : ResetStep → Why → Follow
 closeOn (ReS.At r) e = F.Tells (R.Close r e)
 closeOn ReS.Done e = F.Over (Z.Dropping e)
 
@@ -149,8 +155,8 @@ module _ (j : Job) where
   own = plug ownSite (phasePlan (busWith (j .host .card .rca)) (phaseBy (j .asked)))
 
   -- a refusal of an initialisation
-  unfoldable pub refusal : Error → Plan Closing
-  refusal e = plug (Sites.guarded (j .host) initial frequency) (fail e)
+  unfoldable pub refusal : Why → Plan Closing
+  refusal e = plug (Sites.guarded (j .host) initial frequency) (refuse (causeOf e))
 
   -- so many attempts to power up a card of this version
   unfoldable pub powering : Bool → ℕ → Plan Closing
@@ -252,8 +258,8 @@ module _ (j : Job) where
     unfoldable pub endPlan : List ℕ → End → Plan Closing
     endPlan ws Z.Accepted = accepting (j .host) (hostBy (j .asked) (j .host)) (allOf (phaseBy (j .asked)) ws)
     endPlan ws Z.Found = finding (j .host) (withScr (cardBy k) (k .scr .0))
-    endPlan ws (Z.Keeping e) = keeping (j .host) (failed e)
-    endPlan ws (Z.Dropping e) = dropping (j .host) (failed e)
+    endPlan ws (Z.Keeping e) = keeping (j .host) (causeOf e)
+    endPlan ws (Z.Dropping e) = dropping (j .host) (causeOf e)
 
     -- what follows a step
     unfoldable pub followPlan : List ℕ → Follow → Plan Closing

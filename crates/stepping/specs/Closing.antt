@@ -7,10 +7,10 @@ use Rattle.types.specs.declared.error.Answer.{Answer}
 use Rattle.types.specs.declared.error.Answer.the-variants as Answered
 use Rattle.types.specs.Words.{sdStatusOf}
 use Rattle.tape.specs.declared.progress.Line.{Line}
-use Rattle.tape.specs.Plan.{Plan, Cause, failed, ended, give, look}
+use Rattle.tape.specs.Plan.{Plan, Cause, give, look}
 use Rattle.init.specs.Initialise.{noCard}
 use Rattle.host.specs.declared.host.Sdmmc.{Sdmmc}
-use Rattle.host.specs.Calls.{hostOf, withStatus}
+use Rattle.host.specs.Calls.{answerFor, hostOf, withStatus}
 
 pub record Closing : Type 0 where
   pub answer : Answer
@@ -20,17 +20,13 @@ pub record Closing : Type 0 where
 abbrev pub closing : Answer → Sdmmc → List ℕ → Closing
 closing answer host taken = record { answer = answer; host = host; taken = taken }
 
-abbrev pub answerOf : Cause → Answer
-answerOf (failed e) = Answered.Refused e
-answerOf ended = Answered.ScriptEnded
-
 module _ (host : Sdmmc) where
   -- a refusal: the record stays, or there is none
   unfoldable pub keeping : Cause → Plan Closing
-  keeping c = look (λ line. give (closing (answerOf c) (hostOf (host .settings) line (host .known) (host .card)) []))
+  keeping c = look (λ line. give (closing (answerFor c) (hostOf (host .settings) line (host .known) (host .card)) []))
 
   unfoldable pub dropping : Cause → Plan Closing
-  dropping c = look (λ line. give (closing (answerOf c) (hostOf (host .settings) line false noCard) []))
+  dropping c = look (λ line. give (closing (answerFor c) (hostOf (host .settings) line false noCard) []))
 
   -- a card was found; words were read
   unfoldable pub finding : Card → Plan Closing

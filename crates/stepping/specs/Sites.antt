@@ -11,10 +11,9 @@ use Rattle.types.specs.Words.{scrOf}
 use Rattle.types.specs.declared.card.Card.{Card}
 use Rattle.types.specs.declared.card.Signalling.the-variants.{SDR25}
 use Rattle.types.specs.declared.clock.Clock.{Clock}
-use Rattle.types.specs.declared.error.Error.{Error}
 use Rattle.types.specs.declared.error.Error.the-variants as E
 use Rattle.types.specs.declared.status.Scr.{Scr}
-use Rattle.tape.specs.Plan.{Nothing, Plan, failed, give, refuse, look, _then_, refusing, ensure, until}
+use Rattle.tape.specs.Plan.{Nothing, Plan, give, refuse, look, _then_, refusing, ensure, until}
 use Rattle.tape.specs.Rows.{POWER}
 use Rattle.tape.specs.Steps.{row, resetController, setClken, holdClock, holdGated, holdSignalling}
 use Rattle.bus.specs.declared.response.Response.the-variants.{None, R1, R2, R3}
@@ -26,6 +25,8 @@ use Rattle.init.specs.declared.settings.Settings.{Settings}
 use Rattle.init.specs.Initialise.{limitOf, sourceOf, version, late, cardVersion, poweredUp, tryPowerUp, waitPowerUp, select, publish, identify, blockLength, scrTransfer, setWidth, setClock, transferClock, offered, switched, takeSwitch, switchSpeed, withScr, settleCard}
 use Rattle.host.specs.declared.host.Sdmmc.{Sdmmc}
 use Rattle.step.specs.Context.{Context, whole, inside, andThen}
+use Rattle.step.specs.Why.{causeOf}
+use Rattle.step.specs.declared.why.Why.{Why}
 use Rattle.stepping.specs.Closing.{Closing, keeping, dropping, finding}
 
 module _ (host : Sdmmc) (initial : Clock) (frequency : ℕ) where
@@ -46,8 +47,8 @@ module _ (host : Sdmmc) (initial : Clock) (frequency : ℕ) where
   guarded = inside give (refusing resetController) found
 
   -- where a refusal's reset rows lead
-  abbrev pub refused : Error → Context Closing Nothing
-  refused e = andThen (λ _. refuse (failed e)) found
+  abbrev pub refused : Why → Context Closing Nothing
+  refused e = andThen (λ _. refuse (causeOf e)) found
 
   -- its four stages: what follows `beginInit`, `waitPowerUp`, `identify`
   abbrev pub begun : Context Closing Bool

@@ -13,10 +13,10 @@ use step::ready::Ready;
 use step::reset::Reset;
 use step::transfer::Data;
 use step::transfer::Phase;
+use step::why::Why;
 use types::card::Card;
 use types::clock::Clock;
 use types::clock::Hertz;
-use types::error::Error;
 use types::register::BlockCount;
 use types::status::Scr;
 
@@ -98,15 +98,15 @@ pub enum Writes {
     Delay(u32),
     Retry(u32),
     Settle(u32),
-    Close(Reset, Error),
+    Close(Reset, Why),
 }
 
 // How a call ended: a refusal keeps the record, or leaves none.
 pub enum End {
     Accepted,
     Found,
-    Keeping(Error),
-    Dropping(Error),
+    Keeping(Why),
+    Dropping(Why),
 }
 
 // What follows a step: a command, a ready wait, a data phase, the idle wait before a clock row, a row, a refusal, or the end.
@@ -116,7 +116,7 @@ pub enum Follow {
     Gets(Gets),
     Idles(Change),
     Tells(Writes),
-    Refuses(Error),
+    Refuses(Why),
     Over(End),
 }
 

@@ -6,14 +6,15 @@ ghost use lib.ListN.{take, getD};
 ghost use Rattle.types.specs.Leaf.{clockOf};
 ghost use Rattle.types.specs.Words.{scrOf};
 ghost use Rattle.tape.specs.declared.progress.Line.{Line};
-ghost use Rattle.tape.specs.Plan.{give, fail};
+ghost use Rattle.tape.specs.Plan.{give, refuse};
 ghost use Rattle.init.specs.Initialise.{setClock, offered, switched};
 ghost use Rattle.step.specs.Command.{listOf};
 ghost use Rattle.step.specs.Context.{plug};
 ghost use Rattle.step.specs.Next.{next};
 ghost use Rattle.step.specs.Transfer.{allOf};
+ghost use Rattle.step.specs.Why.{causeOf};
 ghost use Rattle.stepping.specs.Sites.{begun, opened, widened, clockSet, switchDelay};
-ghost use Rattle.stepping.specs.Ahead.{cardBy, initialOf, frequencyOf, forgiven, phaseOf, sentSite, getsSite, powering, toldPlan, lineSet, resetOn, closeOn, followPlan, wordsIn, thenNext};
+ghost use Rattle.stepping.specs.Ahead.{cardBy, initialOf, frequencyOf, excused, forgiven, phaseOf, sentSite, getsSite, powering, toldPlan, lineSet, resetOn, closeOn, followPlan, wordsIn, thenNext};
 use crate::call::Change;
 use crate::call::End;
 use crate::call::Follow;
@@ -35,6 +36,7 @@ use init::speed;
 use init::speed::Switch;
 use step::command::Words;
 use step::reset::ResetStep;
+use step::why::Why;
 use types::clock::ClockAnswer;
 use types::clock::Hertz;
 use types::clock::clock_setting;
@@ -47,13 +49,23 @@ use types::status::CardStatus;
 use types::status::Scr;
 use types::words;
 
-// Whether a command forgives an error: CMD8 does Timeout, which is a card of version 1.
-fn forgives(sent: Sent, error: Error) -> bool
-    ensures { λ r. ⌜ r ≡ forgiven sent error ⌝ }
+// Whether it was Timeout: that no word will come is not.
+fn excused(why: Why) -> bool
+    ensures { λ r. ⌜ r ≡ excused why ⌝ }
+{
+    match why {
+        Why::Failed(error) => begin::timed_out(error),
+        Why::NoWord => false,
+    }
+}
+
+// Whether a command forgives a refusal: CMD8 does Timeout, which is a card of version 1.
+fn forgives(sent: Sent, why: Why) -> bool
+    ensures { λ r. ⌜ r ≡ forgiven sent why ⌝ }
 {
     match sent {
         Sent::Cmd0 => false,
-        Sent::Cmd8 => begin::timed_out(error),
+        Sent::Cmd8 => excused(why),
         Sent::Power55(_) => false,
         Sent::Power41(_) => false,
         Sent::Cmd2 => false,
@@ -119,7 +131,7 @@ impl Job {
         ensures { λ r. ⌜ ((ws : List ℕ) (h : Line) → next (followPlan self known ws r) h ≡ next (powering self (known .version2) left) h) ⌝ }
     {
         if left == 0 {
-            return Follow::Refuses(Error::SoftwareTimeout);
+            return Follow::Refuses(Why::Failed(Error::SoftwareTimeout));
         }
         let more = left - 1;
         Follow::Sends(Sent::Power55(more), 55, 0, Response::R1)
@@ -146,7 +158,7 @@ impl Job {
         if word & CardStatus::ERRORS == Interface::ILLEGAL {
             self.versions(known, false)
         } else {
-            known.and(Follow::Refuses(Error::UnsupportedCardVersion))
+            known.and(Follow::Refuses(Why::Failed(Error::UnsupportedCardVersion)))
         }
     }
 
@@ -155,7 +167,7 @@ impl Job {
         ensures { λ r. ⌜ ((ws : List ℕ) (h : Line) → next (followPlan self known ws r) h ≡ next (plug (sentSite self known (Sent.Power55 left)) (give (listOf words))) h) ⌝ }
     {
         if words.a & CardStatus::APP_CMD == 0 {
-            return Follow::Refuses(Error::UnsupportedCardType);
+            return Follow::Refuses(Why::Failed(Error::UnsupportedCardType));
         }
         let condition = identify::condition(known.version2);
         Follow::Sends(Sent::Power41(left), 41, condition, Response::R3)
@@ -167,7 +179,7 @@ impl Job {
     {
         let ocr = words.a;
         if ocr & Ocr::VOLTAGE == 0 {
-            return known.and(Follow::Refuses(Error::UnsupportedCardType));
+            return known.and(Follow::Refuses(Why::Failed(Error::UnsupportedCardType)));
         }
         if ocr & Ocr::POWERED_UP == 0 {
             return known.and(Follow::Tells(Writes::Retry(left)));
@@ -192,7 +204,7 @@ impl Job {
     {
         let rca = identify::address(words.a);
         if rca == 0 {
-            return known.and(Follow::Refuses(Error::ResponseMismatch));
+            return known.and(Follow::Refuses(Why::Failed(Error::ResponseMismatch)));
         }
         let mut found = known;
         found.rca = rca;
@@ -218,10 +230,10 @@ impl Job {
                         Response::R1,
                     ))
                 }
-                CountAnswer::Refused(error) => known.and(Follow::Refuses(error)),
+                CountAnswer::Refused(error) => known.and(Follow::Refuses(Why::Failed(error))),
             }
         } else {
-            known.and(Follow::Refuses(Error::UnsupportedCardType))
+            known.and(Follow::Refuses(Why::Failed(Error::UnsupportedCardType)))
         }
     }
 
@@ -230,7 +242,7 @@ impl Job {
         ensures { λ r. ⌜ ((ws : List ℕ) (h : Line) → next (followPlan self known ws r) h ≡ next (plug (sentSite self known Sent.Scr55) (give (listOf words))) h) ⌝ }
     {
         if words.a & CardStatus::APP_CMD == 0 {
-            return Follow::Refuses(Error::UnsupportedCardType);
+            return Follow::Refuses(Why::Failed(Error::UnsupportedCardType));
         }
         Follow::Gets(Gets::Scr)
     }
@@ -240,7 +252,7 @@ impl Job {
         ensures { λ r. ⌜ ((ws : List ℕ) (h : Line) → next (followPlan self known ws r) h ≡ next (plug (sentSite self known Sent.Width55) (give (listOf words))) h) ⌝ }
     {
         if words.a & CardStatus::APP_CMD == 0 {
-            return Follow::Refuses(Error::UnsupportedCardType);
+            return Follow::Refuses(Why::Failed(Error::UnsupportedCardType));
         }
         let width = speed::width(self.host.settings.wide);
         Follow::Sends(Sent::Width6, 6, width, Response::R1)
@@ -267,7 +279,7 @@ impl Job {
                 found.clock = clock;
                 found.and(Follow::Idles(Change::Transfer))
             }
-            ClockAnswer::Refused(error) => known.and(Follow::Refuses(error)),
+            ClockAnswer::Refused(error) => known.and(Follow::Refuses(Why::Failed(error))),
         }
     }
 
@@ -284,7 +296,7 @@ impl Job {
                 let slow = speed::lesser(asked.frequency(), Switch::SDR12);
                 self.transfers_at(known, speed::lesser(slow, rate))
             }
-            RateAnswer::Refused(error) => known.and(Follow::Refuses(error)),
+            RateAnswer::Refused(error) => known.and(Follow::Refuses(Why::Failed(error))),
         }
     }
 
@@ -300,7 +312,7 @@ impl Job {
                 found.clock = clock;
                 found.and(Follow::Idles(Change::Switch))
             }
-            ClockAnswer::Refused(error) => known.and(Follow::Refuses(error)),
+            ClockAnswer::Refused(error) => known.and(Follow::Refuses(Why::Failed(error))),
         }
     }
 
@@ -330,13 +342,13 @@ impl Job {
     }
 
     // A command of an initialisation failed: only CMD8 forgives, and Timeout alone.
-    pub fn failed(self, known: Known, sent: Sent, error: Error) -> Then
-        ensures { λ r. ⌜ ((ws : List ℕ) (h : Line) → thenNext self ws r h ≡ next (plug (sentSite self known sent) (fail error)) h) ⌝ }
+    pub fn failed(self, known: Known, sent: Sent, why: Why) -> Then
+        ensures { λ r. ⌜ ((ws : List ℕ) (h : Line) → thenNext self ws r h ≡ next (plug (sentSite self known sent) (refuse (causeOf why))) h) ⌝ }
     {
-        if forgives(sent, error) {
+        if forgives(sent, why) {
             self.versions(known, false)
         } else {
-            known.and(Follow::Refuses(error))
+            known.and(Follow::Refuses(why))
         }
     }
 
@@ -350,7 +362,7 @@ impl Job {
             found.scr = scr;
             found.and(found.tells_app(Sent::Width55))
         } else {
-            known.and(Follow::Refuses(Error::UnsupportedBusWidth))
+            known.and(Follow::Refuses(Why::Failed(Error::UnsupportedBusWidth)))
         }
     }
 
@@ -373,10 +385,10 @@ impl Job {
             let answer = clock::delay(self.host.settings.source, clock, 8);
             match answer {
                 DelayAnswer::Spins(spins) => Follow::Tells(Writes::Settle(spins)),
-                DelayAnswer::Refused(error) => Follow::Refuses(error),
+                DelayAnswer::Refused(error) => Follow::Refuses(Why::Failed(error)),
             }
         } else {
-            Follow::Refuses(Error::SignalingSwitchFailed)
+            Follow::Refuses(Why::Failed(Error::SignalingSwitchFailed))
         }
     }
 
@@ -393,14 +405,14 @@ impl Job {
     }
 
     // A data phase was refused, behind its own reset rows: an initialisation's guard writes them once more.
-    pub fn lost(self, known: Known, gets: Gets, error: Error) -> Follow
-        ensures { λ r. ⌜ ((ws : List ℕ) (h : Line) → next (followPlan self known ws r) h ≡ next (plug (getsSite self known gets) (fail error)) h) ⌝ }
+    pub fn lost(self, known: Known, gets: Gets, why: Why) -> Follow
+        ensures { λ r. ⌜ ((ws : List ℕ) (h : Line) → next (followPlan self known ws r) h ≡ next (plug (getsSite self known gets) (refuse (causeOf why))) h) ⌝ }
     {
         match gets {
-            Gets::Asked => Follow::Over(End::Dropping(error)),
-            Gets::Scr => Follow::Refuses(error),
-            Gets::Check => Follow::Refuses(error),
-            Gets::Switch => Follow::Refuses(error),
+            Gets::Asked => Follow::Over(End::Dropping(why)),
+            Gets::Scr => Follow::Refuses(why),
+            Gets::Check => Follow::Refuses(why),
+            Gets::Switch => Follow::Refuses(why),
         }
     }
 
@@ -413,7 +425,7 @@ impl Job {
         let answer = clock::delay(self.host.settings.source, initial.frequency, 80);
         match answer {
             DelayAnswer::Spins(spins) => Follow::Tells(Writes::Delay(spins)),
-            DelayAnswer::Refused(error) => Follow::Refuses(error),
+            DelayAnswer::Refused(error) => Follow::Refuses(Why::Failed(error)),
         }
     }
 
@@ -447,7 +459,7 @@ impl Job {
             Writes::Delay(_) => known.and(Follow::Sends(Sent::Cmd0, 0, 0, Response::None)),
             Writes::Retry(left) => known.and(self.powers(known, left)),
             Writes::Settle(_) => self.speeds(known),
-            Writes::Close(reset, error) => known.and(close_on(reset.after(), error)),
+            Writes::Close(reset, why) => known.and(close_on(reset.after(), why)),
         }
     }
 }
@@ -463,11 +475,11 @@ fn reset_on(step: ResetStep) -> Follow
 }
 
 // After a row of the guard's reset: the next one, or the end.
-fn close_on(step: ResetStep, error: Error) -> Follow
-    ensures { λ r. ⌜ r ≡ closeOn step error ⌝ }
+fn close_on(step: ResetStep, why: Why) -> Follow
+    ensures { λ r. ⌜ r ≡ closeOn step why ⌝ }
 {
     match step {
-        ResetStep::At(reset) => Follow::Tells(Writes::Close(reset, error)),
-        ResetStep::Done => Follow::Over(End::Dropping(error)),
+        ResetStep::At(reset) => Follow::Tells(Writes::Close(reset, why)),
+        ResetStep::Done => Follow::Over(End::Dropping(why)),
     }
 }

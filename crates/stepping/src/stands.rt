@@ -3,7 +3,7 @@ ghost use mathlib.Core.Path.{_≡_};
 ghost use mathlib.Core.List.{List};
 ghost use Prim.Native.Nat.{ℕ, suc};
 ghost use Rattle.tape.specs.declared.progress.Line.{Line};
-ghost use Rattle.tape.specs.Plan.{give, fail};
+ghost use Rattle.tape.specs.Plan.{give, refuse};
 ghost use Rattle.bus.specs.Command.{command};
 ghost use Rattle.bus.specs.Ready.{waitReady};
 ghost use Rattle.step.specs.Command.{commandNext, listOf};
@@ -11,6 +11,7 @@ ghost use Rattle.step.specs.Context.{plug, plugNext};
 ghost use Rattle.step.specs.Next.{next, heard};
 ghost use Rattle.step.specs.Ready.{readyNext};
 ghost use Rattle.step.specs.Transfer.{phasePlan, dataNext};
+ghost use Rattle.step.specs.Why.{causeOf};
 ghost use Rattle.stepping.specs.Ahead.{phaseOf, limitAt, busWith, refusal, wordsIn, rcaOf, waitRca, sentSite, siteOf, waitSite, getsSite, idling, followPlan, atPlan, thenNext, standNext};
 use crate::call::At;
 use crate::call::Change;
@@ -36,6 +37,7 @@ use step::ready::ReadyStep;
 use step::ready::Waits;
 use step::reset::Reset;
 use step::transfer::DataStep;
+use step::why::Why;
 use tape::progress::Line;
 use tape::script::Sta;
 use types::card::CardCapacity;
@@ -60,12 +62,12 @@ impl Job {
     }
 
     // The card is not ready.
-    fn unready(self, known: Known, waiting: Waiting, error: Error) -> Follow
-        ensures { λ r. ⌜ ((ws : List ℕ) (h : Line) → next (followPlan self known ws r) h ≡ next (plug (waitSite self known waiting) (fail error)) h) ⌝ }
+    fn unready(self, known: Known, waiting: Waiting, why: Why) -> Follow
+        ensures { λ r. ⌜ ((ws : List ℕ) (h : Line) → next (followPlan self known ws r) h ≡ next (plug (waitSite self known waiting) (refuse (causeOf why))) h) ⌝ }
     {
         match waiting {
-            Waiting::Read => Follow::Over(End::Keeping(error)),
-            Waiting::Selected => Follow::Refuses(error),
+            Waiting::Read => Follow::Over(End::Keeping(why)),
+            Waiting::Selected => Follow::Refuses(why),
         }
     }
 
@@ -76,7 +78,7 @@ impl Job {
         match site {
             Site::App => {
                 if words.a & CardStatus::APP_CMD == 0 {
-                    known.and(Follow::Over(End::Keeping(Error::UnsupportedCardType)))
+                    known.and(Follow::Over(End::Keeping(Why::Failed(Error::UnsupportedCardType))))
                 } else {
                     known.and(Follow::Gets(Gets::Asked))
                 }
@@ -86,20 +88,20 @@ impl Job {
     }
 
     // A command failed.
-    fn refused(self, known: Known, site: Site, error: Error) -> Then
-        ensures { λ r. ⌜ ((ws : List ℕ) (h : Line) → thenNext self ws r h ≡ next (plug (siteOf self known site) (fail error)) h) ⌝ }
+    fn refused(self, known: Known, site: Site, why: Why) -> Then
+        ensures { λ r. ⌜ ((ws : List ℕ) (h : Line) → thenNext self ws r h ≡ next (plug (siteOf self known site) (refuse (causeOf why))) h) ⌝ }
     {
         match site {
-            Site::App => known.and(Follow::Over(End::Keeping(error))),
-            Site::Init(sent) => self.failed(known, sent, error),
+            Site::App => known.and(Follow::Over(End::Keeping(why))),
+            Site::Init(sent) => self.failed(known, sent, why),
         }
     }
 
     // A refusal: the reset rows of the guard come first.
-    fn closes(self, known: Known, error: Error) -> At
-        ensures { λ r. ⌜ ((held g : List ℕ) (h : Line) → next (atPlan self known held g r) h ≡ next (refusal self error) h) ⌝ }
+    pub fn closes(self, known: Known, why: Why) -> At
+        ensures { λ r. ⌜ ((held g : List ℕ) (h : Line) → next (atPlan self known held g r) h ≡ next (refusal self why) h) ⌝ }
     {
-        At::Tells(Writes::Close(Reset::Mask, error))
+        At::Tells(Writes::Close(Reset::Mask, why))
     }
 
     // A command at its start.
@@ -118,7 +120,7 @@ impl Job {
         let begun = Command::begin(limit, index, argument, response, gated);
         match begun {
             Begun::On(command) => At::Command(Site::Init(sent), command),
-            Begun::Spent => self.closes(known, Error::SoftwareTimeout),
+            Begun::Spent => self.closes(known, Why::Failed(Error::SoftwareTimeout)),
         }
     }
 
@@ -131,8 +133,8 @@ impl Job {
         match begun {
             Waits::On(ready) => At::Ready(waiting, ready),
             Waits::Spent => match waiting {
-                Waiting::Read => At::Over(End::Keeping(Error::SoftwareTimeout)),
-                Waiting::Selected => self.closes(known, Error::SoftwareTimeout),
+                Waiting::Read => At::Over(End::Keeping(Why::Failed(Error::SoftwareTimeout))),
+                Waiting::Selected => self.closes(known, Why::Failed(Error::SoftwareTimeout)),
             },
         }
     }
@@ -142,7 +144,7 @@ impl Job {
         ensures { λ r. ⌜ ((held g : List ℕ) (h : Line) → next (atPlan self known held g r) h ≡ next (idling self known change polls) h) ⌝ }
     {
         if polls == 0 {
-            return self.closes(known, Error::SoftwareTimeout);
+            return self.closes(known, Why::Failed(Error::SoftwareTimeout));
         }
         let more = polls - 1;
         At::Idle(change, more)
@@ -179,7 +181,7 @@ impl Job {
                 self.host.settings.config.poll_limit,
             ),
             Follow::Tells(writes) => At::Tells(writes),
-            Follow::Refuses(error) => self.closes(known, error),
+            Follow::Refuses(why) => self.closes(known, why),
             Follow::Over(end) => At::Over(end),
         }
     }
@@ -204,7 +206,7 @@ impl Job {
             CommandStep::On(command) => known.at(At::Command(site, command)),
             CommandStep::Over(ended) => match ended {
                 Ended::Well(words) => self.follows(gated, self.answered(known, site, words)),
-                Ended::Badly(error) => self.follows(gated, self.refused(known, site, error)),
+                Ended::Badly(why) => self.follows(gated, self.refused(known, site, why)),
             },
         }
     }
@@ -216,10 +218,10 @@ impl Job {
         match step {
             ReadyStep::On(ready) => known.at(At::Ready(waiting, ready)),
             ReadyStep::Done => known.at(self.stands(known, gated, self.readied(known, waiting))),
-            ReadyStep::Failed(error) => known.at(self.stands(
+            ReadyStep::Failed(why) => known.at(self.stands(
                 known,
                 gated,
-                self.unready(known, waiting, error),
+                self.unready(known, waiting, why),
             )),
         }
     }
@@ -239,10 +241,10 @@ impl Job {
         match step {
             DataStep::On(part) => known.at(At::Data(gets, part)),
             DataStep::Done => self.follows(line.gated, self.got(known, held, gets, clock)),
-            DataStep::Failed(error) => known.at(self.stands(
+            DataStep::Failed(why) => known.at(self.stands(
                 known,
                 line.gated,
-                self.lost(known, gets, error),
+                self.lost(known, gets, why),
             )),
         }
     }

@@ -8,7 +8,6 @@ use native.Mathlib.Nat.{le-trans}
 use lib.ListN.{length, getD}
 use lib.Dec.{ltb}
 use borrow.Author.Tests.{le-ltb}
-use Rattle.types.specs.declared.error.Error.{Error}
 use Rattle.tape.specs.declared.progress.Halt.{Halt}
 use Rattle.tape.specs.declared.progress.Halt.the-variants.{Refused, ScriptEnded, TraceFull}
 use Rattle.tape.specs.declared.progress.Line.{Line}
@@ -18,7 +17,7 @@ use Rattle.tape.specs.declared.progress.Progress.{Progress}
 use Rattle.tape.specs.Plan.{Nothing, Cause, failed, ended, Plan, give, refuse, read, write, look, hold, handle, _then_}
 use Rattle.tape.specs.Plan.{refusing, guard}
 use Rattle.tape.specs.Rows.{rowAt, roomOf}
-use Rattle.tape.specs.Run.{State, at, After, stopped, noted, keptAt, overAt, run, runFrom, doesAt, does, nextAt, next}
+use Rattle.tape.specs.Run.{State, at, After, stopped, noted, haltOf, keptAt, overAt, run, runFrom, doesAt, does, nextAt, next}
 use Rattle.tape.specs.Run.{Behind, Gave, Did, Settled}
 use Rattle.tape.proofs.Behind.{some-script}
 
@@ -41,7 +40,7 @@ module _ (s : List ℕ) where
   run-handle d d′ f g (refuse ended) u n h l = refl
   run-handle {A} {B} d d′ f g (read r k z) u n h l =
       by-test (λ (x : After A). next s d′ f g (x .value) (x .state)) (ltb u (length s))
-      (run-handle d d′ f g (k (getD s u 0)) (u + 1) n h l) refl
+      (run-handle d d′ f g (k (getD s u 0)) (u + 1) n h l) (run-handle d d′ f g z u n h l)
   run-handle {A} {B} d d′ f g (write r p) u n h l =
       by-test (λ (x : After A). next s d′ f g (x .value) (x .state)) (ltb n (roomOf l))
       (run-handle d d′ f g p u (n + 1) (noted r h) (rowAt l n r)) refl
@@ -55,7 +54,7 @@ module _ (s : List ℕ) where
   unfolding run keptAt
   run-kept d (give a) u n h l = refl
   run-kept d (refuse c) u n h l = refl
-  run-kept d (read r k z) u n h l = by-cases (Kept d) (ltb u (length s)) _ _ (run-kept d (k (getD s u 0)) (u + 1) n h l) refl
+  run-kept d (read r k z) u n h l = by-cases (Kept d) (ltb u (length s)) _ _ (run-kept d (k (getD s u 0)) (u + 1) n h l) (run-kept d z u n h l)
   run-kept d (write r p) u n h l =
       by-cases (Kept d) (ltb n (roomOf l)) _ _ (run-kept d p u (n + 1) (noted r h) (rowAt l n r)) refl
   run-kept d (look k) u n h l = run-kept d (k h) u n h l
@@ -69,22 +68,22 @@ module _ (s : List ℕ) where
   run-grows d (give a) u n h l = omega arith
   run-grows d (refuse c) u n h l = omega arith
   run-grows d (read r k z) u n h l =
-      by-cases (Grown u) (ltb u (length s)) _ _ (le-trans {m = u + 1} (omega arith) (run-grows d (k (getD s u 0)) (u + 1) n h l)) (omega arith)
+      by-cases (Grown u) (ltb u (length s)) _ _ (le-trans {m = u + 1} (omega arith) (run-grows d (k (getD s u 0)) (u + 1) n h l)) (run-grows d z u n h l)
   run-grows d (write r p) u n h l =
       by-cases (Grown u) (ltb n (roomOf l)) _ _ (run-grows d p u (n + 1) (noted r h) (rowAt l n r)) (omega arith)
   run-grows d (look k) u n h l = run-grows d (k h) u n h l
   run-grows d (hold h′ p) u n h l = run-grows d p u n h′ l
 
--- on a script with no word none is taken
-run-dry : {A : Type 0} (d : A) (p : Plan A) (u n : ℕ) (h : Line) (l : List ℕ) → run [] d p u n h l .state .progress .used ≡ u
+-- where no word is left none is taken
+pub run-out : (s : List ℕ) {A : Type 0} (d : A) (p : Plan A) (u n : ℕ) (h : Line) (l : List ℕ) → length s ≤ u → run s d p u n h l .state .progress .used ≡ u
 unfolding run
-run-dry d (give a) u n h l = refl
-run-dry d (refuse c) u n h l = refl
-run-dry d (read r k z) u n h l = rw (le-ltb u 0 (omega arith))
-run-dry {A} d (write r p) u n h l =
-    by-cases (λ (x : After A). x .state .progress .used ≡ u) (ltb n (roomOf l)) _ _ (run-dry d p u (n + 1) (noted r h) (rowAt l n r)) refl
-run-dry d (look k) u n h l = run-dry d (k h) u n h l
-run-dry d (hold h′ p) u n h l = run-dry d p u n h′ l
+run-out s d (give a) u n h l e = refl
+run-out s d (refuse x) u n h l e = refl
+run-out s d (read r k z) u n h l e = rw (le-ltb u (length s) e) (run-out s d z u n h l e)
+run-out s {A} d (write r p) u n h l e =
+    by-cases (λ (x : After A). x .state .progress .used ≡ u) (ltb n (roomOf l)) _ _ (run-out s d p u (n + 1) (noted r h) (rowAt l n r) e) refl
+run-out s d (look k) u n h l e = run-out s d (k h) u n h l e
+run-out s d (hold h′ p) u n h l e = run-out s d p u n h′ l e
 
 -- two results that one contract allows are the same
 pub unique : {s : List ℕ} {A : Type 0} {d : A} {p : Plan A} {w : State} {v v₁ : A} {w′ w₁ : State}
@@ -146,7 +145,7 @@ unfolding doesAt
 dry {A} {d} {p} {w} {v} {w′} e = ap (λ (x : After A). x .state .progress .used) (e .same) ∙ by (w .progress .pace)
   where
     by : (q : Pace) → doesAt [] d q p w .state .progress .used ≡ w .progress .used
-    by Going = run-dry d p (w .progress .used) (w .progress .rows) (w .progress .line) (w .list)
+    by Going = run-out [] d p (w .progress .used) (w .progress .rows) (w .progress .line) (w .list) (omega arith)
     by (Stopped x) = refl
 
 -- a call that is going, and is said to go on
@@ -254,15 +253,11 @@ pub settled-value : {s : List ℕ} {A B : Type 0} {d : B} {f : A → Plan B} {g 
 unfolding doesAt nextAt
 settled-value {s} {A} {B} {d} {f} {g} {v} {w} {v′} {w′} q e = record { same = rw q (rw q at (e .same)) }
 
-pub settled-refusal : {s : List ℕ} {A B : Type 0} {d : B} {f : A → Plan B} {g : Cause → Plan B} {v : A} {w : State} {v′ : B} {w′ : State} {x : Error}
-    → w .progress .pace ≡ Stopped (Refused x) → Gave s B d (g (failed x)) (resumed w) v′ w′ → Settled s A B d f g v w v′ w′
+pub settled-refusal : {s : List ℕ} {A B : Type 0} {d : B} {f : A → Plan B} {g : Cause → Plan B} {v : A} {w : State} {v′ : B} {w′ : State} (c : Cause)
+    → w .progress .pace ≡ Stopped (haltOf c) → Gave s B d (g c) (resumed w) v′ w′ → Settled s A B d f g v w v′ w′
 unfolding doesAt nextAt
-settled-refusal q e = record { same = rw q (e .same) }
-
-pub settled-ended : {s : List ℕ} {A B : Type 0} {d : B} {f : A → Plan B} {g : Cause → Plan B} {v : A} {w : State}
-    → w .progress .pace ≡ Stopped ScriptEnded → Settled s A B d f g v w d w
-unfolding nextAt
-settled-ended q = record { same = rw q }
+settled-refusal (failed x) q e = record { same = rw q (e .same) }
+settled-refusal ended q e = record { same = rw q (e .same) }
 
 pub settled-full : {s : List ℕ} {A B : Type 0} {d : B} {f : A → Plan B} {g : Cause → Plan B} {v : A} {w : State}
     → w .progress .pace ≡ Stopped TraceFull → Settled s A B d f g v w d w
@@ -316,5 +311,7 @@ guarded {s} {A} {d} {p} q {w} {w′} {w″} {v} g e c =
     by (Stopped (Refused x)) k =
         sym (refusing-any s d q (failed x) w′
         ∙ ap (λ (y : A). record { value = y; state = runFrom s (tt {0}) (refusing q (failed x)) w′ .state }) (sym k))
-    by (Stopped ScriptEnded) k = ap (λ (y : A). stopped y ScriptEnded w′) k
+    by (Stopped ScriptEnded) k =
+        sym (refusing-any s d q ended w′
+        ∙ ap (λ (y : A). record { value = y; state = runFrom s (tt {0}) (refusing q ended) w′ .state }) (sym k))
     by (Stopped TraceFull) k = ap (λ (y : A). stopped y TraceFull w′) k

@@ -1,8 +1,10 @@
 pub mod Behind
+pub mod Ends
 pub mod Laws
 pub mod Loops
 pub mod Lying
 pub mod Room
+pub mod Stops
 pub mod Words
 pub mod Values
 pub mod Polls

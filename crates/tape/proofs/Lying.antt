@@ -7,7 +7,7 @@ use Rattle.tape.specs.declared.progress.Halt.the-variants.{Refused, Scri
 use Rattle.tape.specs.declared.progress.Pace.{Pace}
 use Rattle.tape.specs.declared.progress.Pace.the-variants.{Going, Stopped}
 use Rattle.tape.specs.declared.script.Data.{Data}
-use Rattle.tape.specs.Plan.{Nothing, Plan, failed, give, refusing}
+use Rattle.tape.specs.Plan.{Nothing, Cause, failed, ended, Plan, give, refusing}
 use Rattle.tape.specs.Run.{State, After, keptAt, run, doesAt, nextAt, Gave, Settled, Lies}
 use Rattle.tape.proofs.Laws.{from-going, resumed}
 use Rattle.tape.proofs.Values.{gives-last, gives-refuse, given}
@@ -47,15 +47,12 @@ guard-keeps {s} q {w} {w′} d v e = by (w .progress .pace) refl
     paceOf : After Nothing → Pace
     paceOf y = y .state .progress .pace
 
+    refused : (c : Cause) → Gave s Nothing tt (refusing q c) (resumed w) tt w′ → (p : Pace) → w′ .progress .pace ≡ p → d ≡ keptAt d v p
+    refused c closes Going g = absurd (given {P = λ _. ⊥} (gives-last q (λ _. gives-refuse)) closes g)
+    refused c closes (Stopped y) g = refl
+
     by : (p : Pace) → w .progress .pace ≡ p → keptAt d v p ≡ keptAt d v (w′ .progress .pace)
     by Going f = rw (ap paceOf (rw f at (e .same)))
-    by (Stopped ScriptEnded) f = rw (ap paceOf (rw f at (e .same)))
     by (Stopped TraceFull) f = rw (ap paceOf (rw f at (e .same)))
-    by (Stopped (Refused x)) f = stays (w′ .progress .pace) refl
-      where
-        refuses : Gave s Nothing tt (refusing q (failed x)) (resumed w) tt w′
-        refuses = from-going refl (rw f at (e .same))
-
-        stays : (p : Pace) → w′ .progress .pace ≡ p → d ≡ keptAt d v p
-        stays Going g = absurd (given {P = λ _. ⊥} (gives-last q (λ _. gives-refuse)) refuses g)
-        stays (Stopped y) g = refl
+    by (Stopped (Refused x)) f = refused (failed x) (from-going refl (rw f at (e .same))) (w′ .progress .pace) refl
+    by (Stopped ScriptEnded) f = refused ended (from-going refl (rw f at (e .same))) (w′ .progress .pace) refl

@@ -61,7 +61,7 @@ unfolding run
 run-keeps s d (give a) u n h l = untouched
 run-keeps s d (refuse c) u n h l = untouched
 run-keeps s d (read r k z) u n h l =
-    by-cases (KeptBy n l) (ltb u (length s)) _ _ (run-keeps s d (k (getD s u 0)) (u + 1) n h l) untouched
+    by-cases (KeptBy n l) (ltb u (length s)) _ _ (run-keeps s d (k (getD s u 0)) (u + 1) n h l) (run-keeps s d z u n h l)
 run-keeps s {A} d (write r p) u n h l = by (decLt n (roomOf l)) (run-keeps s d p u (n + 1) (noted r h) (rowAt l n r))
   where
     by : Dec (n < roomOf l) → KeptBy (n + 1) (rowAt l n r) (run s d p u (n + 1) (noted r h) (rowAt l n r)) → KeptBy n l (run s d (write r p) u n h l)
@@ -103,7 +103,7 @@ unfoldable pub free : List ℕ → {A : Type 0} → A → Plan A → ℕ → Lin
 free s d (give a) u h = still a Going u h
 free s d (refuse c) u h = still d (Stopped (haltOf c)) u h
 free s d (read r k z) u h =
-    cond (ltb u (length s)) (free s d (k (getD s u 0)) (u + 1) h) (still d (Stopped ScriptEnded) u h)
+    cond (ltb u (length s)) (free s d (k (getD s u 0)) (u + 1) h) (free s d z u h)
 free s d (write r p) u h = with-row (record { row = r; used = u; line = h }) (free s d p u (noted r h))
 free s d (look k) u h = free s d (k h) u h
 free s d (hold h′ p) u h = free s d p u h′
@@ -153,7 +153,7 @@ pub run-fits : (s : List ℕ) {A : Type 0} (d : A) (p : Plan A) (u n : ℕ) (h :
 unfolding run free laid
 run-fits s d (give a) u n h l = λ e. rw add-zero
 run-fits s d (refuse c) u n h l = λ e. rw add-zero
-run-fits s d (read r k z) u n h l = both-ways (Fits n l) (ltb u (length s)) _ _ _ _ (run-fits s d (k (getD s u 0)) (u + 1) n h l) (λ e. rw add-zero)
+run-fits s d (read r k z) u n h l = both-ways (Fits n l) (ltb u (length s)) _ _ _ _ (run-fits s d (k (getD s u 0)) (u + 1) n h l) (run-fits s d z u n h l)
 run-fits s d (write r p) u n h l = λ e.
     let x = free s d p u (noted r h) in
     let long : length (rowAt l n r) ≡ length l = simp length-set in
@@ -191,7 +191,7 @@ unfolding run free laid
 run-full s d w (give a) u n h l = λ k room more. absurd (omega arith)
 run-full s d w (refuse c) u n h l = λ k room more. absurd (omega arith)
 run-full s d w (read r k z) u n h l =
-    both-ways (Full d w n l) (ltb u (length s)) _ _ _ _ (run-full s d w (k (getD s u 0)) (u + 1) n h l) (λ k room more. absurd (omega arith))
+    both-ways (Full d w n l) (ltb u (length s)) _ _ _ _ (run-full s d w (k (getD s u 0)) (u + 1) n h l) (run-full s d w z u n h l)
 run-full s d w (write r p) u n h l = full-row s d w r p u n h l (run-full s d w p u (n + 1) (noted r h) (rowAt l n r))
 run-full s d w (look k) u n h l = run-full s d w (k h) u n h l
 run-full s d w (hold h′ p) u n h l = run-full s d w p u n h′ l
@@ -208,7 +208,7 @@ free-never-full s d (give a) u h = refl
 free-never-full s d (refuse (failed e)) u h = refl
 free-never-full s d (refuse ended) u h = refl
 free-never-full s {A} d (read r k z) u h =
-    by-cases (λ (x : Free A). isFull (x .pace) ≡ false) (ltb u (length s)) _ _ (free-never-full s d (k (getD s u 0)) (u + 1) h) refl
+    by-cases (λ (x : Free A). isFull (x .pace) ≡ false) (ltb u (length s)) _ _ (free-never-full s d (k (getD s u 0)) (u + 1) h) (free-never-full s d z u h)
 free-never-full s d (write r p) u h = free-never-full s d p u (noted r h)
 free-never-full s d (look k) u h = free-never-full s d (k h) u h
 free-never-full s d (hold h′ p) u h = free-never-full s d p u h′

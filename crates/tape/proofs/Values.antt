@@ -9,7 +9,7 @@ use Rattle.tape.specs.declared.progress.Halt.{Halt}
 use Rattle.tape.specs.declared.progress.Line.{Line}
 use Rattle.tape.specs.declared.progress.Pace.{Pace}
 use Rattle.tape.specs.declared.progress.Pace.the-variants.{Going, Stopped}
-use Rattle.tape.specs.Plan.{Cause, Plan, failed, ended, give, refuse, read, write, look, hold, handle, _then_}
+use Rattle.tape.specs.Plan.{Cause, Plan, give, refuse, read, write, look, hold, handle, _then_}
 use Rattle.tape.specs.Rows.{roomOf, rowAt}
 use Rattle.tape.specs.Run.{State, After, noted, haltOf, run, doesAt, Gave}
 use Rattle.tape.specs.Steps.{dataFrom}
@@ -30,8 +30,7 @@ module _ {A B : Type 0} (Q : A → Type 0) (P : B → Type 0) (f : A → Plan B)
   joined : (p : Plan A) → gives Q p → gives P (handle f g p)
   unfolding gives handle
   joined (give a) b = v a b .each
-  joined (refuse (failed x)) b = e (failed x) .each
-  joined (refuse ended) b = tt
+  joined (refuse c) b = e c .each
   joined (read r k z) b = (λ w. joined (k w) (b .0 w), joined z (b .1))
   joined (write r p) b = joined p b
   joined (look k) b = λ h. joined (k h) (b h)
@@ -76,7 +75,7 @@ run-given : (s : List ℕ) {A : Type 0} (P : A → Type 0) (d : A) (p : Plan A) 
 unfolding gives run
 run-given s P d (give a) u n h l b = λ _. b
 run-given s P d (refuse c) u n h l b = not-given (haltOf c)
-run-given s P d (read r k z) u n h l b = by-cases (GivenBy P) (ltb u (length s)) _ _ (run-given s P d (k (getD s u 0)) (u + 1) n h l (b .0 (getD s u 0))) (not-given _)
+run-given s P d (read r k z) u n h l b = by-cases (GivenBy P) (ltb u (length s)) _ _ (run-given s P d (k (getD s u 0)) (u + 1) n h l (b .0 (getD s u 0))) (run-given s P d z u n h l (b .1))
 run-given s P d (write r p) u n h l b = by-cases (GivenBy P) (ltb n (roomOf l)) _ _ (run-given s P d p u (n + 1) (noted r h) (rowAt l n r) b) (not-given _)
 run-given s P d (look k) u n h l b = run-given s P d (k h) u n h l (b h)
 run-given s P d (hold h′ p) u n h l b = run-given s P d p u n h′ l b

@@ -1,7 +1,7 @@
 -- Words of the script. Of running any plan: that words past those taken change nothing, what a script's end leaves, and
 -- how many words are taken at most.
 use Prim.Native.Nat.{ℕ, zero, suc, _+_, _*_, _<_, _≤_}
-use mathlib.Core.Path.{_≡_, refl, ap}
+use mathlib.Core.Path.{_≡_, refl, ap, _∙_}
 use mathlib.Core.Bool.{Bool, true, false, cond}
 use mathlib.Core.List.{List, [], _∷_, _++_}
 use native.Mathlib.Omega.{arith}
@@ -20,38 +20,48 @@ use Rattle.tape.specs.Plan.{Cause, failed, ended, Plan, give, refuse, re
 use Rattle.tape.specs.Plan.{until}
 use Rattle.tape.specs.Rows.{roomOf, rowAt}
 use Rattle.tape.specs.Run.{State, After, noted, run, doesAt, Gave}
-use Rattle.tape.proofs.Laws.{by-cases}
+use Rattle.tape.proofs.Laws.{by-cases, run-out}
 use Rattle.tape.specs.Steps.{word, row, dataFrom}
 use Rattle.tape.proofs.Room.{Written, Free, with-row, free}
 
--- What a call does on a script with more words behind: the same, where it did not come to the script's end; and where
--- it did, the rows so far are the first of those that it writes then.
-abbrev pub isEnded : Pace → Bool
-isEnded Going = false
-isEnded (Stopped (Refused e)) = false
-isEnded (Stopped ScriptEnded) = true
-isEnded (Stopped TraceFull) = false
+-- How far a plan comes in a script, given endless room: whether a reading finds no word, and the rows before that.
+pub record Reach : Type 0 where
+  pub short : Bool
+  pub rows : List Written
 
-pub record Longer (A : Type 0) (x y : Free A) : Type 0 where
-  pub same : isEnded (x .pace) ≡ false → y ≡ x
+unfoldable pub reach : List ℕ → {A : Type 0} → Plan A → ℕ → Line → Reach
+reach s (give a) u h = record { short = false; rows = [] }
+reach s (refuse e) u h = record { short = false; rows = [] }
+reach s (read r k z) u h = cond (ltb u (length s)) (reach s (k (getD s u 0)) (u + 1) h) (record { short = true; rows = [] })
+reach s (write r p) u h =
+    let x = reach s p u (noted r h) in
+    record { short = x .short; rows = record { row = r; used = u; line = h } ∷ x .rows }
+reach s (look k) u h = reach s (k h) u h
+reach s (hold h′ p) u h = reach s p u h′
+
+-- What a call does on a script with more words behind: the same, where no reading found none. Where one did, the rows before
+-- it are the first of those that it writes then.
+pub record Longer (A : Type 0) (c : Reach) (x y : Free A) : Type 0 where
+  pub same : c .short ≡ false → y ≡ x
   pub rest : List Written
-  pub first : y .rows ≡ x .rows ++ rest
+  pub first : y .rows ≡ c .rows ++ rest
 
-pub more-words : (s t : List ℕ) {A : Type 0} (d : A) (p : Plan A) (u : ℕ) (h : Line) → Longer A (free s d p u h) (free (s ++ t) d p u h)
-unfolding free
+pub more-words : (s t : List ℕ) {A : Type 0} (d : A) (p : Plan A) (u : ℕ) (h : Line)
+    → Longer A (reach s p u h) (free s d p u h) (free (s ++ t) d p u h)
+unfolding free reach
 more-words s t d (give a) u h = record { same = λ _. refl; rest = []; first = refl }
-more-words s t d (refuse c) u h = record { same = λ _. refl; rest = []; first = refl }
+more-words s t d (refuse e) u h = record { same = λ _. refl; rest = []; first = refl }
 more-words s t {A} d (read r k z) u h = by (decLt u (length s)) (more-words s t d (k (getD s u 0)) (u + 1) h)
   where
     on : Free A
     on = free (s ++ t) d (read r k z) u h
 
-    by : Dec (u < length s) → Longer A (free s d (k (getD s u 0)) (u + 1) h) (free (s ++ t) d (k (getD s u 0)) (u + 1) h)
-        → Longer A (free s d (read r k z) u h) on
+    by : Dec (u < length s)
+        → Longer A (reach s (k (getD s u 0)) (u + 1) h) (free s d (k (getD s u 0)) (u + 1) h) (free (s ++ t) d (k (getD s u 0)) (u + 1) h)
+        → Longer A (reach s (read r k z) u h) (free s d (read r k z) u h) on
     by (yes some) ih =
         rw (lt-ltb u (length s) some, lt-ltb u (length (s ++ t)) (omega (arith, length-append s t)), List·getD-append s t 0 u some) ih
-    by (no none) ih =
-        rw (le-ltb u (length s) (omega arith)) (record { same = λ e. cc; rest = on .rows; first = refl })
+    by (no none) ih = rw (le-ltb u (length s) (omega arith)) (record { same = λ e. cc; rest = on .rows; first = refl })
 more-words s t d (write r p) u h =
     let ih = more-words s t d p u (noted r h) in
     let row : Written = record { row = r; used = u; line = h } in
@@ -63,18 +73,75 @@ more-words s t d (write r p) u h =
 more-words s t d (look k) u h = more-words s t d (k h) u h
 more-words s t d (hold h′ p) u h = more-words s t d p u h′
 
+-- rows that were all written after so many words
+pub data Late : ℕ → List Written → Type 0 where
+  no-row : {n : ℕ} → Late n []
+  late-one : {n : ℕ} {x : Written} {xs : List Written} → x .used ≡ n → Late n xs → Late n (x ∷ xs)
+
+late-at : {m n : ℕ} {xs : List Written} → m ≡ n → Late m xs → Late n xs
+late-at e b = rw e at b
+
+-- What a script's end leaves: the rows before the reading that found no word, and those that close the call. Every word of the
+-- script was taken before these.
+pub record Closed (A : Type 0) (n : ℕ) (c : Reach) (x : Free A) : Type 0 where
+  pub closing : List Written
+  pub rows : x .rows ≡ c .rows ++ closing
+  pub late : Late n closing
+  pub all : c .short ≡ true → x .used ≡ n
+
+free-out : (s : List ℕ) {A : Type 0} (d : A) (p : Plan A) (u : ℕ) (h : Line) → length s ≤ u → (free s d p u h .used ≡ u) × Late u (free s d p u h .rows)
+unfolding free
+free-out s d (give a) u h e = (refl, no-row)
+free-out s d (refuse x) u h e = (refl, no-row)
+free-out s d (read r k z) u h e = rw (le-ltb u (length s) e) (free-out s d z u h e)
+free-out s d (write r p) u h e = let ih = free-out s d p u (noted r h) e in (ih .0, late-one refl (ih .1))
+free-out s d (look k) u h e = free-out s d (k h) u h e
+free-out s d (hold h′ p) u h e = free-out s d p u h′ e
+
+pub at-its-end : (s : List ℕ) {A : Type 0} (d : A) (p : Plan A) (u : ℕ) (h : Line) → u ≤ length s → Closed A (length s) (reach s p u h) (free s d p u h)
+unfolding free reach
+at-its-end s d (give a) u h e = record { closing = []; rows = refl; late = no-row; all = λ c. cc }
+at-its-end s d (refuse x) u h e = record { closing = []; rows = refl; late = no-row; all = λ c. cc }
+at-its-end s {A} d (read r k z) u h e = by (decLt u (length s)) (at-its-end s d (k (getD s u 0)) (u + 1) h) (free-out s d z u h)
+  where
+    by : Dec (u < length s)
+        → (u + 1 ≤ length s → Closed A (length s) (reach s (k (getD s u 0)) (u + 1) h) (free s d (k (getD s u 0)) (u + 1) h))
+        → (length s ≤ u → (free s d z u h .used ≡ u) × Late u (free s d z u h .rows))
+        → Closed A (length s) (reach s (read r k z) u h) (free s d (read r k z) u h)
+    by (yes some) ih out = rw (lt-ltb u (length s) some) (ih (omega arith))
+    by (no none) ih out =
+        let end : u ≡ length s = omega arith in
+        let closed = out (omega arith) in
+        rw (le-ltb u (length s) (omega arith))
+        (record { closing = free s d z u h .rows; rows = refl; late = late-at end (closed .1); all = λ c. closed .0 ∙ end })
+at-its-end s d (write r p) u h e =
+    let ih = at-its-end s d p u (noted r h) e in
+    let row : Written = record { row = r; used = u; line = h } in
+    record { closing = ih .closing; rows = ap (λ (xs : List Written). row ∷ xs) (ih .rows); late = ih .late; all = ih .all }
+at-its-end s d (look k) u h e = at-its-end s d (k h) u h e
+at-its-end s d (hold h′ p) u h e = at-its-end s d p u h′ e
+
+-- so a call that finds no room among those rows has taken every word of its script (`run-full` says which row it is)
+pub late-row : (n : ℕ) (xs ys : List Written) (w : Written) (k : ℕ) → Late n ys → length xs ≤ k → k < length (xs ++ ys) → getD (xs ++ ys) k w .used ≡ n
+late-row n [] [] w k no-row h more = absurd (omega arith)
+late-row n [] (y ∷ ys) w zero (late-one e b) h more = e
+late-row n [] (y ∷ ys) w (suc k) (late-one e b) h more = late-row n [] ys w k b (omega arith) (omega arith)
+late-row n (x ∷ xs) ys w zero b h more = absurd (omega arith)
+late-row n (x ∷ xs) ys w (suc k) b h more = late-row n xs ys w k b (omega arith) (omega arith)
+
 -- no more words are taken than there are
 run-within : (s : List ℕ) {A : Type 0} (d : A) (p : Plan A) (u n : ℕ) (h : Line) (l : List ℕ) → u ≤ length s
     → run s d p u n h l .state .progress .used ≤ length s
 unfolding run
 run-within s d (give a) u n h l e = e
-run-within s d (refuse c) u n h l e = e
-run-within s {A} d (read r k z) u n h l e = by (decLt u (length s)) (run-within s d (k (getD s u 0)) (u + 1) n h l)
+run-within s d (refuse x) u n h l e = e
+run-within s {A} d (read r k z) u n h l e = by (decLt u (length s)) (run-within s d (k (getD s u 0)) (u + 1) n h l) (run-within s d z u n h l)
   where
     by : Dec (u < length s) → (u + 1 ≤ length s → run s d (k (getD s u 0)) (u + 1) n h l .state .progress .used ≤ length s)
+        → (u ≤ length s → run s d z u n h l .state .progress .used ≤ length s)
         → run s d (read r k z) u n h l .state .progress .used ≤ length s
-    by (yes some) ih = rw (lt-ltb u (length s) some) (ih (omega arith))
-    by (no none) ih = rw (le-ltb u (length s) (omega arith)) e
+    by (yes some) ih out = rw (lt-ltb u (length s) some) (ih (omega arith))
+    by (no none) ih out = rw (le-ltb u (length s) (omega arith)) (out e)
 run-within s {A} d (write r p) u n h l e =
     by-cases (λ (x : After A). x .state .progress .used ≤ length s) (ltb n (roomOf l)) _ _ (run-within s d p u (n + 1) (noted r h) (rowAt l n r) e) e
 run-within s d (look k) u n h l e = run-within s d (k h) u n h l e
@@ -183,6 +250,12 @@ unfolding dataFrom
 at-most-data k zero = at-most-give
 at-most-data k (suc n) = at-most-then 1 n (at-most-word _) (λ w. at-most-then n 0 (at-most-data (k + 1) n) (λ ws. at-most-give) (omega arith)) (omega arith)
 
+abbrev pub isEnded : Pace → Bool
+isEnded Going = false
+isEnded (Stopped (Refused e)) = false
+isEnded (Stopped ScriptEnded) = true
+isEnded (Stopped TraceFull) = false
+
 -- At most so many words more; and where the script ended, all of its words.
 pub record Taken (n : ℕ) (s : List ℕ) (u : ℕ) (q : Pace) (u′ : ℕ) : Type 0 where
   pub most : u′ ≤ u + n
@@ -208,7 +281,9 @@ run-taken s (suc n) {A} d (read r k z) u m h l b = by (decLt u (length s)) (run-
     by : Dec (u < length s) → TakenBy n s (u + 1) (run s d (k (getD s u 0)) (u + 1) m h l) → TakenBy (suc n) s u (run s d (read r k z) u m h l)
     by (yes some) ih =
         rw (lt-ltb u (length s) some) (record { most = omega (arith, ih .most); all = λ e v. ih .all e (omega arith) })
-    by (no none) ih = rw (le-ltb u (length s) (omega arith)) (record { most = omega arith; all = λ e v. omega arith })
+    by (no none) ih =
+        let out = run-out s d z u m h l (omega arith) in
+        rw (le-ltb u (length s) (omega arith)) (record { most = omega (arith, out); all = λ e v. omega (arith, out) })
 run-taken s n d (write r p) u m h l b =
     by-cases (TakenBy n s u) (ltb m (roomOf l)) _ _ (run-taken s n d p u (m + 1) (noted r h) (rowAt l m r) b) (none-taken n s u (Stopped TraceFull) refl)
 run-taken s n d (look k) u m h l b = run-taken s n d (k h) u m h l (b h)

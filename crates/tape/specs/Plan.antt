@@ -27,12 +27,9 @@ pub data Plan (A : Type 0) : Type 0 where
   hold : Line → Plan A → Plan A
 
 -- p, and then f of what it gave or h of why it was refused. Every way of joining plans below is this one.
--- A script's end is no refusal that is handled: it passes every h by (here, and in Run's `run` and `nextAt`; where it
--- is to be handled, these three clauses are `h ended`, a run of z, and a run of `g ended`).
 unfoldable pub handle : {A B : Type 0} → (A → Plan B) → (Cause → Plan B) → Plan A → Plan B
 handle f h (give a) = f a
-handle f h (refuse (failed e)) = h (failed e)
-handle f h (refuse ended) = refuse ended
+handle f h (refuse c) = h c
 handle f h (read r k z) = read r (λ w. handle f h (k w)) (handle f h z)
 handle f h (write r p) = write r (handle f h p)
 handle f h (look k) = look (λ g. handle f h (k g))

@@ -61,19 +61,24 @@ unfoldable pub overAt : Pace → Bool → Bool
 overAt Going b = b
 overAt (Stopped x) b = true
 
+-- a call stops once
+unfoldable pub stopAt : Pace → Halt → Pace
+stopAt Going x = Stopped x
+stopAt (Stopped y) x = Stopped y
+
 -- data words told by where they lie in a script: n of them from a place on, and (0, 0) where the call has stopped
 pub record Lies (from n : ℕ) (r : Data) : Type 0 where
   pub place : r .place ≡ keptAt 0 from (r .progress .pace)
   pub count : r .count ≡ keptAt 0 n (r .progress .pace)
 
 module _ (s : List ℕ) where
-  -- a plan from a call that is going, with u words used and n rows written; it gives d where it stops. Where no word is
-  -- left, or no room, it stops as it is: what a plan says of the first (z) is not looked at
+  -- a plan from a call that is going, with u words used and n rows written; it gives d where it stops. Where no word is left it
+  -- goes on as it does then; where there is no room it stops as it is
   unfoldable pub run : {A : Type 0} → A → Plan A → ℕ → ℕ → Line → List ℕ → After A
   run d (give a) u n h l = after a Going u n h l
   run d (refuse c) u n h l = after d (Stopped (haltOf c)) u n h l
   run d (read r k z) u n h l =
-      cond (ltb u (length s)) (run d (k (getD s u 0)) (u + 1) n h l) (after d (Stopped ScriptEnded) u n h l)
+      cond (ltb u (length s)) (run d (k (getD s u 0)) (u + 1) n h l) (run d z u n h l)
   run d (write r p) u n h l =
       cond (ltb n (roomOf l)) (run d p u (n + 1) (noted r h) (rowAt l n r)) (after d (Stopped TraceFull) u n h l)
   run d (look k) u n h l = run d (k h) u n h l
@@ -90,11 +95,11 @@ module _ (s : List ℕ) where
   abbrev pub does : {A : Type 0} → A → Plan A → State → After A
   does d p w = doesAt d (w .progress .pace) p w
 
-  -- how f and g go on from where a plan has come: f of what it gave, g of the error that it was refused with
+  -- how f and g go on from where a plan has come: f of what it gave, g of why it was refused
   unfoldable pub nextAt : {A B : Type 0} → B → (A → Plan B) → (Cause → Plan B) → A → Pace → State → After B
   nextAt d f g v Going w = runFrom d (f v) w
   nextAt d f g v (Stopped (Refused e)) w = runFrom d (g (failed e)) w
-  nextAt d f g v (Stopped ScriptEnded) w = stopped d ScriptEnded w
+  nextAt d f g v (Stopped ScriptEnded) w = runFrom d (g ended) w
   nextAt d f g v (Stopped TraceFull) w = stopped d TraceFull w
 
   abbrev pub next : {A B : Type 0} → B → (A → Plan B) → (Cause → Plan B) → A → State → After B

@@ -4,7 +4,7 @@ ghost use mathlib.Core.List.{List};
 ghost use mathlib.Core.Bool.{Bool, false};
 ghost use Prim.Native.Nat.{ℕ, _+_, _^_, _<_};
 ghost use Rattle.tape.specs.Plan.{give, hold, fail, ensure};
-ghost use Rattle.tape.specs.Run.{at, noted, overAt, Did, Gave};
+ghost use Rattle.tape.specs.Run.{at, noted, overAt, stopAt, Did, Gave};
 use crate::rows::Row;
 use types::card::Signalling;
 use types::clock::Hertz;
@@ -92,6 +92,17 @@ impl Progress {
         }
     }
 
+    // The same place, stopped, unless it was before.
+    pub fn stop(self, halt: Halt) -> Progress
+        ensures { λ r. ⌜ r ≡ record { pace = stopAt (self .pace) halt; used = self .used; rows = self .rows; line = self .line } ⌝ }
+    {
+        let pace = self.pace;
+        match pace {
+            Pace::Going => self.stopped(halt),
+            Pace::Stopped(_) => self,
+        }
+    }
+
     // The same, so many words further.
     pub fn moved(self, words: usize) -> Progress
         requires { ⌜ self .used + words < 2 ^ 64 ⌝ }
@@ -135,7 +146,7 @@ impl Progress {
     }
 }
 
-// Refuses, unless the call has stopped.
+// Refuses, unless the call has stopped. Written out, since by way of `stop` an initialisation took half as long again.
 pub fn refuse(p: Progress, e: Error) -> Progress
     ensures { λ r. ⌜ ((s l : List ℕ) → Did s (fail e) (at p l) (at r l)) ⌝ }
 {

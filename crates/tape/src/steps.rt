@@ -79,7 +79,7 @@ pub fn set_clken(p: Progress, rows: &mut [u32], on: bool) -> Progress
     rows::write_row(p, rows, Row::CLKCR, value)
 }
 
-// What a guard makes of a call: the reset rows and the refusal once more, if it was refused.
+// What a guard makes of a call: the reset rows, and the stop once more, unless there is no room.
 pub fn close(p: Progress, rows: &mut [u32]) -> Progress
     ensures { λ r. ⌜ ((s : List ℕ) → Settled s Nothing Nothing tt give (refusing resetController) tt (at p (now (rows .entry))) tt (at r (now (rows .exit)))) ⌝ }
 {
@@ -87,12 +87,11 @@ pub fn close(p: Progress, rows: &mut [u32]) -> Progress
     match pace {
         Pace::Going => p,
         Pace::Stopped(halt) => match halt {
-            Halt::Refused(e) => {
-                let clean = reset_controller(p.resumed(), rows);
-                progress::refuse(clean, e)
-            }
-            Halt::ScriptEnded => p,
             Halt::TraceFull => p,
+            _ => {
+                let clean = reset_controller(p.resumed(), rows);
+                clean.stop(halt)
+            }
         },
     }
 }

@@ -1,48 +1,20 @@
 -- A call on its way, with what was told of it: what the turns from there on lay down is what all of them do from its start.
-use Prim.Native.Nat.{ℕ, suc, _+_, _-_}
-use mathlib.Core.Bool.{Bool, true, false, cond}
+use Prim.Native.Nat.{ℕ, suc}
+use mathlib.Core.Bool.{true, false}
 use mathlib.Core.List.{List, []}
 use mathlib.Core.Path.{_≡_, refl, ap, sym, _∙_}
-use native.Mathlib.Omega.{arith}
-use lib.Dec.{ltb}
-use lib.ListN.{length, length-set}
-use borrow.Author.Tests.{ltb-true}
-use Rattle.tape.specs.Rows.{rowAt, roomOf}
 use Rattle.host.specs.declared.host.Called.{Called}
 use Rattle.host.specs.Calls.{calledOf}
-use Rattle.step.specs.declared.wants.Wants.{Wants}
-use Rattle.step.specs.declared.wants.Wants.the-variants as W
-use Rattle.step.specs.Next.{wantOf}
 use Rattle.underway.specs.declared.call.Call.{Call}
 use Rattle.underway.specs.Under.{under}
 use Rattle.feed.specs.declared.turn.Feeding.{Feeding}
 use Rattle.feed.specs.declared.turn.Turn.{Turn}
-use Rattle.feed.specs.Turns.{Way, Turned, starts, wayOf, turnBy, turnOf, turnedOf, handedAt, fedFrom, goesOn, calledAt}
-use Rattle.feed.proofs.Fed.{turn-keeps, turn-closes}
-use Rattle.telling.specs.Told.{Leaf, leaf, evented, turnsOn, left, eventsOf}
-
-never : {A : Type 0} {b : Bool} → b ≡ true → b ≡ false → A
-never t f = let z : _≡_ {A = ℕ} 0 1 = cc in absurd (omega arith)
-
-by-test : {X : Type 0} (P : X → Type 0) (b : Bool) (x y : X) → (b ≡ true → P x) → (b ≡ false → P y) → P (cond b x y)
-by-test P true x y f g = f refl
-by-test P false x y f g = g refl
+use Rattle.feed.specs.Runs.{nextSpan}
+use Rattle.feed.specs.Turns.{Way, Turned, starts, wayOf, turnOf, turnedOf, handedAt, fedFrom, goesOn, calledAt}
+use Rattle.feed.proofs.Fed.{turn-keeps, turn-fewer, turn-left, turn-closes}
+use Rattle.telling.specs.Told.{Leaf, evented, turnsOn, eventsOf}
 
 module _ (s : List ℕ) where
-  -- a turn that another follows takes one of the words and rows that are left
-  abbrev Exact : Way → List ℕ → Turned → Type 0
-  Exact w l t = goesOn (t .event) ≡ true → suc (left s (t .next) (t .list)) ≡ left s w l
-
-  exact : (w : Way) (l : List ℕ) (q : Wants) → Exact w l (turnBy s w l q)
-  unfolding turnBy goesOn
-  exact w l (W.Read r) =
-      by-test (Exact w l) (ltb (w .used) (length s)) _ _
-      (λ within e. let some = ltb-true (w .used) (length s) within in omega (arith, some)) (λ _ e. never e refl)
-  exact w l (W.Write r) =
-      by-test (Exact w l) (ltb (w .rows) (roomOf l)) _ _
-      (λ within e. let room = ltb-true (w .rows) (roomOf l) within in rw (length-set, length-set) (omega (arith, room))) (λ _ e. never e refl)
-  exact w l W.Nothing = λ e. never e refl
-
   module _ (w : Way) (l : List ℕ) (p : Leaf) where
     abbrev next : Turned
     next = turnOf s w l
@@ -50,7 +22,7 @@ module _ (s : List ℕ) where
     turn-goes : goesOn (next .event) ≡ true → eventsOf s (next .next) (next .list) (evented (next .event) p) ≡ eventsOf s w l p
     unfolding turnsOn
     turn-goes e =
-        ap (λ (k : ℕ). turnsOn s k (next .next) (next .list) (evented (next .event) p)) (exact w l (wantOf (w .call .ahead)) e)
+        ap (λ (k : ℕ). turnsOn s k (next .next) (next .list) (evented (next .event) p)) (sym (turn-fewer s w l e))
         ∙ sym (rw e refl)
 
     turn-ends : goesOn (next .event) ≡ false → evented (next .event) p ≡ eventsOf s w l p
@@ -87,18 +59,19 @@ module _ (s : List ℕ) where
         }
 
     -- and one turn fewer is left
-    pub goes-less : goesOn (t .event) ≡ true → suc ((length s - t .feeding .used) + (roomOf l′ - t .feeding .rows)) ≡ (length s - f .used) + (roomOf l - f .rows)
-    goes-less e = ap (λ (t : Turned). suc (left s (t .next) (t .list))) was ∙ exact (wayOf (x .g) f) l (wantOf (under (x .g) (f .call) .ahead)) (same ∙ e)
+    pub goes-less : goesOn (t .event) ≡ true
+        → nextSpan s (under [] (f .call) .ahead) (f .used) ≡ suc (nextSpan s (under [] (t .feeding .call) .ahead) (t .feeding .used))
+    goes-less e = turn-left s f t (x .g) l l′ was e
 
     pub ends-telling : {p′ : Leaf} → p′ ≡ evented (t .event) p → goesOn (t .event) ≡ false → p′ ≡ eventsOf s w₀ l₀ p₀
     ends-telling tells e =
         tells ∙ ap (λ (t : Turned). evented (t .event) p) was ∙ turn-ends (wayOf (x .g) f) l p (same ∙ e) ∙ x .told
 
-    pub ends-called : goesOn (t .event) ≡ false → {c : Called} → ((g : List ℕ) → c ≡ calledAt (wayOf g (t .feeding)) (t .event))
+    pub ends-called : goesOn (t .event) ≡ false → {c : Called} → ((g : List ℕ) → c ≡ calledAt (wayOf g (t .feeding)))
         → c ≡ calledOf (fedFrom s w₀ l₀)
     ends-called e told =
         told (handedAt (t .event) (x .g))
-        ∙ ap (λ (t : Turned). calledAt (t .next) (t .event)) was
+        ∙ ap (λ (t : Turned). calledAt (t .next)) was
         ∙ turn-closes s (wayOf (x .g) f) l (same ∙ e)
         ∙ ap calledOf (x .fed)
 
@@ -106,7 +79,7 @@ module _ (s : List ℕ) where
   module _ {call : Call} {f₀ f : Feeding} {l₀ l : List ℕ} {p₀ p : Leaf} (begun : f₀ ≡ record { call = call; used = 0; rows = 0; place = 0 })
       (x : Telling (wayOf [] f₀) l₀ p₀ f l p) (t : Turn) (l′ : List ℕ) (is : (g : List ℕ) → turnedOf g t l′ ≡ turnOf s (wayOf g f) l)
       (off : goesOn (t .event) ≡ false) where
-    pub all-called : {c : Called} → ((g : List ℕ) → c ≡ calledAt (wayOf g (t .feeding)) (t .event)) → c ≡ calledOf (fedFrom s (starts (under [] call)) l₀)
+    pub all-called : {c : Called} → ((g : List ℕ) → c ≡ calledAt (wayOf g (t .feeding))) → c ≡ calledOf (fedFrom s (starts (under [] call)) l₀)
     all-called told = ends-called x t l′ is off told ∙ ap (λ (f : Feeding). calledOf (fedFrom s (wayOf [] f) l₀)) begun
 
     pub all-told : {p′ : Leaf} → p′ ≡ evented (t .event) p → p′ ≡ eventsOf s (starts (under [] call)) l₀ p₀

@@ -1,6 +1,6 @@
 -- What is laid on a sheet when a book is told: for each call the call as the book has it, its events in their order, its line
 -- and the state. Each line goes where the sheet has room for it.
-use Prim.Native.Nat.{ℕ, zero, suc, _+_, _*_, _-_, _≤_, min}
+use Prim.Native.Nat.{ℕ, zero, suc, _+_, _*_, _≤_, min}
 use mathlib.Core.Bool.{Bool, true, cond}
 use mathlib.Core.List.{List}
 use mathlib.Core.Path.{_≡_}
@@ -9,7 +9,6 @@ use lib.ListN.{length, replicate}
 use Rattle.types.specs.Answer.{answerTold}
 use Rattle.text.specs.Ink.{inked, next}
 use Rattle.tape.specs.Plan.{Plan}
-use Rattle.tape.specs.Rows.{roomOf}
 use Rattle.host.specs.declared.host.Called.{Called}
 use Rattle.host.specs.declared.host.Sdmmc.{Sdmmc}
 use Rattle.host.specs.Calls.{calledOf}
@@ -20,7 +19,8 @@ use Rattle.underway.specs.Under.{Under}
 use Rattle.underway.specs.Whole.{initCall, readCall, statusCall}
 use Rattle.feed.specs.declared.turn.Event.{Event}
 use Rattle.feed.specs.declared.turn.Event.the-variants as F
-use Rattle.feed.specs.Turns.{Way, Turned, starts, turnOf, goesOn}
+use Rattle.feed.specs.Runs.{nextSpan}
+use Rattle.feed.specs.Turns.{Way, starts, turnOf, goesOn}
 use Rattle.book.specs.declared.layout.Asked.{Asked}
 use Rattle.book.specs.Lines.{callLine}
 use Rattle.book.specs.Readers.{askedAt, callAsked}
@@ -63,13 +63,9 @@ module _ (s : List ℕ) where
       let t = turnOf s w l in
       cond (goesOn (t .event)) (turnsOn k (t .next) (t .list) (evented (t .event) p)) (evented (t .event) p)
 
-  -- the words and the rows that are left: a turn that another follows takes one of them
-  abbrev pub left : Way → List ℕ → ℕ
-  left w l = (length s - w .used) + (roomOf l - w .rows)
-
-  -- ALL THE EVENTS OF A CALL
+  -- ALL THE EVENTS OF A CALL: of its readings and rows, which are turns that others follow, and of its last turn
   abbrev pub eventsOf : Way → List ℕ → Leaf → Leaf
-  eventsOf w l p = turnsOn (suc (left w l)) w l p
+  eventsOf w l p = turnsOn (suc (nextSpan s (w .call .ahead) (w .used))) w l p
 
 -- a call of a book at its start
 unfoldable pub planOf : Sdmmc → ℕ → ℕ → ℕ → Plan Closing

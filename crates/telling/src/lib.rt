@@ -79,12 +79,12 @@ fn tell_event(sheet: Sheet, event: Event, out: &mut [u8]) -> Sheet
 }
 
 // A call whose last turn this was.
-fn ended(feeding: Feeding, event: Event, sheet: Sheet) -> Told
-    ensures called { λ r. ⌜ ((g : List ℕ) → r .called ≡ calledAt (wayOf g feeding) event) ⌝ }
+fn ended(feeding: Feeding, sheet: Sheet) -> Told
+    ensures called { λ r. ⌜ ((g : List ℕ) → r .called ≡ calledAt (wayOf g feeding)) ⌝ }
     ensures sheet { λ r. ⌜ r .sheet ≡ sheet ⌝ }
 {
     Told {
-        called: feeding.called(event),
+        called: feeding.called(),
         sheet: sheet,
     }
 }
@@ -104,7 +104,7 @@ fn take_turns(call: Call, script: &[u32], rows: &mut [u32], sheet: Sheet, out: &
         let next = turn.feeding;
         page = tell_event(page, event, out);
         if !event.goes_on() {
-            return ended(next, event, page);
+            return ended(next, page);
         }
         feeding = next;
     }

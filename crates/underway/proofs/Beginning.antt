@@ -1,5 +1,5 @@
 -- A call at its start: what is ahead of it there is its one plan.
-use Prim.Native.Nat.{ℕ, _+_, _*_, _^_, _≤_, _-_, min}
+use Prim.Native.Nat.{ℕ, _*_, _^_, _≤_, _-_}
 use mathlib.Core.Path.{_≡_, refl, ap, sym, _∙_}
 use mathlib.Core.Bool.{Bool}
 use mathlib.Core.List.{List}
@@ -21,8 +21,9 @@ use Rattle.step.specs.declared.command.Begun.the-variants as B
 use Rattle.step.specs.declared.command.Command.{Command}
 use Rattle.step.specs.declared.reset.Reset.the-variants as Re
 use Rattle.step.specs.Command.{begunPlan, begunNext}
-use Rattle.step.specs.Context.{Context, whole, inside, plug}
-use Rattle.step.specs.Next.{Next, next}
+use Rattle.step.specs.Context.{whole, inside, plug}
+use Rattle.step.specs.declared.why.Why.the-variants as Y
+use Rattle.step.specs.Next.{next}
 use Rattle.step.specs.Reset.{rowsLeft, all-rows}
 use Rattle.step.specs.Rows.{rowsFrom, resetRows}
 use Rattle.step.specs.Transfer.{blocksOf, transferOf, phasePlan}
@@ -55,7 +56,7 @@ reset-rows = refl
 
 module _ (j : Job) (k : Known) (held g : List ℕ) (h : Line) where
   -- refused before its first step
-  pub refused-begins : (e : Error) → next (atPlan j k held g (A.Over (Z.Keeping e))) h ≡ next (keeping (j .host) (failed e)) h
+  pub refused-begins : (e : Error) → next (atPlan j k held g (A.Over (Z.Keeping (Y.Failed e)))) h ≡ next (keeping (j .host) (failed e)) h
   unfolding atPlan endPlan
   refused-begins e = refl
 
@@ -69,12 +70,12 @@ module _ (j : Job) (k : Known) (held g : List ℕ) (h : Line) where
     unfolding atPlan begunNext
     app-on c e = same-plug (siteOf j k T.App) _ _ h e ∙ begins
 
-    app-failed : next (atPlan j k held g (A.Over (Z.Keeping E.SoftwareTimeout))) h ≡ next (plug (siteOf j k T.App) (fail E.SoftwareTimeout)) h
+    app-failed : next (atPlan j k held g (A.Over (Z.Keeping (Y.Failed E.SoftwareTimeout)))) h ≡ next (plug (siteOf j k T.App) (fail E.SoftwareTimeout)) h
     unfolding atPlan endPlan siteOf handle plug
     app-failed = refl
 
     pub app-spent : begunNext B.Spent h ≡ next (begunPlan limit 55 argument R1 gated) h
-        → next (atPlan j k held g (A.Over (Z.Keeping E.SoftwareTimeout))) h ≡ next (plug (siteOf j k T.App) (command limit 55 argument R1)) h
+        → next (atPlan j k held g (A.Over (Z.Keeping (Y.Failed E.SoftwareTimeout)))) h ≡ next (plug (siteOf j k T.App) (command limit 55 argument R1)) h
     unfolding begunNext
     app-spent e = app-failed ∙ same-plug (siteOf j k T.App) (fail E.SoftwareTimeout) (begunPlan limit 55 argument R1 gated) h e ∙ begins
 

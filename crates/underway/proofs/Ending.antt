@@ -1,9 +1,8 @@
 -- What a call has come to, by whether it is over.
 use Prim.Native.Nat.{ℕ}
-use mathlib.Core.Path.{_≡_, refl, ap, sym, _∙_}
+use mathlib.Core.Path.{_≡_, refl, ap, sym}
 use mathlib.Core.Bool.{true}
 use mathlib.Core.List.{List}
-use Rattle.types.specs.declared.error.Answer.the-variants as Answered
 use Rattle.tape.specs.declared.progress.Line.{Line}
 use Rattle.host.specs.declared.host.Sdmmc.{Sdmmc}
 use Rattle.step.specs.Command.{commandPlan}
@@ -24,6 +23,7 @@ use Rattle.stepping.specs.declared.call.Known.{Known}
 use Rattle.underway.specs.Under.{under, endsAt, closedAt, closedOf}
 use Rattle.underway.specs.declared.call.Call.{Call}
 use Rattle.underway.specs.declared.call.Closed.{Closed}
+use Rattle.underway.specs.declared.call.Outcome.the-variants as O
 use Rattle.underway.specs.declared.ends.Ends.the-variants as Z
 use Rattle.underway.proofs.Rowing.{idle-waits, row-waits}
 
@@ -51,7 +51,7 @@ module _ (j : Job) (k : Known) (h : Line) (held g : List ℕ) where
   at-ends (A.Over y) x e = let same : y ≡ x = cc in ap (λ (z : End). next (endPlan j k (wordsIn j G.Asked held g) z) h) (sym same)
 
 closed-waits : (host : Sdmmc) (x : Next Closing) → waits x ≡ true
-    → _≡_ {A = Closed} (record { answer = Answered.ScriptEnded; host = host }) (closedAt host x)
+    → _≡_ {A = Closed} (record { outcome = O.Not; host = host }) (closedAt host x)
 unfolding waits
 closed-waits host (asks h r f z) e = refl
 closed-waits host (tells h r p) e = refl
@@ -64,6 +64,6 @@ module _ (c : Call) (g : List ℕ) where
   unfolding closedOf
   closed-over x e = ap (closedAt (c .job .host)) (at-ends (c .job) (c .known) (c .line) (c .held) g (c .at) x e)
 
-  pub closed-under : endsAt (c .at) ≡ Z.Not → _≡_ {A = Closed} (record { answer = Answered.ScriptEnded; host = c .job .host }) (closedOf (under g c))
+  pub closed-under : endsAt (c .at) ≡ Z.Not → _≡_ {A = Closed} (record { outcome = O.Not; host = c .job .host }) (closedOf (under g c))
   unfolding closedOf
   closed-under e = closed-waits (c .job .host) (under g c .ahead) (at-waits (c .job) (c .known) (c .line) (c .held) g (c .at) e)

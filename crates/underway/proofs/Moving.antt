@@ -1,5 +1,5 @@
 -- A call at each of its places: what it waits for, and what an answer to the part that stands there does to the call.
-use Prim.Native.Nat.{ℕ, suc}
+use Prim.Native.Nat.{ℕ}
 use mathlib.Core.Path.{_≡_, refl, ap, sym, _∙_}
 use mathlib.Core.Bool.{true}
 use mathlib.Core.List.{List}
@@ -25,13 +25,13 @@ use Rattle.step.specs.declared.transfer.Reads.the-variants as Re
 use Rattle.step.specs.declared.wants.Wants.{Wants}
 use Rattle.step.specs.declared.wants.Wants.the-variants as Wa
 use Rattle.step.specs.Command.{commandPlan, commandNext}
-use Rattle.step.specs.Context.{Context, plug, plugNext}
-use Rattle.step.specs.Next.{Next, next, waits, wantOf, heard, told, lineOf, lineAfter, HandedBy}
+use Rattle.step.specs.Context.{plug, plugNext}
+use Rattle.step.specs.Next.{Next, next, waits, wantOf, heard, told, missed, lineOf, lineAfter, HandedBy}
 use Rattle.step.specs.Ready.{asked, readyPlan, readyNext}
 use Rattle.step.specs.Transfer.{idling, polling, startSite, stopSite, ending, wordsBy, readsPlan, dataPlan, dataNext, HandedAt}
-use Rattle.step.proofs.Inside.{inside-wants, inside-heard, inside-told, inside-line, command-waits, command-goes, command-gate}
-use Rattle.step.proofs.Phases.{data-waits, reads-want, writes-want, writes-gated}
-use Rattle.step.proofs.Readying.{ready-waits, ready-goes, delay-gated, delay-wants}
+use Rattle.step.proofs.Inside.{inside-wants, inside-heard, inside-missed, inside-told, inside-line, command-waits, command-goes, command-gate}
+use Rattle.step.proofs.Phases.{data-waits, writes-gated}
+use Rattle.step.proofs.Readying.{ready-waits, ready-goes, delay-gated}
 use Rattle.stepping.specs.Ahead.{busWith, phaseOf, wordsIn, rcaOf, waitRca, siteOf, waitSite, getsSite, atPlan}
 use Rattle.stepping.specs.Closing.{Closing}
 use Rattle.stepping.specs.declared.call.Asked.{Asked}
@@ -91,6 +91,11 @@ module _ (j : Job) (k : Known) (h : Line) (held g : List ℕ) where
     unfolding atPlan
     command-heard x w e = ap (plugNext (siteOf j k s)) e ∙ inside-heard (siteOf j k s) (commandPlan c) h (command-waits c h) w
 
+    pub command-missed : (x : CommandStep) → commandNext x h ≡ missed (next (commandPlan c) h)
+        → plugNext (siteOf j k s) (commandNext x h) ≡ missed command
+    unfolding atPlan
+    command-missed x e = ap (plugNext (siteOf j k s)) e ∙ inside-missed (siteOf j k s) (commandPlan c) h (command-waits c h)
+
     pub command-moved : (x : CommandStep) (l : Line) → l ≡ lineAfter command
         → commandNext x (lineAfter (next (commandPlan c) h)) ≡ told (next (commandPlan c) h)
         → plugNext (siteOf j k s) (commandNext x l) ≡ told command
@@ -113,6 +118,11 @@ module _ (j : Job) (k : Known) (h : Line) (held g : List ℕ) where
         → plugNext (waitSite j k t) (readyNext bus x h) ≡ heard ready w
     unfolding atPlan
     ready-heard x w e = ap (plugNext (waitSite j k t)) e ∙ inside-heard (waitSite j k t) (readyPlan bus r) h (ready-waits bus h r) w
+
+    pub ready-missed : (x : ReadyStep) → readyNext bus x h ≡ missed (next (readyPlan bus r) h)
+        → plugNext (waitSite j k t) (readyNext bus x h) ≡ missed ready
+    unfolding atPlan
+    ready-missed x e = ap (plugNext (waitSite j k t)) e ∙ inside-missed (waitSite j k t) (readyPlan bus r) h (ready-waits bus h r)
 
     pub ready-moved : (x : ReadyStep) (l : Line) → l ≡ lineAfter ready
         → ((h : Line) → h .gated ≡ l .gated → readyNext bus x (lineAfter (next (readyPlan bus r) h)) ≡ told (next (readyPlan bus r) h))
@@ -162,6 +172,11 @@ module _ (j : Job) (k : Known) (h : Line) (held g : List ℕ) where
     data-heard x held′ g′ w goes more =
         ap (plugNext (getsSite j k gets)) (goes words (wordsIn j gets held′ g′) more)
         ∙ inside-heard (getsSite j k gets) (dataPlan line phase words d) h waiting w
+
+    pub data-missed : (x : DataStep) → ((ws : List ℕ) → dataNext line phase ws x h ≡ missed (next (dataPlan line phase ws d) h))
+        → plugNext (getsSite j k gets) (dataNext line phase words x h) ≡ missed data′
+    unfolding atPlan
+    data-missed x goes = ap (plugNext (getsSite j k gets)) (goes words) ∙ inside-missed (getsSite j k gets) (dataPlan line phase words d) h waiting
 
     pub data-moved : (x : DataStep) (l : Line) → l ≡ lineAfter data′
         → ((ws : List ℕ) (h : Line) → h .gated ≡ l .gated → dataNext line phase ws x (lineAfter (next (dataPlan line phase ws d) h)) ≡ told (next (dataPlan line phase ws d) h))

@@ -4,16 +4,14 @@ use mathlib.Core.Path.{_≡_, refl, ap, sym, _∙_}
 use mathlib.Core.Bool.{true}
 use mathlib.Core.List.{List}
 use Rattle.tape.specs.declared.progress.Line.{Line}
-use Rattle.tape.specs.declared.rows.Row.{Row}
 use Rattle.tape.specs.declared.script.Reading.the-variants as Reading
-use Rattle.tape.specs.Plan.{Plan, give, handle, until}
+use Rattle.tape.specs.Plan.{Plan, handle, until}
 use Rattle.tape.specs.Run.{noted}
 use Rattle.tape.specs.Steps.{word, row, waitIdle, setClken}
 use Rattle.bus.specs.Ready.{retryDelay}
-use Rattle.step.specs.declared.wants.Wants.{Wants}
 use Rattle.step.specs.declared.wants.Wants.the-variants as Wa
 use Rattle.step.specs.Context.{plug}
-use Rattle.step.specs.Next.{Next, asks, tells, over, refused, next, heard, told, wantOf, waits, lineOf, lineAfter}
+use Rattle.step.specs.Next.{Next, tells, next, heard, told, missed, wantOf, waits, lineOf, lineAfter}
 use Rattle.step.specs.Rows.{rowsFrom}
 use Rattle.stepping.specs.Closing.{Closing, keeping, dropping, finding, accepting}
 use Rattle.stepping.specs.Ahead.{clockOn, changeSite, idling, writesPlan, rowAt, toldPlan, endPlan, powering}
@@ -89,6 +87,10 @@ module _ (j : Job) (k : Known) (h : Line) where
   unfolding waits
   row-waits t = ap waits (rowed t .same)
 
+  pub row-missed : (t : Writes) → next (writesPlan j k t) h ≡ missed (next (writesPlan j k t) h)
+  unfolding missed
+  row-missed t = rowed t .same ∙ sym (ap missed (rowed t .same))
+
   pub row-heard : (t : Writes) (w : ℕ) → next (writesPlan j k t) h ≡ heard (next (writesPlan j k t) h) w
   unfolding heard
   row-heard t w = rowed t .same ∙ sym (ap (λ (x : Next Closing). heard x w) (rowed t .same))
@@ -116,6 +118,13 @@ module _ (j : Job) (k : Known) (h : Line) where
     end-wants Z.Found = refl
     end-wants (Z.Keeping e) = refl
     end-wants (Z.Dropping e) = refl
+
+    pub end-missed : (e : End) → next (endPlan j k ws e) h ≡ missed (next (endPlan j k ws e) h)
+    unfolding endPlan accepting finding keeping dropping next missed
+    end-missed Z.Accepted = refl
+    end-missed Z.Found = refl
+    end-missed (Z.Keeping e) = refl
+    end-missed (Z.Dropping e) = refl
 
     pub end-heard : (e : End) (w : ℕ) → next (endPlan j k ws e) h ≡ heard (next (endPlan j k ws e) h) w
     unfolding endPlan accepting finding keeping dropping next heard

@@ -1,16 +1,14 @@
--- A call under way, told by the host before it and by what is ahead of it: its next reading, its next row, or its end. A call
--- that is not over counts as one whose script ended.
+-- A call under way, told by the host before it and by what is ahead of it: its next reading, its next row, or its end.
 use Prim.Native.Nat.{ℕ}
 use mathlib.Core.List.{List}
 use mathlib.Core.Path.{_≡_}
-use Rattle.types.specs.declared.error.Answer.the-variants as Answered
 use Rattle.tape.specs.declared.progress.Line.{Line}
-use Rattle.host.specs.declared.host.Called.{Called}
 use Rattle.host.specs.declared.host.Sdmmc.{Sdmmc}
-use Rattle.step.specs.Next.{Next, asks, tells, over, refused, next, heard, told}
+use Rattle.host.specs.Calls.{answerFor}
+use Rattle.step.specs.Next.{Next, asks, tells, over, refused, next, heard, told, missed}
 use Rattle.step.specs.Transfer.{wordsBy, heldBy, HandedAt}
 use Rattle.stepping.specs.Ahead.{phaseOf, lineSet, atPlan}
-use Rattle.stepping.specs.Closing.{Closing, answerOf}
+use Rattle.stepping.specs.Closing.{Closing}
 use Rattle.stepping.specs.declared.call.Asked.{Asked}
 use Rattle.stepping.specs.declared.call.At.{At}
 use Rattle.stepping.specs.declared.call.At.the-variants as A
@@ -18,6 +16,7 @@ use Rattle.stepping.specs.declared.call.Gets.the-variants as G
 use Rattle.stepping.specs.declared.call.Known.{Known}
 use Rattle.underway.specs.declared.call.Call.{Call}
 use Rattle.underway.specs.declared.call.Closed.{Closed}
+use Rattle.underway.specs.declared.call.Outcome.the-variants as O
 use Rattle.underway.specs.declared.ends.Ends.{Ends}
 use Rattle.underway.specs.declared.ends.Ends.the-variants as Z
 
@@ -29,26 +28,25 @@ pub record Under : Type 0 where
 abbrev pub under : List ℕ → Call → Under
 under g c = record { before = c .job .host; ahead = next (atPlan (c .job) (c .known) (c .held) g (c .at)) (c .line) }
 
--- after a word; after a row; unasked, as it was
+-- after a word; where no word will come; after a row; unasked, as it was
 abbrev pub answered : Under → ℕ → Under
 answered u w = record { before = u .before; ahead = heard (u .ahead) w }
+
+abbrev pub unanswered : Under → Under
+unanswered u = record { before = u .before; ahead = missed (u .ahead) }
 
 abbrev pub written : Under → Under
 written u = record { before = u .before; ahead = told (u .ahead) }
 
--- what it has come to: its answer and the next host
+-- what it has come to: its answer and the next host, once it is over
 abbrev pub closedAt : Sdmmc → Next Closing → Closed
-closedAt host (over h c) = record { answer = c .answer; host = c .host }
-closedAt host (refused h c) = record { answer = answerOf c; host = host }
-closedAt host (asks h r k z) = record { answer = Answered.ScriptEnded; host = host }
-closedAt host (tells h r p) = record { answer = Answered.ScriptEnded; host = host }
+closedAt host (over h c) = record { outcome = O.Over (c .answer); host = c .host }
+closedAt host (refused h c) = record { outcome = O.Over (answerFor c); host = host }
+closedAt host (asks h r k z) = record { outcome = O.Not; host = host }
+closedAt host (tells h r p) = record { outcome = O.Not; host = host }
 
 unfoldable pub closedOf : Under → Closed
 closedOf u = closedAt (u .before) (u .ahead)
-
--- given up: the host before it is the one to use
-abbrev pub givenUp : Under → ℕ → ℕ → Called
-givenUp u words rows = record { answer = Answered.ScriptEnded; words = words; rows = rows; host = u .before }
 
 -- WHERE IT STANDS. The words that it keeps after a word, where it stood at a data word; and the words that it has come to then
 unfoldable pub keptAt : Asked → At → List ℕ → ℕ → List ℕ

@@ -18,6 +18,7 @@ use step::command::Begun;
 use step::command::Command;
 use step::command::Words;
 use step::reset::Reset;
+use step::why::Why;
 use stepping::call::Asked;
 use stepping::call::At;
 use stepping::call::End;
@@ -154,7 +155,7 @@ fn app(limit: u32, rca: u16, gated: bool) -> At
     let begun = Command::begin(limit, 55, rca as u32 * 0x1_0000, Response::R1, gated);
     match begun {
         Begun::On(command) => At::Command(Site::App, command),
-        Begun::Spent => At::Over(End::Keeping(Error::SoftwareTimeout)),
+        Begun::Spent => At::Over(End::Keeping(Why::Failed(Error::SoftwareTimeout))),
     }
 }
 
@@ -163,7 +164,7 @@ fn stands(job: Job, known: Known, gated: bool, first: First) -> At
     ensures { λ r. ⌜ (job .asked ≡ askedBy first → (held g : List ℕ) (h : Line) → h .gated ≡ gated → next (atPlan job known held g r) (lineBy first h) ≡ next (firstPlan (job .host) first) h) ⌝ }
 {
     match first {
-        First::Refused(error) => At::Over(End::Keeping(error)),
+        First::Refused(error) => At::Over(End::Keeping(Why::Failed(error))),
         First::Resets(_, _) => At::Tells(Writes::Reset(Reset::Mask)),
         First::Waits(_, _) => job.waits(known, gated, Waiting::Read),
         First::App => app(

@@ -16,8 +16,14 @@ pub struct Call {
     pub at: At,
 }
 
-// What a call has come to: its answer and the next host.
+// Whether a call is over, and with which answer.
+pub enum Outcome {
+    Over(Answer),
+    Not,
+}
+
+// What a call has come to: its answer and the next host, once it is over; until then the host is the one before it.
 pub struct Closed {
-    pub answer: Answer,
+    pub outcome: Outcome,
     pub host: Sdmmc,
 }

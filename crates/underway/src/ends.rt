@@ -5,15 +5,18 @@ ghost use Prim.Native.Nat.{ℕ};
 ghost use lib.ListN.{take};
 ghost use Rattle.types.specs.Words.{sdStatusOf};
 ghost use Rattle.step.specs.Next.{next};
+ghost use Rattle.host.specs.Calls.{answerFor};
 ghost use Rattle.step.specs.Transfer.{allOf};
+ghost use Rattle.step.specs.Why.{causeOf};
 ghost use Rattle.stepping.specs.Ahead.{phaseBy, hostBy, wordsIn, endPlan};
-ghost use Rattle.underway.specs.Under.{under, endsAt, closedAt, closedOf, givenUp};
+ghost use Rattle.underway.specs.Under.{under, endsAt, closedAt, closedOf};
 use crate::call::Call;
 use crate::call::Closed;
+use crate::call::Outcome;
 use host::calls;
-use host::host::Called;
 use host::host::Sdmmc;
 use init::identify;
+use step::why::Why;
 use stepping::call::Asked;
 use stepping::call::At;
 use stepping::call::End;
@@ -45,11 +48,21 @@ fn accepted(job: Job, held: [u32; 16], line: Line) -> Sdmmc
     }
 }
 
+// The answer of a call that is refused for this.
+fn answer_for(why: Why) -> Answer
+    ensures { λ r. ⌜ r ≡ answerFor (causeOf why) ⌝ }
+{
+    match why {
+        Why::Failed(error) => Answer::Refused(error),
+        Why::NoWord => Answer::ScriptEnded,
+    }
+}
+
 fn closes(answer: Answer, host: Sdmmc) -> Closed
-    ensures { λ r. ⌜ r ≡ record { answer = answer; host = host } ⌝ }
+    ensures { λ r. ⌜ r ≡ record { outcome = Outcome.Over answer; host = host } ⌝ }
 {
     Closed {
-        answer: answer,
+        outcome: Outcome::Over(answer),
         host: host,
     }
 }
@@ -63,11 +76,8 @@ fn ended(job: Job, known: Known, held: [u32; 16], line: Line, end: End) -> Close
     match end {
         End::Accepted => closes(Answer::Accepted, accepted(job, held, line)),
         End::Found => closes(Answer::Accepted, host.with(line, true, known.card())),
-        End::Keeping(error) => closes(Answer::Refused(error), host.with(line, host.known, card)),
-        End::Dropping(error) => closes(
-            Answer::Refused(error),
-            host.with(line, false, identify::no_card()),
-        ),
+        End::Keeping(why) => closes(answer_for(why), host.with(line, host.known, card)),
+        End::Dropping(why) => closes(answer_for(why), host.with(line, false, identify::no_card())),
     }
 }
 
@@ -91,7 +101,7 @@ fn end_of(at: At) -> Ends
 }
 
 impl Call {
-    // What it has come to. A call that is not over counts as one whose script ended, and leaves the host as before.
+    // What it has come to.
     pub fn closed(self) -> Closed
         ensures { λ r. ⌜ ((g : List ℕ) → r ≡ closedOf (under g self)) ⌝ }
     {
@@ -102,21 +112,10 @@ impl Call {
         let at = self.at;
         match end_of(at) {
             Ends::Over(end) => ended(job, self.known, held, line, end),
-            Ends::Not => closes(Answer::ScriptEnded, host),
-        }
-    }
-
-    // Gives up, after so many words and rows: the host before the call is the one to use.
-    pub fn give_up(self, words: usize, rows: usize) -> Called
-        ensures { λ r. ⌜ ((g : List ℕ) → r ≡ givenUp (under g self) words rows) ⌝ }
-    {
-        let job = self.job;
-        let before = job.host;
-        Called {
-            answer: Answer::ScriptEnded,
-            words: words,
-            rows: rows,
-            host: before,
+            Ends::Not => Closed {
+                outcome: Outcome::Not,
+                host: host,
+            },
         }
     }
 }

@@ -3,13 +3,14 @@ ghost use mathlib.Core.Path.{_≡_};
 ghost use mathlib.Core.List.{List};
 ghost use Prim.Native.Nat.{ℕ};
 ghost use Rattle.tape.specs.declared.progress.Line.{Line};
-ghost use Rattle.step.specs.Next.{next, wantOf, heard, told, lineAfter, HandedBy};
+ghost use Rattle.step.specs.Next.{next, wantOf, heard, told, missed, lineAfter, HandedBy};
 ghost use Rattle.stepping.specs.Ahead.{busWith, rcaOf, waitRca, atPlan, standNext};
-ghost use Rattle.underway.specs.Under.{keptAt, KeptAt, lineAt, under, answered, written};
+ghost use Rattle.underway.specs.Under.{keptAt, KeptAt, lineAt, under, answered, unanswered, written};
 use crate::call::Call;
 use crate::rows;
 use step::ready::Bus;
 use step::wants::Wants;
+use step::why::Why;
 use stepping::call::Asked;
 use stepping::call::At;
 use stepping::call::Gets;
@@ -65,6 +66,28 @@ fn heard(job: Job, known: Known, line: Line, held: [u32; 16], at: At, word: u32)
             job.received(known, held, line, gets, step)
         }
         At::Idle(change, more) => job.idled(known, change, more, word),
+        At::Tells(_) => known.at(at),
+        At::Over(_) => known.at(at),
+    }
+}
+
+// Where a call stands that no word will come for; unasked, where it stood.
+fn unheard(job: Job, known: Known, line: Line, held: [u32; 16], at: At) -> Stand
+    ensures { λ r. ⌜ ((g : List ℕ) → standNext job held g r line ≡ missed (next (atPlan job known held g at) line)) ⌝ }
+{
+    let asked = job.asked;
+    let gated = line.gated;
+    match at {
+        At::Command(site, command) => job.commanded(known, gated, site, command.missed()),
+        At::Ready(waiting, ready) => {
+            let step = ready.missed(wait_bus(job, known, waiting));
+            job.waited(known, gated, waiting, step)
+        }
+        At::Data(gets, part) => {
+            let step = part.missed(data_bus(job, known, gets), asked.phase(gets), gated);
+            job.received(known, held, line, gets, step)
+        }
+        At::Idle(_, _) => known.at(job.closes(known, Why::NoWord)),
         At::Tells(_) => known.at(at),
         At::Over(_) => known.at(at),
     }
@@ -140,6 +163,26 @@ impl Call {
         let at = self.at;
         let held = kept(asked, at, before, word);
         let stand = heard(job, self.known, line, held, at, word);
+        let known = stand.known;
+        let next = stand.at;
+        Call {
+            job: job,
+            line: line,
+            held: held,
+            known: known,
+            at: next,
+        }
+    }
+
+    // Told that no word will come for its reading: it has its closing rows to write, and then ends with 21. Unasked, as it was.
+    pub fn missed(self) -> Call
+        ensures { λ r. ⌜ ((g : List ℕ) → under g r ≡ unanswered (under g self)) ⌝ }
+    {
+        let job = self.job;
+        let line = self.line;
+        let held = self.held;
+        let at = self.at;
+        let stand = unheard(job, self.known, line, held, at);
         let known = stand.known;
         let next = stand.at;
         Call {

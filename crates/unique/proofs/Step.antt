@@ -1,7 +1,7 @@
 -- A line for each public function of `step`.
 use Prim.Native.Nat.{ℕ}
 use mathlib.Core.List.{List, [], _∷_}
-use mathlib.Core.Path.{_≡_, refl, ap, sym, _∙_}
+use mathlib.Core.Path.{_≡_, refl, ap, _∙_}
 use Rattle.tape.specs.declared.progress.Line.{Line}
 use Rattle.tape.specs.declared.rows.Row.{Row}
 use Rattle.tape.specs.Plan.{Nothing}
@@ -148,6 +148,11 @@ command-command-fed : UniqueIn command.Command.fed.Kinds.ps command.Command.fed.
     (λ _ _ x h. commandNext (x .0) h)
 command-command-fed = part-determined _ λ _ _ _ p i h. p h i
 
+command-command-missed : UniqueIn command.Command.missed.Kinds.ps command.Command.missed.Kinds.r command.Command.missed.Reads.Learnt
+    {X = λ _ _. Line → Next (List ℕ)}
+    (λ _ _ x h. commandNext (x .0) h)
+command-command-missed = part-determined _ λ _ _ _ p i h. p h i
+
 command-command-went : UniqueIn command.Command.went.Kinds.ps command.Command.went.Kinds.r command.Command.went.Reads.Learnt
     {X = λ _ _. Line → Next (List ℕ)}
     (λ _ a x h. commandNext (x .0) (lineAfter (next (commandPlan (a .0)) h)))
@@ -168,6 +173,11 @@ ready-ready-fed : UniqueIn ready.Ready.fed.Kinds.ps ready.Ready.fed.Kinds.r read
     (λ _ a x h. readyNext (a .1 .0) (x .0) h)
 ready-ready-fed = part-determined _ λ _ _ _ p i h. p h i
 
+ready-ready-missed : UniqueIn ready.Ready.missed.Kinds.ps ready.Ready.missed.Kinds.r ready.Ready.missed.Reads.Learnt
+    {X = λ _ _. Line → Next Nothing}
+    (λ _ a x h. readyNext (a .1 .0) (x .0) h)
+ready-ready-missed = part-determined _ λ _ _ _ p i h. p h i
+
 ready-ready-went : UniqueIn ready.Ready.went.Kinds.ps ready.Ready.went.Kinds.r ready.Ready.went.Reads.Learnt
     {X = λ _ a. (h : Line) → h .gated ≡ a .1 .1 .0 → Next Nothing}
     (λ _ a x h same. readyNext (a .1 .0) (x .0) (lineAfter (next (readyPlan (a .1 .0) (a .0)) h)))
@@ -182,6 +192,11 @@ transfer-data-fed : UniqueIn transfer.Data.fed.Kinds.ps transfer.Data.fed.Kinds.
     {X = λ _ a. (ws ws′ : List ℕ) (h : Line) → h .gated ≡ a .1 .1 .1 .0 → HandedAt (a .1 .1 .0) (a .0) (a .1 .1 .1 .1 .0) ws ws′ → Next (List ℕ)}
     (λ _ a x ws ws′ h same handed. dataNext (a .1 .0) (a .1 .1 .0) ws′ (x .0) h)
 transfer-data-fed = part-determined _ λ _ _ _ p i ws ws′ h same handed. p ws ws′ h same handed i
+
+transfer-data-missed : UniqueIn transfer.Data.missed.Kinds.ps transfer.Data.missed.Kinds.r transfer.Data.missed.Reads.Learnt
+    {X = λ _ a. List ℕ → (h : Line) → h .gated ≡ a .1 .1 .1 .0 → Next (List ℕ)}
+    (λ _ a x ws h same. dataNext (a .1 .0) (a .1 .1 .0) ws (x .0) h)
+transfer-data-missed = part-determined _ λ _ _ _ p i ws h same. p ws h same i
 
 transfer-data-went : UniqueIn transfer.Data.went.Kinds.ps transfer.Data.went.Kinds.r transfer.Data.went.Reads.Learnt
     {X = λ _ a. List ℕ → (h : Line) → h .gated ≡ a .1 .1 .1 .0 → Next (List ℕ)}

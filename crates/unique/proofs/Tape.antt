@@ -19,6 +19,9 @@ progress-progress-resumed = determined _ λ _ _ _ p. p
 progress-progress-stopped : Unique progress.Progress.stopped.Kinds.ps progress.Progress.stopped.Kinds.r progress.Progress.stopped.Reads.Learnt
 progress-progress-stopped = determined _ λ _ _ _ p. p
 
+progress-progress-stop : Unique progress.Progress.stop.Kinds.ps progress.Progress.stop.Kinds.r progress.Progress.stop.Reads.Learnt
+progress-progress-stop = determined _ λ _ _ _ p. p
+
 progress-progress-moved : Unique progress.Progress.moved.Kinds.ps progress.Progress.moved.Kinds.r progress.Progress.moved.Reads.Learnt
 progress-progress-moved = determined _ λ _ _ _ p. p
 

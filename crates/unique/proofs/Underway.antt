@@ -21,9 +21,6 @@ steps-call-wants = determined _ λ _ _ _ p. p []
 ends-call-closed : Unique call.Call.closed.Kinds.ps call.Call.closed.Kinds.r call.Call.closed.Reads.Learnt
 ends-call-closed = determined _ λ _ _ _ p. p []
 
-ends-call-give-up : Unique call.Call.give_up.Kinds.ps call.Call.give_up.Kinds.r call.Call.give_up.Reads.Learnt
-ends-call-give-up = determined _ λ _ _ _ p. p []
-
 -- Exceptions: a call under way. The host before it and what is ahead of it are promised, whatever words were handed out, and not
 -- the state: two that differ in what is never looked at again are the same.
 
@@ -46,6 +43,11 @@ steps-call-fed : UniqueIn call.Call.fed.Kinds.ps call.Call.fed.Kinds.r call.Call
     {X = λ _ a. (g g′ : List ℕ) → HandedBy (wantOf (under g (a .0) .ahead)) (a .1 .0) g g′ → Under}
     (λ _ _ x g g′ handed. under g′ (x .0))
 steps-call-fed = part-determined _ λ _ _ _ p i g g′ handed. p g g′ handed i
+
+steps-call-missed : UniqueIn call.Call.missed.Kinds.ps call.Call.missed.Kinds.r call.Call.missed.Reads.Learnt
+    {X = λ _ _. List ℕ → Under}
+    (λ _ _ x g. under g (x .0))
+steps-call-missed = part-determined _ λ _ _ _ p i g. p g i
 
 steps-call-went : UniqueIn call.Call.went.Kinds.ps call.Call.went.Kinds.r call.Call.went.Reads.Learnt
     {X = λ _ _. List ℕ → Under}

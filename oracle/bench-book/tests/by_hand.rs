@@ -184,14 +184,72 @@ fn dcount_is_not_read_while_words_remain() {
 }
 
 #[test]
-fn a_card_pulled_out_leaves_the_host_as_before() {
+fn a_card_pulled_out_before_the_data_closes_the_clock_and_keeps_the_record() {
     let text = second((2, 0, 1, vec![0, 0x40]));
-    let expected = rows(&[vec![(2, 256)], command(13, RCA)].concat());
+    let expected = rows(&gated(command(13, RCA)));
     let state = format!(
         "state clock=4000000 signalling=SDR12 gated=1 clkcr=0 record={}\n",
         record(&no_status())
     );
-    assert_eq!(text, format!("2 answer 21 words 2 rows 4\n{expected}{state}"));
+    assert_eq!(text, format!("2 answer 21 words 2 rows 5\n{expected}{state}"));
+}
+
+#[test]
+fn a_card_pulled_out_among_the_data_is_gone() {
+    let script = [short(13, 0x900), data(17, &[1, 2, 3])].concat();
+    let text = second((2, 5, 1, script));
+    let expected = [
+        gated(command(13, RCA)),
+        vec![(10, 0)],
+        STOP.to_vec(),
+        vec![(5, 1), (6, 512), (7, 9 + 2 + 16 * 9), (2, 256)],
+        command(17, 5),
+        RESET.to_vec(),
+    ]
+    .concat();
+    let state = "state clock=4000000 signalling=SDR12 gated=1 clkcr=0 record=none\n";
+    assert_eq!(
+        text,
+        format!("2 answer 21 words 23 rows 26\n{}{state}", rows(&expected))
+    );
+}
+
+#[test]
+fn a_card_pulled_out_before_the_first_reading_is_gone_after_ten_rows_and_ten_more() {
+    let text = second((1, 25_000_000, 0, vec![]));
+    let state = "state clock=400000 signalling=SDR12 gated=0 clkcr=0 record=none\n";
+    let expected = rows(&[RESET, RESET].concat());
+    assert_eq!(text, format!("2 answer 21 words 0 rows 20\n{expected}{state}"));
+}
+
+/// Not ready eleven times: 66 rows, and four of the twelfth question, where the
+/// card is pulled out. The initialisation has 68.
+#[test]
+fn little_room_for_what_closes_leaves_the_host_as_before() {
+    let script = [short(13, 0).repeat(11), vec![0]].concat();
+    let mut words = vec![8_000_000, 1, 20, 1, 1, 0, 2];
+    words.extend([1, 25_000_000, 0, good_card().len() as u32]);
+    words.extend([2, 0, 1, script.len() as u32]);
+    words.extend([good_card(), script].concat());
+    let state = format!(
+        "state clock=4000000 signalling=SDR12 gated=1 clkcr=0 record={}\n",
+        record(&no_status())
+    );
+    let last = rows(&command(13, RCA));
+    for (room, line, end) in [
+        (
+            71,
+            "\n2 answer 21 words 78 rows 71\n",
+            format!("{last}row 2 0\n{state}"),
+        ),
+        (70, "\n2 answer 22 words 78 rows 70\n", format!("{last}{state}")),
+    ] {
+        let mut text = Vec::new();
+        trace::<Host>(&book::bytes(&words), room, &mut text);
+        let text = String::from_utf8(text).unwrap();
+        assert!(text.contains(line), "{text}");
+        assert!(text.ends_with(&end), "{text}");
+    }
 }
 
 #[test]

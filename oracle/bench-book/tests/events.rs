@@ -50,10 +50,26 @@ fn the_worked_example() {
 }
 
 #[test]
-fn a_script_that_ends_tells_the_reading_without_a_word() {
+fn a_script_that_ends_tells_the_reading_without_a_word_and_then_what_closes() {
     let text = print(&[(1, 25_000_000, 0, vec![])], MOST_ROOM);
-    let expected = format!("{RESET}read status none\n1 answer 21 words 0 rows 10\n{STATE}");
+    let expected = format!("{RESET}read status none\n{RESET}1 answer 21 words 0 rows 20\n{STATE}");
     assert_eq!(text, format!("host answer 0\n{STATE}1 1 25000000 0\n{expected}"));
+}
+
+#[test]
+fn a_closing_row_without_room_is_no_event() {
+    let text = print(&[(1, 25_000_000, 0, vec![])], 12);
+    let expected = format!("{RESET}read status none\nrow 9 0\nrow 10 0\n1 answer 22 words 0 rows 12\n{STATE}");
+    assert_eq!(text, format!("host answer 0\n{STATE}1 1 25000000 0\n{expected}"));
+}
+
+#[test]
+fn a_gated_command_that_ends_closes_its_clock() {
+    let text = second((3, 0, 0, vec![0, 0x40, 55]));
+    let expected = "2 3 0 0\nrow 2 256\nread status 0x00000000\nrow 8 197\nrow 3 305397760\nrow 4 1143\n\
+        read status 0x00000040\nread respcmd 0x00000037\nread response 0 none\nrow 2 0\n\
+        2 answer 21 words 3 rows 5\nstate clock=4000000 signalling=SDR12 gated=1 clkcr=0 record=SDHC,";
+    assert!(text.starts_with(expected), "{text}");
 }
 
 #[test]

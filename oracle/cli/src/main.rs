@@ -18,7 +18,8 @@ oracle trace [ROOM] < PILE    what the Rust does with each book of a pile
 oracle events [ROOM] < PILE   the Rust's readings and rows of each book, in their order
 oracle book < BOOK            the lines of one book
 oracle coverage SEED COUNT    what such a pile reaches
-oracle sample SEED COUNT      of such a pile, the books that reach something new
+oracle sample SEED COUNT [KEPT]
+                              the books of the pile KEPT, and of such a pile those that reach something new
 oracle leaves SEED COUNT      inputs of the plain functions with the Rust's answers
 oracle wrong [SEED COUNT]     which wrong hosts such a pile catches
 oracle paper SEED COUNT       does the Rust do what document 01 says, on such a pile";
@@ -34,7 +35,10 @@ fn main() -> ExitCode {
         ["events", room] => books::each(Some(room), events::<Host>),
         ["book"] => books::book(),
         ["coverage", seed, count] => numbers(seed, count).and_then(|(seed, count)| table::coverage(seed, count)),
-        ["sample", seed, count] => numbers(seed, count).and_then(|(seed, count)| sample::sample(seed, count)),
+        ["sample", seed, count] => numbers(seed, count).and_then(|(seed, count)| sample::sample(seed, count, None)),
+        ["sample", seed, count, kept] => {
+            numbers(seed, count).and_then(|(seed, count)| sample::sample(seed, count, Some(kept)))
+        }
         ["leaves", seed, count] => numbers(seed, count).and_then(|(seed, count)| leaves::leaves(seed, count)),
         ["wrong"] => wrong::wrong(wrong::SEED, wrong::COUNT),
         ["wrong", seed, count] => numbers(seed, count).and_then(|(seed, count)| wrong::wrong(seed, count)),

@@ -1,6 +1,7 @@
 //! A small pile that reaches what a large one does.
 
-use std::io::{self, BufWriter, Write};
+use std::fs::File;
+use std::io::{self, BufReader, BufWriter, Write};
 
 use oracle_bench_book::pile;
 use oracle_model::generate;
@@ -12,9 +13,16 @@ use crate::written;
 /// Small books are asked first, larger ones for what is then still missing.
 const MOST_BYTES: [usize; 5] = [600, 1_200, 2_400, 6_000, usize::MAX];
 
-pub fn sample(seed: u64, count: u64) -> Result<(), String> {
+/// The books of the pile `kept` come first, needed or not: what names a book of a
+/// sample by its number still finds it when the sample is made again.
+pub fn sample(seed: u64, count: u64, kept: Option<&str>) -> Result<(), String> {
+    let kept = kept.map_or(Ok(Vec::new()), books)?;
     let mut out = BufWriter::new(io::stdout().lock());
     let mut sample = Sample::default();
+    for (k, book) in (1..).zip(&kept) {
+        sample.takes(book, &mut Rng::nth(seed, k));
+        written(pile::write_book(&mut out, book))?;
+    }
     for most in MOST_BYTES {
         for k in 1..=count {
             let book = generate::book(seed, k);
@@ -24,4 +32,14 @@ pub fn sample(seed: u64, count: u64) -> Result<(), String> {
         }
     }
     written(out.flush())
+}
+
+fn books(path: &str) -> Result<Vec<Vec<u8>>, String> {
+    let fault = |error: io::Error| format!("oracle: {path}: {error}");
+    let mut input = BufReader::new(File::open(path).map_err(fault)?);
+    let mut books = Vec::new();
+    while let Some(book) = pile::read_book(&mut input).map_err(fault)? {
+        books.push(book);
+    }
+    Ok(books)
 }

@@ -9,7 +9,6 @@ use oracle_model::coverage::Coverage;
 use oracle_model::expected::{self, Site};
 use oracle_model::generate;
 use oracle_model::rng::Rng;
-use oracle_model::walk::Place;
 
 use crate::written;
 
@@ -27,16 +26,25 @@ pub fn coverage(seed: u64, count: u64) -> Result<(), String> {
     };
     table.all(&coverage);
     written(io::stdout().lock().write_all(table.text.as_bytes()))?;
-    let unknown: Vec<_> = unexpected(&coverage).collect();
+    let unknown = unexpected(&coverage);
     match unknown.is_empty() {
         true => Ok(()),
         false => Err(format!("oracle: arms that no list has: {unknown:?}")),
     }
 }
 
-fn unexpected(coverage: &Coverage) -> impl Iterator<Item = (&'static str, &'static str)> + '_ {
-    let known = expected::arms();
-    coverage.arms.keys().copied().filter(move |arm| !known.contains(arm))
+/// What was reached and stands on no list.
+fn unexpected(coverage: &Coverage) -> Vec<String> {
+    fn strange<K: Ord + Debug>(counts: &BTreeMap<K, u64>, known: &[K]) -> Vec<String> {
+        let strange = counts.keys().filter(|key| !known.contains(key));
+        strange.map(|key| format!("{key:?}")).collect()
+    }
+    [
+        strange(&coverage.arms, &expected::arms()),
+        strange(&coverage.ended, &expected::ends()),
+        strange(&coverage.closings, &KINDS.map(expected::closings).concat()),
+    ]
+    .concat()
 }
 
 struct Table {
@@ -62,6 +70,14 @@ impl Table {
         count
     }
 
+    /// The same as text, or a dash if it cannot be.
+    fn cell_if<K: Ord + Debug>(&mut self, can: bool, counts: &BTreeMap<K, u64>, key: K) -> String {
+        match can {
+            true => self.cell(counts, key).to_string(),
+            false => "-".to_owned(),
+        }
+    }
+
     fn all(&mut self, coverage: &Coverage) {
         let calls: u64 = coverage.calls.values().sum();
         self.line(&format!(
@@ -75,6 +91,7 @@ impl Table {
         self.data_phases(coverage);
         self.own_causes(coverage);
         self.ends(coverage);
+        self.full(coverage);
         let reached = self.cells - self.empty.len();
         self.line(&format!(
             "\nreached {reached} of {} cells that can be reached",
@@ -169,10 +186,7 @@ impl Table {
     fn row(&mut self, coverage: &Coverage, site: &Site, causes: &[&'static str], can: impl Fn(&str) -> bool) {
         let mut text = format!("{:20}", site.name);
         for cause in causes {
-            let cell = match can(cause) {
-                true => self.cell(&coverage.arms, (site.name, *cause)).to_string(),
-                false => "-".to_owned(),
-            };
+            let cell = self.cell_if(can(cause), &coverage.arms, (site.name, *cause));
             text.push_str(&format!("{cell:>9}"));
         }
         self.line(&text);
@@ -217,26 +231,35 @@ impl Table {
         }
     }
 
+    /// The steps of commands and of data phases in which scripts ended.
     fn ends(&mut self, coverage: &Coverage) {
-        self.line("\nscript ended (21), by the reading that found no word");
-        self.line(&format!("{:14}{:>11}{:>11}{:>11}", "", KINDS[0], KINDS[1], KINDS[2]));
-        let places = [
-            Place::Idle,
-            Place::Sent,
-            Place::Echo,
-            Place::Words,
-            Place::FirstStatus,
-            Place::FirstDma,
-            Place::SecondStatus,
-            Place::SecondDma,
-            Place::Dcount,
-            Place::Data,
-        ];
-        for place in places {
-            let counts = KINDS.map(|kind| self.cell(&coverage.ended, (kind, place)));
-            let name = format!("{place:?}");
-            self.line(&format!("{name:14}{:11}{:11}{:11}", counts[0], counts[1], counts[2]));
+        self.line("\nscript ended (21) in a command, by the reading that found no word; what closed the call");
+        let names: String = expected::COMMAND_ENDS.iter().map(|step| format!("{step:>9}")).collect();
+        self.line(&format!("{:20}{names}", ""));
+        for site in expected::SITES.iter().filter(|site| !site.ends.is_empty()) {
+            let mut text = format!("{:20}", site.name);
+            for step in expected::COMMAND_ENDS {
+                let cell = self.cell_if(site.ends.contains(&step), &coverage.ended, (site.name, step));
+                text.push_str(&format!("{cell:>9}"));
+            }
+            self.line(&format!("{text}  {}", expected::closed_by(site.name)));
         }
+        self.line("\nscript ended (21) in a data phase, by the reading that found no word");
+        let phases: Vec<_> = expected::SITES.iter().filter(|site| site.data).collect();
+        let names: String = phases.iter().map(|site| format!("{:>12}", site.name)).collect();
+        self.line(&format!("{:14}{names}", ""));
+        for step in expected::DATA_ENDS {
+            let mut text = format!("{step:14}");
+            for site in &phases {
+                let can = expected::data_ends(site, step);
+                let cell = self.cell_if(can, &coverage.ended, (site.name, step));
+                text.push_str(&format!("{cell:>12}"));
+            }
+            self.line(&text);
+        }
+    }
+
+    fn full(&mut self, coverage: &Coverage) {
         self.line("\ntrace full (22) with less room than a call needs, by the register without room");
         self.line(&format!("{:14}{:>11}{:>11}{:>11}", "", KINDS[0], KINDS[1], KINDS[2]));
         for register in 1..=11 {
@@ -245,6 +268,11 @@ impl Table {
                 "{register:<14}{:11}{:11}{:11}",
                 counts[0], counts[1], counts[2]
             ));
+        }
+        self.line("\ntrace full (22) among the closing rows of a script that ended, by the row without room");
+        for (kind, shape, row) in KINDS.map(expected::closings).concat() {
+            let count = self.cell(&coverage.closings, (kind, shape, row));
+            self.line(&format!("{count:8} {kind}: {shape}: {row}"));
         }
     }
 }

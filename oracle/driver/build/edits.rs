@@ -8,7 +8,7 @@ pub struct Edit {
 }
 
 /// Applied to the driver in this order. The types are taken unchanged.
-pub const EDITS: [Edit; 3] = [
+pub const EDITS: [Edit; 4] = [
     Edit {
         reason: "the spin count of clock_delay becomes a row, the spins are left out",
         find: "    for _ in 0..iterations {\n        core::hint::spin_loop();\n    }\n",
@@ -23,6 +23,11 @@ pub const EDITS: [Edit; 3] = [
         reason: "no DMA runs beside a desk computer's program: the data words are taken straight after the poll that completes",
         find: "        return Err(Error::IncompleteTransfer);\n    }\n    Ok(true)\n",
         replace: "        return Err(Error::IncompleteTransfer);\n    }\n    transfer.land();\n    Ok(true)\n",
+    },
+    Edit {
+        reason: "a script's end unwinds, and this closing alone is no guard: the clock of a gated command closes while unwinding too",
+        find: "    let result = command_inner::<T>(index, argument, response, config);\n",
+        replace: "    let unwinds = OnDrop::new(|| if gate { set_clken::<T>(false) });\n    let result = command_inner::<T>(index, argument, response, config);\n    unwinds.defuse();\n",
     },
 ];
 

@@ -8,6 +8,9 @@ pub mod lean;
 
 use std::cell::RefCell;
 use std::panic::resume_unwind;
+use std::thread::panicking;
+
+use crate::wrong;
 
 /// Rows are numbered 1 to 11, so 0 is unused.
 pub type Registers = [u32; 11];
@@ -44,7 +47,7 @@ pub trait Live {
 pub enum Event {
     Row(u32, u32),
     Word(Reading, u32),
-    /// The script had no word for this reading.
+    /// The script had no word for this reading; rows that close the call follow.
     Ended(Reading),
     /// The row list had no room for a row of this register.
     Full(u32),
@@ -53,7 +56,9 @@ pub enum Event {
 /// Why a call stopped outside the driver. Carried by the unwinding.
 #[derive(Clone, Copy, Debug, Eq, PartialEq)]
 pub enum Stop {
+    /// A reading found no word: the driver closes while it unwinds.
     ScriptEnded,
+    /// A row found no room: nothing more is written.
     TraceFull,
 }
 
@@ -64,15 +69,18 @@ pub struct Kept {
     pub rows: Vec<(u32, u32)>,
     pub events: Vec<Event>,
     pub registers: Registers,
+    /// How a call that unwound came to its end: a script that ended, and then a
+    /// closing row without room, is the latter.
+    pub stopped: Option<Stop>,
 }
 
 /// Off: no call runs (a host is made or dropped), rows are not kept.
-/// Stopped: the call is over, but the driver's guards still unwind.
+/// Stopped: the driver unwinds, and its guards run.
 #[derive(Clone, Copy, Eq, PartialEq)]
 enum Mode {
     Off,
     Running,
-    Stopped,
+    Stopped(Stop),
 }
 
 struct Bench {
@@ -87,6 +95,8 @@ struct Bench {
     rows: Vec<(u32, u32)>,
     watched: bool,
     events: Vec<Event>,
+    /// Something was read while the driver unwound.
+    read_late: bool,
 }
 
 thread_local! {
@@ -102,6 +112,7 @@ thread_local! {
             rows: Vec::new(),
             watched: false,
             events: Vec::new(),
+            read_late: false,
         })
     };
 }
@@ -134,21 +145,40 @@ pub fn begin(source: u32, registers: Registers, feed: Feed<'_>, room: usize, wat
         }
         bench.used = 0;
         bench.watched = watched;
+        bench.read_late = false;
     });
 }
 
 pub fn finish() -> Kept {
-    with(|bench| {
-        bench.mode = Mode::Off;
+    let (kept, read_late) = with(|bench| {
+        let stopped = match std::mem::replace(&mut bench.mode, Mode::Off) {
+            Mode::Stopped(why) => Some(why),
+            _ => None,
+        };
         bench.live = None;
-        Kept {
+        let kept = Kept {
             words: std::mem::take(&mut bench.words),
             used: bench.used,
             rows: std::mem::take(&mut bench.rows),
             events: std::mem::take(&mut bench.events),
             registers: bench.registers,
-        }
-    })
+            stopped,
+        };
+        (kept, bench.read_late)
+    });
+    assert!(!read_late, "nothing is read while the driver closes");
+    kept
+}
+
+/// Whether the driver unwinds from a script's end. Only wrong hosts ask.
+pub fn ended() -> bool {
+    with(|bench| bench.mode == Mode::Stopped(Stop::ScriptEnded))
+}
+
+/// Takes a script's end back, once its unwinding was caught. Only a wrong host
+/// does.
+pub fn go_on() {
+    with(|bench| bench.mode = Mode::Running);
 }
 
 impl Bench {
@@ -159,14 +189,23 @@ impl Bench {
     }
 
     fn take(&mut self, reading: Reading) -> Result<u32, Stop> {
-        assert!(self.mode == Mode::Running, "readings belong to a call");
+        match self.mode {
+            Mode::Off => panic!("readings belong to a call"),
+            Mode::Running => {}
+            // A second unwinding would end the process, so this is told when the
+            // first one is over.
+            Mode::Stopped(_) => {
+                self.read_late = true;
+                return Ok(0);
+            }
+        }
         if let Some(card) = &mut self.live {
             if let Some(word) = card.answer(reading) {
                 self.words.push(word);
             }
         }
         let Some(&word) = self.words.get(self.used) else {
-            self.mode = Mode::Stopped;
+            self.mode = Mode::Stopped(Stop::ScriptEnded);
             self.watch(Event::Ended(reading));
             return Err(Stop::ScriptEnded);
         };
@@ -176,11 +215,14 @@ impl Bench {
     }
 
     fn put(&mut self, register: u32, value: u32) -> Result<(), Stop> {
-        if self.mode == Mode::Running {
+        match self.mode {
+            Mode::Stopped(Stop::TraceFull) => return Ok(()),
+            Mode::Stopped(Stop::ScriptEnded) if wrong::is(wrong::ENDED_CLOSES_NOTHING) => return Ok(()),
+            _ => {}
+        }
+        if self.mode != Mode::Off {
             if self.rows.len() == self.room {
-                self.mode = Mode::Stopped;
-                self.watch(Event::Full(register));
-                return Err(Stop::TraceFull);
+                return self.full(register);
             }
             self.rows.push((register, value));
             self.watch(Event::Row(register, value));
@@ -193,10 +235,22 @@ impl Bench {
         }
         Ok(())
     }
+
+    /// A row without room. A guard writes its rows while the driver unwinds
+    /// already: then it is noted here, and that unwinding goes on.
+    #[cold]
+    fn full(&mut self, register: u32) -> Result<(), Stop> {
+        self.mode = Mode::Stopped(Stop::TraceFull);
+        self.watch(Event::Full(register));
+        match panicking() {
+            true => Ok(()),
+            false => Err(Stop::TraceFull),
+        }
+    }
 }
 
-/// Leaves the driver from where it stands. The guards that this unwinds find
-/// the bench stopped, so they write no row; no hook is called.
+/// Leaves the driver from where it stands; no hook is called. The guards that
+/// this unwinds write their rows on the bench like any other.
 fn stop<R>(result: Result<R, Stop>) -> R {
     result.unwrap_or_else(|why| resume_unwind(Box::new(why)))
 }

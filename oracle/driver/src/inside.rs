@@ -81,18 +81,12 @@ impl host::Host for Host {
             }
             Ok(Err(error)) => (outcome.answer, outcome.carried) = number(error),
             Err(payload) => {
-                outcome.answer = match payload.downcast_ref() {
-                    Some(Stop::ScriptEnded) => host::SCRIPT_ENDED,
-                    Some(Stop::TraceFull) => host::TRACE_FULL,
-                    None => resume_unwind(payload),
+                let (Some(first), Some(why)) = (payload.downcast_ref::<Stop>(), kept.stopped) else {
+                    resume_unwind(payload);
                 };
-                if wrong::is(wrong::STOPPED_HOST_NOT_RESTORED) {
-                    return outcome;
-                }
-                let registers = self.registers;
-                self.restore(&before);
-                if wrong::is(wrong::STOPPED_CLKCR_NOT_RESTORED) {
-                    self.registers = registers;
+                self.stopped(why, &before, &mut outcome);
+                if *first == Stop::ScriptEnded {
+                    self.ended_wrongly(why, &before, room, &mut outcome);
                 }
             }
         }
@@ -152,6 +146,43 @@ impl Host {
             Call::Initialise { frequency } => self.driver.blocking_init_card(Hertz(frequency)).is_ok(),
             Call::Read { index, .. } => self.driver.blocking_read_blocks(index, blocks).is_ok(),
             Call::Status => self.driver.blocking_read_sd_status().is_ok(),
+        }
+    }
+
+    /// The driver unwound, and its guards have run: the host stands as they left
+    /// it, unless a row, which may have been one of theirs, found no room.
+    fn stopped(&mut self, why: Stop, before: &Snapshot, outcome: &mut Outcome) {
+        match why {
+            Stop::ScriptEnded => outcome.answer = host::SCRIPT_ENDED,
+            Stop::TraceFull => {
+                outcome.answer = host::TRACE_FULL;
+                self.as_before(before);
+            }
+        }
+    }
+
+    fn as_before(&mut self, before: &Snapshot) {
+        if wrong::is(wrong::FULL_HOST_NOT_RESTORED) {
+            return;
+        }
+        let registers = self.registers;
+        host::Host::restore(self, before);
+        if wrong::is(wrong::FULL_CLKCR_NOT_RESTORED) {
+            self.registers = registers;
+        }
+    }
+
+    /// What the wrong hosts make of a script's end.
+    fn ended_wrongly(&mut self, why: Stop, before: &Snapshot, room: usize, outcome: &mut Outcome) {
+        match why {
+            Stop::ScriptEnded if wrong::is(wrong::ENDED_AS_TIMEOUT) => outcome.answer = 1,
+            Stop::ScriptEnded if wrong::is(wrong::ENDED_HOST_AS_BEFORE) => self.as_before(before),
+            Stop::ScriptEnded if wrong::is(wrong::CLOSING_FULL_IF_FILLED) && outcome.rows.len() == room => {
+                self.stopped(Stop::TraceFull, before, outcome);
+            }
+            Stop::TraceFull if wrong::is(wrong::CLOSING_FULL_AS_ENDED) => outcome.answer = host::SCRIPT_ENDED,
+            Stop::TraceFull if wrong::is(wrong::CLOSING_FULL_DROPS_RECORD) => self.driver.card = None,
+            _ => {}
         }
     }
 

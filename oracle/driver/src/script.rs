@@ -18,6 +18,27 @@ pub fn data(index: u32, words: &[u32]) -> Vec<u32> {
 /// The initialisation of a card of high capacity, version 0, which has both bus widths and no switch: its CSD's size field
 /// says how many times 1,024 blocks there are, less one.
 pub fn initialisation(size: u32) -> Vec<u32> {
+    identified(size, 0x0000_0500)
+}
+
+/// The same of version 1, asked for over 25 MHz: the switch is there to give, and it is given.
+pub fn switching(size: u32) -> Vec<u32> {
+    let (mut check, mut switch) = ([0; 16], [0; 16]);
+    check[3] = 0x0000_0200;
+    switch[4] = 0x0000_0001;
+    [
+        identified(size, 0x0000_0501),
+        data(6, &check),
+        short(13, 0x900),
+        data(6, &switch),
+        short(13, 0x900),
+        vec![0],
+    ]
+    .concat()
+}
+
+/// Up to the second clock, with the SCR's first word as it is sent.
+fn identified(size: u32, scr: u32) -> Vec<u32> {
     [
         vec![0, 0, 0x80],
         short(8, 0x1aa),
@@ -29,7 +50,7 @@ pub fn initialisation(size: u32) -> Vec<u32> {
         short(7, 0),
         short(13, 0x900),
         short(55, 0x20),
-        data(51, &[0x0000_0500, 0]),
+        data(51, &[scr, 0]),
         short(13, 0x900),
         short(55, 0x20),
         short(6, 0),

@@ -2,6 +2,9 @@
 //! host runs.
 
 use std::cell::Cell;
+use std::panic::{catch_unwind, resume_unwind, AssertUnwindSafe};
+
+use crate::bench;
 
 // One constant for each wrong host, and ALL: number, name, what is wrong.
 include!(concat!(env!("OUT_DIR"), "/wrongs.rs"));
@@ -27,4 +30,17 @@ pub fn with<R>(which: u16, act: impl FnOnce() -> R) -> R {
     let _off = Off;
     ON.set(which);
     act()
+}
+
+/// Does something, and takes a script's end within it for no end of the call:
+/// then there is no result.
+pub fn rescued<R>(act: impl FnOnce() -> R) -> Option<R> {
+    match catch_unwind(AssertUnwindSafe(act)) {
+        Ok(result) => Some(result),
+        Err(_) if bench::ended() => {
+            bench::go_on();
+            None
+        }
+        Err(payload) => resume_unwind(payload),
+    }
 }

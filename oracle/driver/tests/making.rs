@@ -77,22 +77,3 @@ fn two_hosts_do_not_share_registers() {
     assert_eq!(outcome.rows[10..14], [(2, 18), (1, 3), (2, 274), (11, 1_600)]);
     assert_eq!((one.state().clock, two.state().clock), (400_000, 400_000));
 }
-
-#[test]
-fn an_end_of_script_leaves_the_host_as_before() {
-    let mut host = Host::make(&GOOD).ok().unwrap();
-    let before = host.state();
-    // The first clock is set and opened, then CMD0 finds no idle word.
-    let outcome = host.call(Call::Initialise { frequency: 1 }, Feed::Script(&[0]), 100, false);
-    assert_eq!((outcome.answer, outcome.words_used, outcome.rows.len()), (21, 1, 14));
-    assert_eq!(host.state(), before);
-    for room in 0..14 {
-        let outcome = host.call(Call::Initialise { frequency: 1 }, Feed::Script(&[0]), room, false);
-        let words = usize::from(room >= 10);
-        assert_eq!(
-            (outcome.answer, outcome.words_used, outcome.rows.len()),
-            (22, words, room)
-        );
-        assert_eq!(host.state(), before);
-    }
-}

@@ -25,7 +25,12 @@ pub fn refused(call: Call, outcome: &Outcome, again: impl Fn(&[u32]) -> Vec<Even
         return ("a step", "unknown");
     };
     match (place, outcome.answer) {
-        (Place::Idle, 2) => idle(call, outcome, again),
+        (Place::Idle, 2) => {
+            // As if the last status had been idle.
+            let mut script = outcome.script[..outcome.words_used].to_vec();
+            script.pop();
+            idle(call, script, again)
+        }
         (Place::Sent, 1) => (site, "timeout"),
         (Place::Sent, 2) => (site, "spent"),
         (Place::Sent, 3) => (site, "CRC"),
@@ -43,12 +48,29 @@ pub fn refused(call: Call, outcome: &Outcome, again: impl Fn(&[u32]) -> Vec<Even
     }
 }
 
-/// An idle wait does not say what it waits for: the same call is run with the
-/// last status idle, and the row that then comes tells.
-fn idle(call: Call, outcome: &Outcome, again: impl Fn(&[u32]) -> Vec<Event>) -> Arm {
-    let used = outcome.words_used;
-    let mut script = outcome.script[..used].to_vec();
-    script[used - 1] = 0;
+/// The step in which a script ended: the place of the command, and the reading
+/// that found no word.
+pub fn ended(call: Call, outcome: &Outcome, again: impl Fn(&[u32]) -> Vec<Event>) -> Arm {
+    let end = outcome.events.iter().find_map(|event| match event {
+        Event::Ended(reading) => Some(*reading),
+        _ => None,
+    });
+    let Some(reading) = end else {
+        return ("a step", "unknown");
+    };
+    let mut walk = Walk::new(call);
+    walk.through(&outcome.events);
+    match walk.step(reading) {
+        Some(step) => (walk.site, step),
+        None => idle(call, outcome.script.clone(), again),
+    }
+}
+
+/// An idle wait does not say what it waits for: the same call is run with an idle
+/// status after these words, and the row that then comes tells.
+fn idle(call: Call, mut script: Vec<u32>, again: impl Fn(&[u32]) -> Vec<Event>) -> Arm {
+    script.push(0);
+    let used = script.len();
     // Enough for the idle wait of a data phase's own command.
     script.push(0);
     let mut walk = Walk::new(call);
@@ -68,7 +90,7 @@ fn idle(call: Call, outcome: &Outcome, again: impl Fn(&[u32]) -> Vec<Event>) -> 
                 }
             }
             Event::Row(register, value) => walk.row(register, value),
-            _ => {}
+            Event::Ended(_) | Event::Full(_) => break,
         }
     }
     match next {

@@ -9,11 +9,15 @@ use oracle_driver::right::Host;
 use oracle_driver::{Call, Host as _, Outcome, State};
 
 use crate::arms::{self, Arm};
+use crate::closing;
+use crate::expected;
 use crate::rng::Rng;
-use crate::walk::{Place, Walk};
 
 /// Above 32 GiB a card of high capacity is called SDXC.
 const MOST_SDHC: u64 = 67_108_864;
+
+/// Kind of call, what closes it, and a row of that.
+pub type Closing = (&'static str, &'static str, &'static str);
 
 /// Class, signalling, lines, bypass.
 pub type Accepted = (&'static str, &'static str, &'static str, &'static str);
@@ -31,10 +35,12 @@ pub struct Coverage {
     pub accepted: BTreeMap<Accepted, u64>,
     pub reads: BTreeMap<&'static str, u64>,
     pub arms: BTreeMap<Arm, u64>,
-    /// Where scripts ended: kind of call and of reading.
-    pub ended: BTreeMap<(&'static str, Place), u64>,
+    /// The steps in which scripts ended.
+    pub ended: BTreeMap<Arm, u64>,
     /// Which row found no room, in runs with little room.
     pub full: BTreeMap<(&'static str, u32), u64>,
+    /// Which closing row found none, in runs with too little for them.
+    pub closings: BTreeMap<Closing, u64>,
 }
 
 pub fn kind(call: Call) -> &'static str {
@@ -85,11 +91,15 @@ impl Coverage {
             let mut again = |script: &[u32], room: usize| {
                 let after = host.snapshot();
                 host.restore(&before);
+                let stood = host.state();
                 let outcome = host.call(entry.call, Feed::Script(script), room, true);
+                let as_before = outcome.answer != TRACE_FULL || host.state() == stood;
+                assert!(as_before, "22 leaves the host as before");
                 host.restore(&after);
                 outcome
             };
             self.little_room(entry.call, &outcome, &mut again, rng);
+            self.closing_rows(entry.call, &outcome, &mut again, rng);
             let again = std::cell::RefCell::new(again);
             self.call(entry.call, &outcome, |script| {
                 (again.borrow_mut())(script, MOST_ROOM).events
@@ -107,11 +117,10 @@ impl Coverage {
             }
             (0, _) => {}
             (SCRIPT_ENDED, _) => {
-                let mut walk = Walk::new(call);
-                walk.through(&outcome.events);
-                if let Some(Event::Ended(reading)) = outcome.events.last() {
-                    count(&mut self.ended, (kind(call), walk.place(*reading)));
-                }
+                let (site, step) = arms::ended(call, outcome, again);
+                let closed = closing::of(outcome).map(|(shape, _)| shape.name);
+                let rightly = closed == Some(expected::closed_by(site));
+                count(&mut self.ended, (site, if rightly { step } else { "closed otherwise" }));
             }
             _ => count(&mut self.arms, arms::refused(call, outcome, again)),
         }
@@ -136,6 +145,53 @@ impl Coverage {
             count(&mut self.full, (kind(call), *register));
         }
     }
+
+    /// A call whose script ended, with room for all its rows and then with less:
+    /// for those before its end, and some of the closing ones.
+    fn closing_rows(
+        &mut self,
+        call: Call,
+        outcome: &Outcome,
+        again: &mut impl FnMut(&[u32], usize) -> Outcome,
+        rng: &mut Rng,
+    ) {
+        let Some((shape, before)) = closing::of(outcome) else {
+            return;
+        };
+        let all = outcome.rows.len();
+        assert!(again(&outcome.script, all) == *outcome, "just enough room is enough");
+        let room = rng.between(before as u64, all as u64 - 1) as usize;
+        let less = again(&outcome.script, room);
+        assert!(less.answer == TRACE_FULL, "a closing row without room gives 22");
+        assert!(less.words_used == outcome.script.len(), "all words were used by then");
+        count(&mut self.closings, (kind(call), shape.name, shape.row(room - before)));
+    }
+}
+
+/// The closing rows that find no room where every call of a book has this much.
+pub fn closings(bytes: &[u8], room: usize) -> Vec<Closing> {
+    let mut met = Vec::new();
+    let Ok(book) = Book::read(bytes) else {
+        return met;
+    };
+    let Ok(mut host) = Host::make(&book.settings) else {
+        return met;
+    };
+    for entry in &book.entries {
+        let before = host.snapshot();
+        let run = |host: &mut Host, room| host.call(entry.call, Feed::Script(&entry.script), room, true);
+        if run(&mut host, room).answer != TRACE_FULL {
+            continue;
+        }
+        // What it would have been closed by.
+        let whole = run(&mut host, MOST_ROOM);
+        host.restore(&before);
+        match closing::of(&whole) {
+            Some((shape, first)) if first <= room => met.push((kind(entry.call), shape.name, shape.row(room - first))),
+            _ => {}
+        }
+    }
+    met
 }
 
 /// What kind of card was taken, and how it is driven.

@@ -1,6 +1,9 @@
-//! Every arm that document 01 has, so that one never reached shows.
+//! Every arm that document 01 has, every step in which a script can end and every
+//! closing row, so that one never reached shows.
 
 use crate::arms::Arm;
+use crate::closing::SHAPES;
+use crate::coverage::Closing;
 
 pub const COMMAND: [&str; 7] = ["idle", "timeout", "spent", "CRC", "echo", "error bits", "locked"];
 
@@ -24,11 +27,30 @@ pub const DATA: [&str; 17] = [
     "DCOUNT",
 ];
 
-/// A command, which causes of a command it can have, and its own.
+/// The readings of a command and of a data phase, each of which can be the one
+/// that finds no word.
+pub const COMMAND_ENDS: [&str; 7] = ["idle", "poll", "echo", "word 0", "word 1", "word 2", "word 3"];
+const WITHOUT_ECHO: [&str; 6] = ["idle", "poll", "word 0", "word 1", "word 2", "word 3"];
+
+pub const DATA_ENDS: [&str; 9] = [
+    "data idle",
+    "1: status",
+    "1: DMA word",
+    "2: status",
+    "2: DMA word",
+    "DCOUNT",
+    "data, first",
+    "data, between",
+    "data, last",
+];
+
+/// A command, which causes of a command it can have, and its own; at which of its
+/// own readings a script can end.
 pub struct Site {
     pub name: &'static str,
     pub command: &'static [&'static str],
     pub own: &'static [&'static str],
+    pub ends: &'static [&'static str],
     pub data: bool,
 }
 
@@ -38,6 +60,7 @@ const fn r1(name: &'static str, own: &'static [&'static str]) -> Site {
         name,
         command: &COMMAND,
         own,
+        ends: &COMMAND_ENDS,
         data: false,
     }
 }
@@ -50,28 +73,50 @@ const fn data(name: &'static str, own: &'static [&'static str]) -> Site {
 }
 
 /// Another kind of answer, to which only some causes apply.
-const fn other(name: &'static str, command: &'static [&'static str], own: &'static [&'static str]) -> Site {
+const fn other(
+    name: &'static str,
+    command: &'static [&'static str],
+    own: &'static [&'static str],
+    ends: &'static [&'static str],
+) -> Site {
     Site {
         name,
         command,
         own,
+        ends,
         data: false,
     }
 }
 
+/// No step, but what a call is refused for.
+const fn cause(name: &'static str, own: &'static [&'static str]) -> Site {
+    other(name, &[], own, &[])
+}
+
+/// A clock change: an idle wait and no command.
+const fn clock(name: &'static str, own: &'static [&'static str]) -> Site {
+    other(name, &["idle"], own, &["idle"])
+}
+
 pub const SITES: &[Site] = &[
-    other("initialise", &[], &["asked for 0 Hz", "asked for over 50 MHz"]),
-    other("first clock", &["idle"], &[]),
-    other("CMD0", &["idle", "timeout", "spent"], &[]),
+    cause("initialise", &["asked for 0 Hz", "asked for over 50 MHz"]),
+    clock("first clock", &[]),
+    other("CMD0", &["idle", "timeout", "spent"], &[], &["idle", "poll"]),
     // A timeout of CMD8 is a version 1 card.
-    other("CMD8", &["idle", "spent", "CRC", "echo"], &["version"]),
+    other("CMD8", &["idle", "spent", "CRC", "echo"], &["version"], &COMMAND_ENDS),
     r1("CMD55 for ACMD41", &["not taken"]),
-    other("ACMD41", &["idle", "timeout", "spent"], &["voltage", "attempts"]),
-    other("CMD2", &["idle", "timeout", "spent", "CRC"], &[]),
+    other(
+        "ACMD41",
+        &["idle", "timeout", "spent"],
+        &["voltage", "attempts"],
+        &WITHOUT_ECHO,
+    ),
+    other("CMD2", &["idle", "timeout", "spent", "CRC"], &[], &WITHOUT_ECHO),
     other(
         "CMD3",
         &["idle", "timeout", "spent", "CRC", "echo", "error bits"],
         &["RCA 0"],
+        &COMMAND_ENDS,
     ),
     other(
         "CMD9",
@@ -83,6 +128,7 @@ pub const SITES: &[Site] = &[
             "CSD version",
             "block length",
         ],
+        &WITHOUT_ECHO,
     ),
     r1("CMD7", &[]),
     r1("CMD13 after CMD7", &["attempts"]),
@@ -90,24 +136,24 @@ pub const SITES: &[Site] = &[
     r1("CMD55 for ACMD51", &["not taken"]),
     data("ACMD51", &[]),
     r1("CMD13 after ACMD51", &["attempts"]),
-    other("SCR", &[], &["no one-bit bus", "no four-bit bus"]),
+    cause("SCR", &["no one-bit bus", "no four-bit bus"]),
     r1("CMD55 for ACMD6", &["not taken"]),
     r1("ACMD6", &[]),
-    other("CSD", &[], &["rate"]),
-    other("second clock", &["idle"], &["too slow"]),
+    cause("CSD", &["rate"]),
+    clock("second clock", &["too slow"]),
     data("CMD6 check", &[]),
     r1("CMD13 after check", &["attempts"]),
     data("CMD6 switch", &["not switched"]),
     r1("CMD13 after switch", &["attempts"]),
-    other("third clock", &["idle"], &[]),
-    other("read", &[], &["no card", "no blocks", "past the card"]),
+    clock("third clock", &[]),
+    cause("read", &["no card", "no blocks", "past the card"]),
     r1("CMD13 first", &["attempts"]),
     data("CMD17", &[]),
     r1("CMD13 after CMD17", &["attempts"]),
     data("CMD18", &[]),
     r1("CMD12", &[]),
     r1("CMD13 after CMD12", &["attempts"]),
-    other("status", &[], &["no card"]),
+    cause("status", &["no card"]),
     r1("CMD55 for ACMD13", &["not taken"]),
     data("ACMD13", &[]),
     r1("CMD13 after ACMD13", &["attempts"]),
@@ -120,4 +166,50 @@ pub fn arms() -> Vec<Arm> {
         causes.map(|cause| (site.name, *cause))
     };
     SITES.iter().flat_map(of).collect()
+}
+
+/// Whether a script can end in this step of the data phase. The SCR has two words,
+/// a first and a last.
+pub fn data_ends(site: &Site, step: &str) -> bool {
+    site.data && (site.name != "ACMD51" || step != "data, between")
+}
+
+/// The steps in which a script can end.
+pub fn ends() -> Vec<Arm> {
+    let of = |site: &'static Site| {
+        let data = DATA_ENDS.iter().filter(|step| data_ends(site, step));
+        site.ends.iter().chain(data).map(|step| (site.name, *step))
+    };
+    SITES.iter().flat_map(of).collect()
+}
+
+/// What closes a call whose script ends in a step of this place, by the refusal
+/// table: the gate of a command that stands alone, the guard of a data phase, which
+/// takes in CMD12 and the ready wait after it, and that of initialisation.
+pub fn closed_by(site: &str) -> &'static str {
+    match site {
+        "CMD13 first" | "CMD55 for ACMD13" => "CLKCR off",
+        "CMD17" | "CMD18" | "ACMD13" => "reset",
+        "CMD12" | "CMD13 after CMD17" | "CMD13 after CMD12" | "CMD13 after ACMD13" => "CLKCR off, reset",
+        // The gate is set with the second clock, after ACMD51.
+        "ACMD51" | "CMD13 after ACMD51" | "CMD6 check" | "CMD6 switch" => "reset twice",
+        "CMD13 after check" | "CMD13 after switch" => "CLKCR off, reset twice",
+        // The other steps of initialisation.
+        _ => "reset",
+    }
+}
+
+/// What can close a call of this kind.
+pub fn closes(kind: &str, shape: &str) -> bool {
+    match kind {
+        "initialise" => matches!(shape, "reset" | "reset twice" | "CLKCR off, reset twice"),
+        _ => matches!(shape, "CLKCR off" | "reset" | "CLKCR off, reset"),
+    }
+}
+
+/// Each closing row that may find no room.
+pub fn closings(kind: &'static str) -> Vec<Closing> {
+    let shapes = SHAPES.iter().filter(|shape| closes(kind, shape.name));
+    let rows = shapes.flat_map(|shape| shape.rows().into_iter().map(|row| (shape.name, row)));
+    rows.map(|(shape, row)| (kind, shape, row)).collect()
 }

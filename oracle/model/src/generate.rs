@@ -5,7 +5,7 @@ use std::rc::Rc;
 
 use oracle_bench_book::book::{self, Book, Entry};
 use oracle_driver::bench::{Event, Feed, Reading};
-use oracle_driver::right::Host;
+use oracle_driver::right::{Host, Snapshot};
 use oracle_driver::{Call, Host as _, Outcome, Settings};
 
 use crate::card::{self, Card};
@@ -16,6 +16,9 @@ use crate::settings;
 
 /// Places at which one book cuts its call.
 const MOST_CUTS: usize = 24;
+
+/// How often a ready wait of a call that is drawn out fails.
+const MOST_WAITS: u64 = 18;
 
 /// While a book is made, no row list is too short.
 const ENDLESS: usize = usize::MAX;
@@ -37,6 +40,13 @@ pub fn book(seed: u64, k: u64) -> Vec<u8> {
         4 => Maker::new(settings::good(&mut rng), rng)
             .calls(book::MOST_CALLS)
             .bytes(),
+        5 | 6 => {
+            let settings = Settings {
+                ready_attempts: rng.between(MOST_WAITS + 1, 60) as u16,
+                ..settings::good(&mut rng)
+            };
+            Maker::new(settings, rng).drawn_out().bytes()
+        }
         _ => {
             let most = rng.between(1, 8) as usize;
             Maker::new(settings::good(&mut rng), rng).calls(most).bytes()
@@ -93,33 +103,99 @@ impl Maker {
         self.book
     }
 
-    /// A book in which one call is cut at consecutive places. Each is answered
-    /// 21 and leaves the host as before, so the next finds the same host; the
-    /// last has its whole script.
+    /// A book in which one call is cut at place after place, and whole at last.
     fn cuts(mut self) -> Book {
-        let mut call = Call::Initialise {
-            frequency: settings::frequency(&mut self.rng),
+        let made = self.host.snapshot();
+        // Half of them ask for the switch, whose steps are else met seldom.
+        let frequency = match self.rng.one_in(2) {
+            true => self.rng.between(25_000_001, 50_000_000) as u32,
+            false => settings::frequency(&mut self.rng),
         };
-        if self.rng.one_in(2) {
-            let outcome = self.live(call, None);
-            self.keep(call, outcome.script);
-            if self.host.state().record.is_some() {
-                call = settings::call(&self.host.state(), &mut self.rng);
-            }
+        let first = Call::Initialise { frequency };
+        let fresh = self.live(first, None);
+        let (mut call, mut whole) = (first, fresh.clone());
+        if self.host.state().record.is_some() && !self.rng.one_in(3) {
+            call = settings::call(&self.host.state(), &mut self.rng);
+            whole = self.live(call, None);
         }
-        let whole = self.live(call, None).script;
-        let first = self.rng.index(whole.len() + 1);
-        for length in (first..whole.len()).take(MOST_CUTS) {
-            let room = book::MOST_WORDS - self.length;
-            if room < length + whole.len() + 2 * book::ENTRY || self.book.entries.len() + 1 == book::MOST_CALLS {
+        let places = self.places(&whole.events);
+        let from = self.rng.index(places.len() + 1);
+        let cuts = places[from..].iter().take(MOST_CUTS).copied();
+        self.host.restore(&made);
+        for length in cuts.chain([whole.script.len()]) {
+            // What lost its record gets it again.
+            let lost = call != first && self.host.state().record.is_none();
+            if lost && !self.serve(first, &fresh.script) || !self.serve(call, &whole.script[..length]) {
                 break;
             }
-            self.keep(call, whole[..length].to_vec());
         }
-        if !self.keep(call, whole) {
+        if self.book.entries.is_empty() {
             self.keep(call, Vec::new());
         }
         self.book
+    }
+
+    /// A book whose reads and status calls write more rows than its
+    /// initialisations: so a list that is long enough for these may be too short
+    /// for the closing rows of those.
+    fn drawn_out(mut self) -> Book {
+        let made = self.host.snapshot();
+        let first = Call::Initialise {
+            frequency: self.rng.between(1_000_000, 50_000_000) as u32,
+        };
+        self.player.borrow_mut().waits = Some(0);
+        let fresh = self.live(first, None).script;
+        self.host.restore(&made);
+        while self.host.state().record.is_some() || self.serve(first, &fresh) {
+            let Some(record) = self.host.state().record else {
+                break;
+            };
+            let call = match self.rng.below(3) {
+                0 => Call::Status,
+                which => Call::Read {
+                    index: self.rng.below(record.blocks - 1) as u32,
+                    blocks: which as usize,
+                },
+            };
+            let waits = self.rng.between(2, MOST_WAITS) as u32;
+            self.player.borrow_mut().waits = Some(waits);
+            self.player.borrow_mut().card.not_ready_left = waits;
+            let before = self.host.snapshot();
+            let whole = self.live(call, None);
+            self.host.restore(&before);
+            let places = self.places(&whole.events);
+            let length = self.rng.pick(&places);
+            if !self.serve(call, &whole.script[..length]) {
+                break;
+            }
+        }
+        if self.book.entries.is_empty() {
+            self.keep(first, Vec::new());
+        }
+        self.book
+    }
+
+    /// Keeps a call with this script and runs it; false if the book is full.
+    fn serve(&mut self, call: Call, script: &[u32]) -> bool {
+        let kept = self.keep(call, script.to_vec());
+        if kept {
+            self.host.call(call, Feed::Script(script), ENDLESS, false);
+        }
+        kept
+    }
+
+    /// The lengths at which a script is worth cutting: before each reading, but
+    /// of many data words only before the first, the last and a few.
+    fn places(&mut self, events: &[Event]) -> Vec<usize> {
+        let readings: Vec<Reading> = events.iter().filter_map(taken).collect();
+        let mut places = Vec::new();
+        for (at, reading) in readings.iter().enumerate() {
+            let last = !matches!(readings.get(at + 1), Some(Reading::Data(_)));
+            if last || !matches!(reading, Reading::Data(1..)) || self.rng.one_in(64) {
+                places.push(at);
+            }
+        }
+        places
     }
 
     /// False if the call finds no place in the book any more.
@@ -158,7 +234,7 @@ impl Maker {
         let before = self.host.snapshot();
         let card = self.player.borrow().clone();
         let natural = self.live(call, None);
-        match self.rng.below(20) {
+        match self.rng.below(21) {
             0..=8 => natural.script,
             9 | 10 => {
                 let mut words = natural.script;
@@ -173,37 +249,55 @@ impl Maker {
                 *self.player.borrow_mut() = card;
                 self.live(call, Some(at)).script
             }
-            _ => {
+            17..=19 => {
                 let mut words = natural.script;
                 damage::script(&mut words, &mut self.rng);
-                self.host.restore(&before);
-                self.host.call(call, Feed::Script(&words), ENDLESS, false);
-                words
+                self.again(call, &before, words)
+            }
+            _ => {
+                let places = self.places(&natural.events);
+                let length = match places.is_empty() {
+                    true => 0,
+                    false => self.rng.pick(&places),
+                };
+                self.again(call, &before, natural.script[..length].to_vec())
             }
         }
     }
 
+    /// Runs the call on another script than the card gave.
+    fn again(&mut self, call: Call, before: &Snapshot, script: Vec<u32>) -> Vec<u32> {
+        self.host.restore(before);
+        self.host.call(call, Feed::Script(&script), ENDLESS, false);
+        script
+    }
+
     /// The number of one reading of a call; seldom one of the many words that
-    /// decide nothing (short answers after their first word, data of blocks).
+    /// decide nothing (short answers after their first word, data of blocks), and
+    /// more often a status of a data poll, which can be wrong in many ways.
     fn reading(&mut self, events: &[Event]) -> Option<usize> {
-        let readings = events.iter().filter_map(|event| match event {
-            Event::Word(reading, _) => Some(*reading),
-            _ => None,
-        });
         let mut worth = Vec::new();
-        for (at, reading) in readings.enumerate() {
-            let weighs = match reading {
-                Reading::Response(1..) => self.rng.one_in(8),
-                Reading::Data(place) => place < 8 || self.rng.one_in(256),
-                _ => true,
+        let mut previous = None;
+        for (at, reading) in events.iter().filter_map(taken).enumerate() {
+            let times = match (previous.replace(reading), reading) {
+                (Some(Reading::Dma | Reading::Response(3)), Reading::Status) => 4,
+                (_, Reading::Response(1..)) => usize::from(self.rng.one_in(8)),
+                (_, Reading::Data(8..)) => usize::from(self.rng.one_in(256)),
+                _ => 1,
             };
-            if weighs {
-                worth.push(at);
-            }
+            worth.extend(std::iter::repeat_n(at, times));
         }
         match worth.is_empty() {
             true => None,
-            false => Some(worth[self.rng.index(worth.len())]),
+            false => Some(self.rng.pick(&worth)),
         }
+    }
+}
+
+/// The reading of an event that has a word.
+fn taken(event: &Event) -> Option<Reading> {
+    match event {
+        Event::Word(reading, _) => Some(*reading),
+        _ => None,
     }
 }

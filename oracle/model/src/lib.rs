@@ -3,6 +3,7 @@
 
 pub mod arms;
 pub mod card;
+pub mod closing;
 pub mod coverage;
 pub mod damage;
 pub mod expected;

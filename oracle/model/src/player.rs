@@ -61,6 +61,8 @@ pub struct Player {
     after_55: bool,
     /// Polls that still fail in the wait at hand; none: not chosen yet.
     busy: Option<u32>,
+    /// How often the card is not ready in each wait; none: as it comes.
+    pub waits: Option<u32>,
     given: usize,
     /// The reading at which the answer is spoilt, and what stays so after it.
     pub spoil_at: Option<usize>,
@@ -79,6 +81,7 @@ impl Player {
             armed: false,
             after_55: false,
             busy: None,
+            waits: None,
             given: 0,
             spoil_at: None,
             stuck: None,
@@ -105,6 +108,14 @@ impl Player {
             5 | 6 => rng.below(u64::from(most.min(3)) + 1) as u32,
             _ if most <= 8 => most,
             _ => rng.below(9) as u32,
+        }
+    }
+
+    /// How often the card is to answer that it is not ready.
+    fn unready(&mut self) -> u32 {
+        match self.waits {
+            Some(waits) => waits,
+            None => Self::failures(&mut self.rng, self.attempts.into()),
         }
     }
 
@@ -233,12 +244,11 @@ impl Player {
             (_, 8) => Response::R7,
             _ => Response::R1,
         };
-        let attempts = u32::from(self.attempts);
         if index == 0 {
-            self.card.power_up_left = Self::failures(&mut self.rng, attempts);
+            self.card.power_up_left = self.unready();
         }
         if index != 13 || self.armed {
-            self.card.not_ready_left = Self::failures(&mut self.rng, attempts);
+            self.card.not_ready_left = self.unready();
         }
         self.busy = None;
         self.stage = Stage::Sent(Command {

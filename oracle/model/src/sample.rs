@@ -2,8 +2,11 @@
 
 use std::collections::BTreeSet;
 
-use crate::coverage::Coverage;
+use crate::coverage::{closings, Coverage};
 use crate::rng::Rng;
+
+/// The smaller of the two rooms with which a sample is served.
+const LITTLE: usize = 40;
 
 /// Everything that a book reaches, as text.
 fn reached(book: &[u8], rng: &mut Rng) -> BTreeSet<String> {
@@ -17,6 +20,7 @@ fn reached(book: &[u8], rng: &mut Rng) -> BTreeSet<String> {
     all.extend(coverage.reads.keys().map(|key| format!("read {key:?}")));
     all.extend(coverage.arms.keys().map(|key| format!("arm {key:?}")));
     all.extend(coverage.ended.keys().map(|key| format!("ended {key:?}")));
+    all.extend(closings(book, LITTLE).iter().map(|key| format!("closing {key:?}")));
     all
 }
 

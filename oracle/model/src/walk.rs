@@ -35,6 +35,8 @@ pub struct Walk {
     armed: bool,
     argument: u32,
     after_55: bool,
+    /// Words of the data phase at hand.
+    words: u32,
     /// The last command but CMD13 as a question and CMD55.
     passed: &'static str,
     /// The last command written, by the name of its place in the call.
@@ -49,6 +51,7 @@ impl Walk {
             armed: false,
             argument: 0,
             after_55: false,
+            words: 0,
             passed: "nothing",
             site: "nothing",
         }
@@ -59,6 +62,7 @@ impl Walk {
             (3, _) => self.argument = value,
             (4, 0) => self.stage = Stage::Idle,
             (4, _) => self.command(value),
+            (6, _) => self.words = value / 4,
             (7, 0) => (self.armed, self.stage) = (false, Stage::Idle),
             (7, _) => self.armed = true,
             _ => {}
@@ -144,7 +148,8 @@ impl Walk {
         place
     }
 
-    /// Follows all events; gives place and command of the last word.
+    /// Follows all events up to the end of the script; gives place and command
+    /// of the last word.
     pub fn through(&mut self, events: &[Event]) -> Option<(Place, &'static str)> {
         let mut last = None;
         for event in events {
@@ -154,10 +159,34 @@ impl Walk {
                     let place = self.word(reading, word);
                     last = Some((place, self.site));
                 }
-                _ => {}
+                Event::Ended(_) => break,
+                Event::Full(_) => {}
             }
         }
         last
+    }
+
+    /// The step at which this reading finds no word; an idle wait does not say
+    /// which.
+    pub fn step(&self, reading: Reading) -> Option<&'static str> {
+        let step = match (self.place(reading), reading) {
+            (Place::Idle, _) => return None,
+            (Place::Sent, _) => "poll",
+            (Place::Echo, _) => "echo",
+            (_, Reading::Response(0)) => "word 0",
+            (_, Reading::Response(1)) => "word 1",
+            (_, Reading::Response(2)) => "word 2",
+            (Place::Words, _) => "word 3",
+            (Place::FirstStatus, _) => "1: status",
+            (Place::FirstDma, _) => "1: DMA word",
+            (Place::SecondStatus, _) => "2: status",
+            (Place::SecondDma, _) => "2: DMA word",
+            (Place::Dcount, _) => "DCOUNT",
+            (_, Reading::Data(0)) => "data, first",
+            (_, Reading::Data(place)) if u32::from(place) + 1 == self.words => "data, last",
+            (Place::Data, _) => "data, between",
+        };
+        Some(step)
     }
 }
 

@@ -65,10 +65,9 @@ impl host::Host for Host {
         let (answer, carried) = match ended {
             Ok(_) => (0, 0),
             Err(Stop::Refused(number, word)) => (number, word),
-            Err(Stop::ScriptEnded) => (host::SCRIPT_ENDED, 0),
             Err(Stop::TraceFull) => (host::TRACE_FULL, 0),
         };
-        if answer >= host::SCRIPT_ENDED {
+        if answer == host::TRACE_FULL {
             self.state = before;
         }
         let given = ended.unwrap_or_default();
@@ -177,8 +176,8 @@ impl Host {
         self.state.record.map_or(refuse(16), Ok)
     }
 
-    /// A data phase that is refused takes the record with it; at 21 and 22 the
-    /// caller puts the host back.
+    /// A data phase that is refused takes the record with it; at 22 the caller
+    /// puts the host back.
     fn data(&mut self, tape: &mut Tape<'_>, index: u32, argument: u32, words: usize, size: u32) -> Step<Vec<u32>> {
         let rca = self.record()?.rca;
         let result = self.bench(tape).data(index, argument, words, size, rca);

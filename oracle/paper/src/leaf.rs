@@ -88,7 +88,7 @@ fn packed(result: Step<u64>) -> u64 {
     match result {
         Ok(value) => value,
         Err(Stop::Refused(number, _)) => u64::from(number) << 56,
-        Err(_) => unreachable!("a leaf reads no script"),
+        Err(Stop::TraceFull) => unreachable!("a leaf writes no row"),
     }
 }
 

@@ -1,13 +1,15 @@
 //! The script and the row list ("Script and rows").
 
 use oracle_driver::bench::{Event, Reading};
+use oracle_driver::host::SCRIPT_ENDED;
 
 /// Why a call stops.
 #[derive(Clone, Copy, Debug, Eq, PartialEq)]
 pub enum Stop {
-    /// Number 1 to 20, and the word that number 10 carries.
+    /// Number 1 to 21, and the word that number 10 carries. A script that ends
+    /// is a refusal at its place like the others.
     Refused(u8, u32),
-    ScriptEnded,
+    /// Final: nothing more is written, and the host is as before.
     TraceFull,
 }
 
@@ -62,7 +64,7 @@ impl<'a> Tape<'a> {
     pub fn take(&mut self, reading: Reading) -> Step<u32> {
         let Some(&word) = self.script.get(self.used) else {
             self.watch(Event::Ended(reading));
-            return Err(Stop::ScriptEnded);
+            return refuse(SCRIPT_ENDED);
         };
         self.used += 1;
         self.watch(Event::Word(reading, word));
@@ -101,8 +103,8 @@ impl<'a> Tape<'a> {
         self.row(ICR, 0x73a)
     }
 
-    /// An `OnDrop` guard: what is refused within gets the reset rows; a script
-    /// that ended and a full trace do not.
+    /// An `OnDrop` guard: what is refused within gets the reset rows, if there
+    /// is room for them.
     pub fn guarded<T>(&mut self, within: Step<T>) -> Step<T> {
         if let Err(Stop::Refused(..)) = within {
             self.reset()?;

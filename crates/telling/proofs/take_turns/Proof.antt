@@ -1,9 +1,9 @@
-use Prim.Native.Nat.{_+_, _-_}
 use mathlib.Core.List.{[]}
 use mathlib.Core.Path.{_≡_, refl, sym, _∙_}
 use native.Mathlib.Omega.{arith}
 use lib.ListN.{length}
-use Rattle.tape.specs.Rows.{roomOf}
+use Rattle.underway.specs.Under.{under}
+use Rattle.feed.specs.Runs.{nextSpan}
 use Rattle.feed.specs.Turns.{wayOf}
 use Rattle.feed.proofs.Fed.{turned-false, turned-true}
 use Rattle.sheet.specs.Sheet.{Fits}
@@ -22,7 +22,7 @@ Inv-loop script rows₀ out₀ feeding₀ page₀ rows out feeding page =
     × Telling script (wayOf [] feeding₀) rows₀ (leaf (page₀ .at) out₀) feeding rows (leaf (page .at) out)
 
 abbrev μ-loop : tie.MeasureT-loop
-μ-loop script rows₀ out₀ feeding₀ page₀ rows out feeding page = (length script - feeding .used) + (roomOf rows - feeding .rows)
+μ-loop script rows₀ out₀ feeding₀ page₀ rows out feeding page = nextSpan script (under [] (feeding .call) .ahead) (feeding .used)
 
 loop-holds : tie.Need-loop-holds Inv-loop μ-loop
 loop-holds c = (refl, refl, c .before .before .before .before .pre, starts-telling _ _ _ _)

@@ -6,7 +6,14 @@ pub const SITES: &[Site] = &[
     driver(
         "fn blocking_init_card(",
         "reset_controller::<T>",
-        &[wrong("init-guard-missing", "a refused initialisation writes no reset rows", "(|| {}) as fn()")],
+        &[
+            wrong("init-guard-missing", "a refused initialisation writes no reset rows", "(|| {}) as fn()"),
+            wrong(
+                "ended-init-guard-passed",
+                "a script's end passes initialisation's guard by",
+                "(|| if !crate::bench::ended() { reset_controller::<T>() }) as fn()",
+            ),
+        ],
     ),
     driver(
         "fn blocking_init_card(",
@@ -279,6 +286,16 @@ pub const SITES: &[Site] = &[
                 "a read refused in its first ready wait writes reset rows",
                 "if let Err(error) = blocking_wait_ready::<T>(card.rca, self.config, self.gated) { reset_controller::<T>(); return Err(error); }",
             ),
+            wrong(
+                "ended-read-wait-drops-record",
+                "a script's end in a read's first ready wait drops the record",
+                "let (config, gated, record) = (self.config, self.gated, &mut self.card); let drops = OnDrop::new(|| *record = None); let waited = blocking_wait_ready::<T>(card.rca, config, gated); drops.defuse(); waited?;",
+            ),
+            wrong(
+                "ended-read-wait-resets",
+                "a script's end in a read's first ready wait writes reset rows",
+                "let resets = OnDrop::new(reset_controller::<T>); let waited = blocking_wait_ready::<T>(card.rca, self.config, self.gated); resets.defuse(); waited?;",
+            ),
         ],
     ),
     driver(
@@ -324,6 +341,11 @@ pub const SITES: &[Site] = &[
                 "status-announce-drops-record",
                 "a status refused at CMD55 drops the record",
                 "if let Err(error) = app_command::<T>(rca, self.config, self.gated) { self.card = None; return Err(error); }",
+            ),
+            wrong(
+                "ended-status-announce-drops-record",
+                "a script's end at a status call's CMD55 drops the record",
+                "let (config, gated, record) = (self.config, self.gated, &mut self.card); let drops = OnDrop::new(|| *record = None); let taken = app_command::<T>(rca, config, gated); drops.defuse(); taken?;",
             ),
         ],
     ),

@@ -25,6 +25,18 @@ pub const SITES: &[Site] = &[
         ],
     ),
     driver(
+        "fn command<",
+        "if gate { set_clken::<T>(false) }",
+        &[
+            wrong("ended-clock-left-open", "a script's end in a gated command leaves the clock open", ""),
+            wrong(
+                "ended-clock-closed-for-all",
+                "a script's end closes the clock of every command",
+                "set_clken::<T>(false)",
+            ),
+        ],
+    ),
+    driver(
         "fn command_inner<",
         "wait_idle::<T>(config.poll_limit, false)?;",
         &[wrong("command-without-idle-wait", "no idle wait before a command", "")],

@@ -236,6 +236,26 @@ pub const SITES: &[Site] = &[
                 "reset_controller::<T>();",
             ),
             wrong("data-without-reset", "a data phase refused writes no reset rows", "*card = None;"),
+            wrong(
+                "ended-data-guard-passed",
+                "a script's end passes the data phase's guard by",
+                "if !crate::bench::ended() { *card = None; reset_controller::<T>(); }",
+            ),
+            wrong(
+                "ended-data-keeps-record",
+                "a script's end in a data phase keeps the record",
+                "if !crate::bench::ended() { *card = None; } reset_controller::<T>();",
+            ),
+            wrong(
+                "ended-data-without-reset",
+                "a script's end in a data phase drops the record and writes no reset rows",
+                "*card = None; if !crate::bench::ended() { reset_controller::<T>(); }",
+            ),
+            wrong(
+                "ended-resets-once-inside",
+                "a script's end in a data phase of initialisation writes the reset rows once",
+                "if !crate::bench::ended() || card.is_some() { *card = None; reset_controller::<T>(); }",
+            ),
         ],
     ),
     driver(
@@ -318,6 +338,11 @@ pub const SITES: &[Site] = &[
                 "closing-wait-keeps-record",
                 "the ready wait after the data stands outside the guard",
                 "if let Some(rca) = rca { guard.defuse(); return blocking_wait_ready::<T>(rca, self.config, self.gated); }",
+            ),
+            wrong(
+                "ended-closing-wait-passed",
+                "a script's end in the ready wait after the data passes the guard by",
+                "if let Some(rca) = rca { guard.defuse(); let waited = blocking_wait_ready::<T>(rca, self.config, self.gated); if waited.is_err() { self.card = None; reset_controller::<T>(); } return waited; }",
             ),
         ],
     ),

@@ -49,7 +49,10 @@ pub const SITES: &[Site] = &[
     driver(
         "fn begin_init(",
         "self.card = None;",
-        &[wrong("old-record-kept", "a refused initialisation keeps the old record", "")],
+        &[
+            wrong("old-record-kept", "a refused initialisation keeps the old record", ""),
+            wrong("old-record-dropped-late", "the old record stays until the first reading is there", ""),
+        ],
     ),
     driver(
         "fn begin_init(",
@@ -94,6 +97,11 @@ pub const SITES: &[Site] = &[
                 "first-clock-open-at-once",
                 "one CLKCR row instead of two",
                 "configure_clock::<T>(initial, false, true, self.config)?; T::REGS.power().write_value(pac::sdio::regs::Power(3));",
+            ),
+            wrong(
+                "old-record-dropped-late",
+                "",
+                "configure_clock::<T>(initial, false, false, self.config)?; self.card = None; T::REGS.power().write_value(pac::sdio::regs::Power(3)); set_clken::<T>(true);",
             ),
         ],
     ),
@@ -150,6 +158,11 @@ pub const SITES: &[Site] = &[
                 "cmd8-any-refusal",
                 "any refusal of CMD8 means version 1",
                 "match command::<T>(8, 0x1aa, Response::R7, self.config, false) { Ok(words) if words[0] == 0x1aa => Ok(true), Ok(words) if words[0] & R1_ERRORS == 0x0040_0000 => Ok(false), Ok(_) => Err(Error::UnsupportedCardVersion), Err(_) => Ok(false) }",
+            ),
+            wrong(
+                "ended-cmd8-version-1",
+                "a script that ends at CMD8 means version 1",
+                "match crate::wrong::rescued(|| command::<T>(8, 0x1aa, Response::R7, self.config, false)).unwrap_or(Err(Error::Timeout)) { Ok(words) if words[0] == 0x1aa => Ok(true), Ok(words) if words[0] & R1_ERRORS == 0x0040_0000 => Ok(false), Err(Error::Timeout) => Ok(false), Ok(_) => Err(Error::UnsupportedCardVersion), Err(error) => Err(error) }",
             ),
             wrong(
                 "cmd8-spent",

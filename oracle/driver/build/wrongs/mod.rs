@@ -56,8 +56,17 @@ const STUBS: &[(&str, &str)] = &[
     ("data-big-endian", "data words are turned round as they land"),
     ("data-place-stays", "every data word is asked for as the first one"),
     ("echo-unmasked", "RESPCMD is compared with more than its low six bits"),
-    ("stopped-host-not-restored", "the host is not as before after 21 and 22"),
-    ("stopped-clkcr-not-restored", "CLKCR is not as before after 21 and 22"),
+    ("full-host-not-restored", "the host is not as before after 22"),
+    ("full-clkcr-not-restored", "CLKCR is not as before after 22"),
+    ("ended-as-timeout", "a script's end gives 1"),
+    ("ended-host-as-before", "a script's end leaves the host as before"),
+    ("ended-closes-nothing", "no closing row is written at a script's end"),
+    ("closing-full-as-ended", "a closing row without room gives 21"),
+    (
+        "closing-full-drops-record",
+        "a closing row without room drops the record",
+    ),
+    ("closing-full-if-filled", "closing rows that just fill the list give 22"),
 ];
 
 pub fn sites() -> Vec<&'static Site> {

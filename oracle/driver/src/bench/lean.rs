@@ -1,5 +1,6 @@
 //! The bench with nothing on it, for measuring: a script where it lies, a row list that is there already. Nobody watches, and
-//! no card plays along. A word that is not there and a row without room stop the call, as on the full bench.
+//! no card plays along. Only accepted calls are measured: a word that is not there and a row without room end the run, and
+//! nothing here knows of closing.
 
 use std::cell::Cell;
 

@@ -1,10 +1,10 @@
 use denote.Ref.{now}
-use Prim.Native.Nat.{_+_, _-_, _/_}
 use mathlib.Core.Path.{ap, sym, _∙_}
 use mathlib.Core.List.{[]}
-use lib.ListN.{length}
 use borrow.Author.Needs.{needs}
 use Rattle.host.specs.Calls.{calledOf}
+use Rattle.underway.specs.Under.{under}
+use Rattle.feed.specs.Runs.{nextSpan}
 use Rattle.feed.specs.Turns.{wayOf, fedFrom, placeFrom}
 use Rattle.feed.specs.declared.feed.Fed.{Fed}
 use Rattle.feed.specs.declared.turn.Feeding.{Feeding}
@@ -16,7 +16,7 @@ abbrev Inv-loop : tie.InvT-loop
 Inv-loop script rows₀ feeding₀ rows feeding = F.On script (wayOf [] feeding₀) rows₀ feeding rows
 
 abbrev μ-loop : tie.MeasureT-loop
-μ-loop script rows₀ feeding₀ rows feeding = (length script - feeding .used) + (length rows₀ / 2 - feeding .rows)
+μ-loop script rows₀ feeding₀ rows feeding = nextSpan script (under [] (feeding .call) .ahead) (feeding .used)
 
 loop-holds : tie.Need-loop-holds Inv-loop μ-loop
 loop-holds c = F.begun _ _ _

@@ -9,7 +9,7 @@ returns c = rw (c .enum-told .given .1)
 
 returns-2 : tie.Need-returns-2
 unfolding forgiven
-returns-2 c = rw (c .before .enum-told2 .given .1) (c .timed-out .ensures)
+returns-2 c = rw (c .before .enum-told2 .given .1) (c .excused .ensures)
 
 returns-3 : tie.Need-returns-3
 unfolding forgiven

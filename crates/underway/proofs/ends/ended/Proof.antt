@@ -16,11 +16,11 @@ returns-2 c = λ g. rw (c .before .before .before .enum-told2 .given .1) (c .clo
 
 returns-3 : tie.Need-returns-3
 unfolding endPlan accepting finding keeping dropping next
-returns-3 c = λ g. rw (c .before .before .before .end .given .1) (c .closes3 .ensures ∙ rw (c .before .with2 .ensures) refl)
+returns-3 c = λ g. rw (c .before .before .before .before .end .given .1) (c .closes3 .ensures ∙ rw (c .before .with2 .ensures, c .before .before .answer-for .ensures) refl)
 
 returns-4 : tie.Need-returns-4
 unfolding endPlan accepting finding keeping dropping next
-returns-4 c = λ g. rw (c .before .before .before .before .end2 .given .1) (c .closes4 .ensures ∙ rw (c .before .with3 .ensures, c .before .before .no-card .ensures) refl)
+returns-4 c = λ g. rw (c .before .before .before .before .before .end2 .given .1) (c .closes4 .ensures ∙ rw (c .before .with3 .ensures, c .before .before .no-card .ensures, c .before .before .before .answer-for2 .ensures) refl)
 
 pub ended-spec : {M : Type 1} → statement M
 ended-spec =
@@ -36,7 +36,9 @@ ended-spec =
     (λ c. search needs)
     (λ c κs. search needs)
     (λ c κs. search needs)
+    (λ c κs. search needs)
     (λ c. search needs)
+    (λ c κs. search needs)
     (λ c κs. search needs)
     (λ c κs. search needs)
     (λ c κs. search needs)

@@ -1,14 +1,6 @@
-use Rattle.step.specs.Transfer.{dataPlan}
-use Rattle.step.proofs.Phases as P
+use borrow.Author.Needs.{needs}
 use Rattle.step.proofs.ready.Bus.refuses.Statement.{statement}
 use Rattle.step.proofs.ready.Bus.refuses.Tie as tie
 
-returns : tie.Need-returns
-unfolding dataPlan
-returns c = λ ws h. P.refusing _ _ h ws _
-
 pub refuses-spec : {M : Type 1} → statement M
-refuses-spec =
-    tie.close
-    (tie.spec
-    returns)
+refuses-spec = tie.close (tie.spec (λ c κs. search needs) (λ c. c .drops .ensures))

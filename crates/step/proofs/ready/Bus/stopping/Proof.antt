@@ -15,7 +15,7 @@ returns-2 c = λ ws h gate. rw (c .before .before .before .before .before .befor
 
 returns-3 : tie.Need-returns-3
 unfolding dataNext
-returns-3 c = λ ws h gate. rw (c .before .before .before .before .before .step2 .given .1, c .before .before .ended .given .1) (c .refuses .ensures ws h ∙ P.stopping-badly _ _ h ws _)
+returns-3 c = λ ws h gate. rw (c .before .before .before .before .before .step2 .given .1, c .before .before .ended .given .1) (c .drops .ensures ws h ∙ P.stopping-badly _ _ h ws _)
 
 pub stopping-spec : {M : Type 1} → statement M
 stopping-spec =

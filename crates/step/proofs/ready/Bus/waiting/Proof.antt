@@ -15,7 +15,7 @@ returns-2 c = λ ws h. rw (c .enum-told .given .1) (P.waiting-done _ _ h ws)
 
 returns-3 : tie.Need-returns-3
 unfolding dataNext
-returns-3 c = λ ws h. rw (c .before .before .step2 .given .1) (c .refuses .ensures ws h ∙ P.waiting-failed _ _ h ws _)
+returns-3 c = λ ws h. rw (c .before .before .step2 .given .1) (c .drops .ensures ws h ∙ P.waiting-failed _ _ h ws _)
 
 pub waiting-spec : {M : Type 1} → statement M
 waiting-spec =

@@ -8,7 +8,7 @@ returns : tie.Need-returns
 returns c = λ g. c .ended .ensures g ∙ En.closed-over (c .before .before .before .before .before .before .before .before .before .args .self) g _ (sym (c .before .before .before .before .end-of .ensures) ∙ c .before .before .end .given .1)
 
 returns-2 : tie.Need-returns-2
-returns-2 c = λ g. c .closes .ensures ∙ En.closed-under (c .before .before .before .before .before .before .before .before .args .self) g (sym (c .before .before .before .end-of .ensures) ∙ c .before .enum-told .given .1)
+returns-2 c = λ g. En.closed-under (c .before .before .before .before .before .before .before .args .self) g (sym (c .before .before .end-of .ensures) ∙ c .enum-told .given .1)
 
 pub closed-spec : {M : Type 1} → statement M
 closed-spec =
@@ -18,6 +18,5 @@ closed-spec =
     (λ c. search needs)
     (λ c κs. search needs)
     (λ c. search needs)
-    (λ c κs. search needs)
     returns
     returns-2)
