@@ -16,8 +16,8 @@ use Rattle.step.specs.Transfer.{transferOf, placeOf, afterOf, allOf, wordsBy, s
 use Rattle.step.specs.declared.ready.Bus.{Bus}
 use Rattle.step.specs.declared.transfer.Data.{Data}
 use Rattle.step.specs.declared.transfer.Data.the-variants as D
-use Rattle.step.specs.declared.transfer.Phase.{Phase}
-use Rattle.step.specs.declared.transfer.Phase.the-variants as P
+use Rattle.step.specs.declared.phase.Phase.{Phase}
+use Rattle.step.specs.declared.phase.Phase.the-variants as P
 use Rattle.step.specs.declared.transfer.Reads.{Reads}
 use Rattle.step.specs.declared.transfer.Reads.the-variants as R
 use Rattle.step.specs.declared.transfer.Writes.{Writes}

@@ -48,7 +48,7 @@ use Rattle.step.specs.declared.command.Words.{Words}
 use Rattle.step.specs.declared.ready.Bus.{Bus}
 use Rattle.step.specs.declared.ready.Ready.{Ready}
 use Rattle.step.specs.declared.ready.ReadyStep.the-variants as RS
-use Rattle.step.specs.declared.transfer.Phase.{Phase}
+use Rattle.step.specs.declared.phase.Phase.{Phase}
 use Rattle.step.specs.declared.transfer.Reads.{Reads}
 use Rattle.step.specs.declared.transfer.Reads.the-variants as R
 use Rattle.step.specs.declared.transfer.Writes.{Writes}

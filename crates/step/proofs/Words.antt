@@ -11,8 +11,8 @@ use Rattle.tape.specs.declared.script.Reading.the-variants as Reading
 use Rattle.tape.specs.Plan.{Plan, give, refuse, read, write, look, hold, handle}
 use Rattle.step.specs.Next.{Handed, handed}
 use Rattle.step.specs.Transfer.{blocksOf, transferOf, placeOf, putAt}
-use Rattle.step.specs.declared.transfer.Phase.{Phase}
-use Rattle.step.specs.declared.transfer.Phase.the-variants as P
+use Rattle.step.specs.declared.phase.Phase.{Phase}
+use Rattle.step.specs.declared.phase.Phase.the-variants as P
 
 -- words in front of words
 pub appends : (ws : List ℕ) (w : ℕ) (p : Plan (List ℕ))

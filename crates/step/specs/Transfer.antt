@@ -33,8 +33,8 @@ use Rattle.step.specs.Rows.{rowOf, rowsFrom}
 use Rattle.step.specs.Reset.{resetRow, restLeft, rowsLeft}
 use Rattle.step.specs.Arm.{armRow, armRest, armLeft, stopRow, stopRest, stopLeft}
 use Rattle.step.specs.declared.ready.Bus.{Bus}
-use Rattle.step.specs.declared.transfer.Phase.{Phase}
-use Rattle.step.specs.declared.transfer.Phase.the-variants as P
+use Rattle.step.specs.declared.phase.Phase.{Phase}
+use Rattle.step.specs.declared.phase.Phase.the-variants as P
 use Rattle.step.specs.declared.transfer.Reads.{Reads}
 use Rattle.step.specs.declared.transfer.Reads.the-variants as R
 use Rattle.step.specs.declared.transfer.Writes.{Writes}

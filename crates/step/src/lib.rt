@@ -6,4 +6,5 @@ pub mod reset; // reset.rt: the rows that reset the controller
 pub mod arm; // arm.rt: the rows that ready the data path, and those that stop it
 pub mod command; // command.rt: a command
 pub mod ready; // ready.rt: the wait until the card is ready
+pub mod phase; // phase.rt: what a data phase is for
 pub mod transfer; // transfer.rt: a data phase

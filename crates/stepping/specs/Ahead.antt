@@ -18,8 +18,8 @@ use Rattle.host.specs.declared.host.Sdmmc.{Sdmmc}
 use Rattle.step.specs.declared.ready.Bus.{Bus}
 use Rattle.step.specs.declared.reset.ResetStep.{ResetStep}
 use Rattle.step.specs.declared.reset.ResetStep.the-variants as ReS
-use Rattle.step.specs.declared.transfer.Phase.{Phase}
-use Rattle.step.specs.declared.transfer.Phase.the-variants as P
+use Rattle.step.specs.declared.phase.Phase.{Phase}
+use Rattle.step.specs.declared.phase.Phase.the-variants as P
 use Rattle.step.specs.Command.{commandPlan, listOf}
 use Rattle.step.specs.Context.{Context, whole, inside, plug, andThen}
 use Rattle.step.specs.Next.{Next, next}
@@ -89,18 +89,18 @@ excused (Y.Failed e) = timedOut e
 excused Y.NoWord = false
 
 unfoldable pub forgiven : Sent → Why → Bool
-forgiven S.Cmd0 e = false
-forgiven S.Cmd8 e = excused e
-forgiven (S.Power55 n) e = false
-forgiven (S.Power41 n) e = false
-forgiven S.Cmd2 e = false
-forgiven S.Cmd3 e = false
-forgiven S.Cmd9 e = false
-forgiven S.Cmd7 e = false
-forgiven S.Cmd16 e = false
-forgiven S.Scr55 e = false
-forgiven S.Width55 e = false
-forgiven S.Width6 e = false
+forgiven S.Cmd0 why = false
+forgiven S.Cmd8 why = excused why
+forgiven (S.Power55 n) why = false
+forgiven (S.Power41 n) why = false
+forgiven S.Cmd2 why = false
+forgiven S.Cmd3 why = false
+forgiven S.Cmd9 why = false
+forgiven S.Cmd7 why = false
+forgiven S.Cmd16 why = false
+forgiven S.Scr55 why = false
+forgiven S.Width55 why = false
+forgiven S.Width6 why = false
 
 -- a data phase, by the call and where it stands in it
 unfoldable pub phaseOf : Asked → Gets → Phase
@@ -120,7 +120,7 @@ lineSet k R.Open h = h
 lineSet k (R.Delay v) h = h
 lineSet k (R.Retry n) h = h
 lineSet k (R.Settle v) h = h
-lineSet k (R.Close r e) h = h
+lineSet k (R.Close r why) h = h
 
 -- after a row of the first reset, and of the guard's
 unfoldable pub resetOn : ResetStep → Follow
@@ -128,8 +128,8 @@ resetOn (ReS.At r) = F.Tells (R.Reset r)
 resetOn ReS.Done = F.Idles C.Initial
 
 unfoldable pub closeOn : ResetStep → Why → Follow
-closeOn (ReS.At r) e = F.Tells (R.Close r e)
-closeOn ReS.Done e = F.Over (Z.Dropping e)
+closeOn (ReS.At r) why = F.Tells (R.Close r why)
+closeOn ReS.Done why = F.Over (Z.Dropping why)
 
 module _ (j : Job) where
   abbrev initial : Clock
@@ -156,7 +156,7 @@ module _ (j : Job) where
 
   -- a refusal of an initialisation
   unfoldable pub refusal : Why → Plan Closing
-  refusal e = plug (Sites.guarded (j .host) initial frequency) (refuse (causeOf e))
+  refusal why = plug (Sites.guarded (j .host) initial frequency) (refuse (causeOf why))
 
   -- so many attempts to power up a card of this version
   unfoldable pub powering : Bool → ℕ → Plan Closing
@@ -232,7 +232,7 @@ module _ (j : Job) where
     writesPlan (R.Delay v) = plug (Sites.poweredOn (j .host) initial frequency) (row DELAY v)
     writesPlan (R.Retry n) = plug (Sites.retried (j .host) initial frequency (k .version2) n) (retryDelay (sourceOf (j .host .settings)))
     writesPlan (R.Settle v) = plug (Sites.switchDelay (j .host) initial frequency (cardBy k) (k .scr)) (row DELAY v)
-    writesPlan (R.Close r e) = plug (Sites.refused (j .host) initial frequency e) (rowsFrom (rowsLeft r))
+    writesPlan (R.Close r why) = plug (Sites.refused (j .host) initial frequency why) (rowsFrom (rowsLeft r))
 
     -- its row, and what is ahead once it is written
     unfoldable pub rowAt : Line → Writes → Row
@@ -243,7 +243,7 @@ module _ (j : Job) where
     rowAt h (R.Delay v) = rowOf DELAY v
     rowAt h (R.Retry n) = rowOf DELAY (roundedUp (sourceOf (j .host .settings)) 1000)
     rowAt h (R.Settle v) = rowOf DELAY v
-    rowAt h (R.Close r e) = resetRow r
+    rowAt h (R.Close r why) = resetRow r
 
     unfoldable pub toldPlan : Writes → Plan Closing
     toldPlan (R.Reset r) = plug (Sites.resetting (j .host) initial frequency) (rowsFrom (restLeft r))
@@ -253,13 +253,13 @@ module _ (j : Job) where
     toldPlan (R.Delay v) = plug (Sites.poweredOn (j .host) initial frequency) (give tt)
     toldPlan (R.Retry n) = powering (k .version2) n
     toldPlan (R.Settle v) = plug (Sites.switchDelay (j .host) initial frequency (cardBy k) (k .scr)) (give tt)
-    toldPlan (R.Close r e) = plug (Sites.refused (j .host) initial frequency e) (rowsFrom (restLeft r))
+    toldPlan (R.Close r why) = plug (Sites.refused (j .host) initial frequency why) (rowsFrom (restLeft r))
 
     unfoldable pub endPlan : List ℕ → End → Plan Closing
     endPlan ws Z.Accepted = accepting (j .host) (hostBy (j .asked) (j .host)) (allOf (phaseBy (j .asked)) ws)
     endPlan ws Z.Found = finding (j .host) (withScr (cardBy k) (k .scr .0))
-    endPlan ws (Z.Keeping e) = keeping (j .host) (causeOf e)
-    endPlan ws (Z.Dropping e) = dropping (j .host) (causeOf e)
+    endPlan ws (Z.Keeping why) = keeping (j .host) (causeOf why)
+    endPlan ws (Z.Dropping why) = dropping (j .host) (causeOf why)
 
     -- what follows a step
     unfoldable pub followPlan : List ℕ → Follow → Plan Closing
@@ -268,7 +268,7 @@ module _ (j : Job) where
     followPlan ws (F.Gets gets) = plug (getsSite gets) (phasePlan (busWith (rcaOf gets)) (phaseAt gets))
     followPlan ws (F.Idles c) = idling c limitAt
     followPlan ws (F.Tells t) = writesPlan t
-    followPlan ws (F.Refuses e) = refusal e
+    followPlan ws (F.Refuses why) = refusal why
     followPlan ws (F.Over e) = endPlan ws e
 
     unfoldable pub atPlan : List ℕ → List ℕ → At → Plan Closing

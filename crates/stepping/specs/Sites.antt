@@ -48,7 +48,7 @@ module _ (host : Sdmmc) (initial : Clock) (frequency : ℕ) where
 
   -- where a refusal's reset rows lead
   abbrev pub refused : Why → Context Closing Nothing
-  refused e = andThen (λ _. refuse (causeOf e)) found
+  refused why = andThen (λ _. refuse (causeOf why)) found
 
   -- its four stages: what follows `beginInit`, `waitPowerUp`, `identify`
   abbrev pub begun : Context Closing Bool

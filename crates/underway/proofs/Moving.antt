@@ -19,7 +19,7 @@ use Rattle.step.specs.declared.ready.ReadyStep.{ReadyStep}
 use Rattle.step.specs.declared.transfer.Data.{Data}
 use Rattle.step.specs.declared.transfer.Data.the-variants as D
 use Rattle.step.specs.declared.transfer.DataStep.{DataStep}
-use Rattle.step.specs.declared.transfer.Phase.{Phase}
+use Rattle.step.specs.declared.phase.Phase.{Phase}
 use Rattle.step.specs.declared.transfer.Reads.{Reads}
 use Rattle.step.specs.declared.transfer.Reads.the-variants as Re
 use Rattle.step.specs.declared.wants.Wants.{Wants}

@@ -23,6 +23,7 @@ use Rattle.step.specs.Reset.{restLeft, stepLeft}
 use Rattle.step.specs.Transfer.{dataNext, dataPlan, HandedAt}
 use Rattle.step.proofs.arm
 use Rattle.step.proofs.command
+use Rattle.step.proofs.phase
 use Rattle.step.proofs.ready
 use Rattle.step.proofs.reset
 use Rattle.step.proofs.transfer
@@ -50,8 +51,17 @@ command-command-wants = determined _ λ _ _ _ p. p
 ready-ready-wants : Unique ready.Ready.wants.Kinds.ps ready.Ready.wants.Kinds.r ready.Ready.wants.Reads.Learnt
 ready-ready-wants = determined _ λ _ _ _ p. p
 
-transfer-phase-transfer : Unique transfer.Phase.transfer.Kinds.ps transfer.Phase.transfer.Kinds.r transfer.Phase.transfer.Reads.Learnt
-transfer-phase-transfer = determined _ λ _ _ _ p. p
+phase-phase-transfer : Unique phase.Phase.transfer.Kinds.ps phase.Phase.transfer.Kinds.r phase.Phase.transfer.Reads.Learnt
+phase-phase-transfer = determined _ λ _ _ _ p. p
+
+phase-phase-top : Unique phase.Phase.top.Kinds.ps phase.Phase.top.Kinds.r phase.Phase.top.Reads.Learnt
+phase-phase-top = determined _ λ _ _ _ p. p
+
+phase-phase-place : Unique phase.Phase.place.Kinds.ps phase.Phase.place.Kinds.r phase.Phase.place.Reads.Learnt
+phase-phase-place = determined _ λ _ _ _ p. p
+
+phase-phase-kept : Unique phase.Phase.kept.Kinds.ps phase.Phase.kept.Kinds.r phase.Phase.kept.Reads.Learnt
+phase-phase-kept = determined _ λ _ _ _ p. p .0
 
 transfer-data-wants : Unique transfer.Data.wants.Kinds.ps transfer.Data.wants.Kinds.r transfer.Data.wants.Reads.Learnt
 transfer-data-wants = determined _ λ _ _ _ p. p []

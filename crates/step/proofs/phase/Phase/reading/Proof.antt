@@ -1,7 +1,7 @@
 use Rattle.step.specs.Transfer.{readingAt}
 use borrow.Author.Needs.{needs}
-use Rattle.step.proofs.transfer.Phase.reading.Statement.{statement}
-use Rattle.step.proofs.transfer.Phase.reading.Tie as tie
+use Rattle.step.proofs.phase.Phase.reading.Statement.{statement}
+use Rattle.step.proofs.phase.Phase.reading.Tie as tie
 
 returns : tie.Need-returns
 unfolding readingAt

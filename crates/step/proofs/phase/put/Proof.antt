@@ -1,8 +1,8 @@
 use borrow.Author.Tests.{lt-ltb, le-ltb}
 use Rattle.step.specs.Transfer.{putAt}
 use borrow.Author.Needs.{needs}
-use Rattle.step.proofs.transfer.put.Statement.{statement}
-use Rattle.step.proofs.transfer.put.Tie as tie
+use Rattle.step.proofs.phase.put.Statement.{statement}
+use Rattle.step.proofs.phase.put.Tie as tie
 
 returns : tie.Need-returns
 unfolding putAt

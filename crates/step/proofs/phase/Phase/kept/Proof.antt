@@ -3,8 +3,8 @@ use Rattle.step.specs.Next.{Handed}
 use Rattle.step.specs.Transfer.{transferOf, wordsBy, keptBy}
 use Rattle.step.proofs.Words.{put-more}
 use borrow.Author.Needs.{needs}
-use Rattle.step.proofs.transfer.Phase.kept.Statement.{statement}
-use Rattle.step.proofs.transfer.Phase.kept.Tie as tie
+use Rattle.step.proofs.phase.Phase.kept.Statement.{statement}
+use Rattle.step.proofs.phase.Phase.kept.Tie as tie
 
 returns : tie.Need-returns
 unfolding keptBy wordsBy transferOf

@@ -1,7 +1,7 @@
 use Rattle.step.specs.Transfer.{transferOf}
 use borrow.Author.Needs.{needs}
-use Rattle.step.proofs.transfer.Phase.transfer.Statement.{statement}
-use Rattle.step.proofs.transfer.Phase.transfer.Tie as tie
+use Rattle.step.proofs.phase.Phase.transfer.Statement.{statement}
+use Rattle.step.proofs.phase.Phase.transfer.Tie as tie
 
 returns : tie.Need-returns
 unfolding transferOf

@@ -1,8 +1,8 @@
 use mathlib.Core.Path.{refl}
 use native.Mathlib.Omega.{arith}
 use borrow.Author.Needs.{needs}
-use Rattle.step.proofs.transfer.Phase.top.Statement.{statement}
-use Rattle.step.proofs.transfer.Phase.top.Tie as tie
+use Rattle.step.proofs.phase.Phase.top.Statement.{statement}
+use Rattle.step.proofs.phase.Phase.top.Tie as tie
 
 returns : tie.Need-returns
 returns c = rw (← c .before .transfer .ensures) (omega (arith, c .if1 .taken))

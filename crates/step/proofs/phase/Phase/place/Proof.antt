@@ -1,8 +1,8 @@
 use mathlib.Core.Path.{refl}
 use native.Mathlib.Omega.{arith}
 use borrow.Author.Needs.{needs}
-use Rattle.step.proofs.transfer.Phase.place.Statement.{statement}
-use Rattle.step.proofs.transfer.Phase.place.Tie as tie
+use Rattle.step.proofs.phase.Phase.place.Statement.{statement}
+use Rattle.step.proofs.phase.Phase.place.Tie as tie
 
 returns : tie.Need-returns
 returns c = rw (← c .before .top .ensures) refl

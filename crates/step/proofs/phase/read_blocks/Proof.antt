@@ -2,8 +2,8 @@ use native.Mathlib.Omega.{arith}
 use borrow.Author.Tests.{ne-eqb}
 use Rattle.step.specs.Transfer.{blocksOf, transferOf}
 use borrow.Author.Needs.{needs}
-use Rattle.step.proofs.transfer.read_blocks.Statement.{statement}
-use Rattle.step.proofs.transfer.read_blocks.Tie as tie
+use Rattle.step.proofs.phase.read_blocks.Statement.{statement}
+use Rattle.step.proofs.phase.read_blocks.Tie as tie
 
 mul-t6 : tie.Need-mul-t6
 unfolding blocksOf
