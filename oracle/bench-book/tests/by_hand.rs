@@ -2,7 +2,7 @@
 
 use oracle_bench_book::{book, trace, MOST_ROOM};
 use oracle_driver::right::Host;
-use oracle_driver::script::{data, initialisation, short};
+use oracle_driver::script::{data, initialisation, short, RESET};
 
 /// A card of 2,048 blocks.
 fn good_card() -> Vec<u32> {
@@ -28,18 +28,6 @@ fn rows(rows: &[(u32, u32)]) -> String {
 }
 
 const RCA: u32 = 0x1234_0000;
-const RESET: [(u32, u32); 10] = [
-    (9, 0),
-    (10, 0),
-    (7, 0),
-    (4, 0),
-    (1, 0),
-    (2, 0),
-    (3, 0),
-    (5, 0),
-    (6, 0),
-    (8, 0x00c0_07ff),
-];
 const STOP: [(u32, u32); 3] = [(9, 0), (7, 0), (8, 0x73a)];
 
 /// ICR, ARG and CMD; wait kind 1.
@@ -57,8 +45,14 @@ fn record(status: &str) -> String {
     format!("SDHC,c0300000,1234,{cid},{csd},0005000000000000,{status},2048")
 }
 
-fn no_status() -> String {
-    vec!["00000000"; 16].join(":")
+/// The record of a card whose status was not read yet.
+fn known() -> String {
+    record(&vec!["00000000"; 16].join(":"))
+}
+
+/// The state line after the initialisation, and after the calls behind it.
+fn after(record: &str) -> String {
+    format!("state clock=4000000 signalling=SDR12 gated=1 clkcr=0 record={record}\n")
 }
 
 #[test]
@@ -90,10 +84,7 @@ fn a_good_card_is_initialised() {
     .concat();
     let head = "host answer 0\nstate clock=400000 signalling=SDR12 gated=0 clkcr=0 record=none\n";
     let line = format!("1 answer 0 words 100 rows {}\n", expected.len());
-    let state = format!(
-        "state clock=4000000 signalling=SDR12 gated=1 clkcr=0 record={}\n",
-        record(&no_status())
-    );
+    let state = after(&known());
     assert_eq!(text, format!("{head}{line}{}{state}", rows(&expected)));
 }
 
@@ -129,10 +120,7 @@ fn a_block_is_read() {
         .map(|byte| format!("{byte:02x}"))
         .collect();
     let line = format!("2 answer 0 words {} rows {}\n", script.len(), expected.len());
-    let state = format!(
-        "state clock=4000000 signalling=SDR12 gated=1 clkcr=0 record={}\n",
-        record(&no_status())
-    );
+    let state = after(&known());
     let text = format!("{line}{}{state}block {bytes}\n", rows(&expected));
     assert_eq!(second((2, 5, 1, script)), text);
 }
@@ -157,10 +145,7 @@ fn the_status_is_read_and_kept() {
 fn a_locked_card_in_the_first_ready_wait_keeps_the_record() {
     let text = second((2, 0, 1, short(13, 0x0200_0900)));
     let expected = rows(&gated(command(13, RCA)));
-    let state = format!(
-        "state clock=4000000 signalling=SDR12 gated=1 clkcr=0 record={}\n",
-        record(&no_status())
-    );
+    let state = after(&known());
     assert_eq!(text, format!("2 answer 11 words 7 rows 5\n{expected}{state}"));
 }
 
@@ -168,10 +153,7 @@ fn a_locked_card_in_the_first_ready_wait_keeps_the_record() {
 fn an_error_in_the_data_command_carries_its_word_and_drops_the_record() {
     let script = [short(13, 0x900), vec![0], short(17, 0x8000_0900)].concat();
     let text = second((2, 0, 1, script));
-    let end = format!(
-        "{}carried 80000900\nstate clock=4000000 signalling=SDR12 gated=1 clkcr=0 record=none\n",
-        rows(&RESET)
-    );
+    let end = format!("{}carried 80000900\n{}", rows(&RESET), after("none"));
     assert!(text.starts_with("2 answer 10 words 15 rows 26\n"));
     assert!(text.ends_with(&end));
 }
@@ -187,10 +169,7 @@ fn dcount_is_not_read_while_words_remain() {
 fn a_card_pulled_out_before_the_data_closes_the_clock_and_keeps_the_record() {
     let text = second((2, 0, 1, vec![0, 0x40]));
     let expected = rows(&gated(command(13, RCA)));
-    let state = format!(
-        "state clock=4000000 signalling=SDR12 gated=1 clkcr=0 record={}\n",
-        record(&no_status())
-    );
+    let state = after(&known());
     assert_eq!(text, format!("2 answer 21 words 2 rows 5\n{expected}{state}"));
 }
 
@@ -207,7 +186,7 @@ fn a_card_pulled_out_among_the_data_is_gone() {
         RESET.to_vec(),
     ]
     .concat();
-    let state = "state clock=4000000 signalling=SDR12 gated=1 clkcr=0 record=none\n";
+    let state = after("none");
     assert_eq!(
         text,
         format!("2 answer 21 words 23 rows 26\n{}{state}", rows(&expected))
@@ -231,10 +210,7 @@ fn little_room_for_what_closes_leaves_the_host_as_before() {
     words.extend([1, 25_000_000, 0, good_card().len() as u32]);
     words.extend([2, 0, 1, script.len() as u32]);
     words.extend([good_card(), script].concat());
-    let state = format!(
-        "state clock=4000000 signalling=SDR12 gated=1 clkcr=0 record={}\n",
-        record(&no_status())
-    );
+    let state = after(&known());
     let last = rows(&command(13, RCA));
     for (room, line, end) in [
         (

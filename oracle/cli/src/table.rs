@@ -5,6 +5,7 @@ use std::fmt::Debug;
 use std::io::{self, Write};
 
 use oracle_bench_book::Fault;
+use oracle_model::arms::Arm;
 use oracle_model::coverage::Coverage;
 use oracle_model::expected::{self, Site};
 use oracle_model::generate;
@@ -183,13 +184,14 @@ impl Table {
         }
     }
 
-    fn row(&mut self, coverage: &Coverage, site: &Site, causes: &[&'static str], can: impl Fn(&str) -> bool) {
+    /// A command's cells, but for those that cannot be.
+    fn row(&mut self, counts: &BTreeMap<Arm, u64>, site: &Site, names: &[&'static str], can: &[&str]) -> String {
         let mut text = format!("{:20}", site.name);
-        for cause in causes {
-            let cell = self.cell_if(can(cause), &coverage.arms, (site.name, *cause));
+        for name in names {
+            let cell = self.cell_if(can.contains(name), counts, (site.name, *name));
             text.push_str(&format!("{cell:>9}"));
         }
-        self.line(&text);
+        text
     }
 
     fn commands(&mut self, coverage: &Coverage) {
@@ -200,25 +202,29 @@ impl Table {
             .collect();
         self.line(&format!("{:20}{names}", ""));
         for site in expected::SITES.iter().filter(|site| !site.command.is_empty()) {
-            self.row(coverage, site, &expected::COMMAND, |cause| {
-                site.command.contains(&cause)
-            });
+            let row = self.row(&coverage.arms, site, &expected::COMMAND, site.command);
+            self.line(&row);
+        }
+    }
+
+    /// A line for each of these, with a cell for each data phase, but for those that cannot be.
+    fn by_phase(&mut self, counts: &BTreeMap<Arm, u64>, lines: &[&'static str], can: impl Fn(&Site, &str) -> bool) {
+        let phases: Vec<_> = expected::SITES.iter().filter(|site| site.data).collect();
+        let names: String = phases.iter().map(|site| format!("{:>12}", site.name)).collect();
+        self.line(&format!("{:14}{names}", ""));
+        for line in lines {
+            let mut text = format!("{line:14}");
+            for site in &phases {
+                let cell = self.cell_if(can(site, line), counts, (site.name, *line));
+                text.push_str(&format!("{cell:>12}"));
+            }
+            self.line(&text);
         }
     }
 
     fn data_phases(&mut self, coverage: &Coverage) {
         self.line("\nrefused in a data phase (1 and 2: first and second place of a poll)");
-        let phases: Vec<_> = expected::SITES.iter().filter(|site| site.data).collect();
-        let names: String = phases.iter().map(|site| format!("{:>12}", site.name)).collect();
-        self.line(&format!("{:14}{names}", ""));
-        for cause in expected::DATA {
-            let mut text = format!("{cause:14}");
-            for site in &phases {
-                let count = self.cell(&coverage.arms, (site.name, cause));
-                text.push_str(&format!("{count:12}"));
-            }
-            self.line(&text);
-        }
+        self.by_phase(&coverage.arms, &expected::DATA, |_, _| true);
     }
 
     fn own_causes(&mut self, coverage: &Coverage) {
@@ -237,26 +243,11 @@ impl Table {
         let names: String = expected::COMMAND_ENDS.iter().map(|step| format!("{step:>9}")).collect();
         self.line(&format!("{:20}{names}", ""));
         for site in expected::SITES.iter().filter(|site| !site.ends.is_empty()) {
-            let mut text = format!("{:20}", site.name);
-            for step in expected::COMMAND_ENDS {
-                let cell = self.cell_if(site.ends.contains(&step), &coverage.ended, (site.name, step));
-                text.push_str(&format!("{cell:>9}"));
-            }
-            self.line(&format!("{text}  {}", expected::closed_by(site.name)));
+            let row = self.row(&coverage.ended, site, &expected::COMMAND_ENDS, site.ends);
+            self.line(&format!("{row}  {}", expected::closed_by(site.name)));
         }
         self.line("\nscript ended (21) in a data phase, by the reading that found no word");
-        let phases: Vec<_> = expected::SITES.iter().filter(|site| site.data).collect();
-        let names: String = phases.iter().map(|site| format!("{:>12}", site.name)).collect();
-        self.line(&format!("{:14}{names}", ""));
-        for step in expected::DATA_ENDS {
-            let mut text = format!("{step:14}");
-            for site in &phases {
-                let can = expected::data_ends(site, step);
-                let cell = self.cell_if(can, &coverage.ended, (site.name, step));
-                text.push_str(&format!("{cell:>12}"));
-            }
-            self.line(&text);
-        }
+        self.by_phase(&coverage.ended, &expected::DATA_ENDS, expected::data_ends);
     }
 
     fn full(&mut self, coverage: &Coverage) {

@@ -1,4 +1,19 @@
-//! Scripts of a good card, written out: every wait but those that are asked for ends at its first reading.
+//! Scripts of a good card, written out: every wait but those that are asked for ends at its first reading. And the rows that
+//! more than one place looks for.
+
+/// The rows that reset the controller, in their order.
+pub const RESET: [(u32, u32); 10] = [
+    (9, 0),
+    (10, 0),
+    (7, 0),
+    (4, 0),
+    (1, 0),
+    (2, 0),
+    (3, 0),
+    (5, 0),
+    (6, 0),
+    (8, 0x00c0_07ff),
+];
 
 /// A command that is idle and complete at once, with its echo and first word.
 pub fn short(index: u32, word: u32) -> Vec<u32> {

@@ -3,7 +3,7 @@
 
 use oracle_driver::bench::{Event, Reading};
 use oracle_driver::right::Host;
-use oracle_driver::script::{data, initialisation, short, switching};
+use oracle_driver::script::{data, initialisation, short, switching, RESET};
 use oracle_driver::{bench::Feed, Call, Host as _, Outcome, Settings, State};
 
 const SETTINGS: Settings = Settings {
@@ -17,19 +17,6 @@ const SETTINGS: Settings = Settings {
 };
 
 type Row = (u32, u32);
-
-const RESET: [Row; 10] = [
-    (9, 0),
-    (10, 0),
-    (7, 0),
-    (4, 0),
-    (1, 0),
-    (2, 0),
-    (3, 0),
-    (5, 0),
-    (6, 0),
-    (8, 0x00c0_07ff),
-];
 
 /// Four lines; closed, and open.
 const OFF: Row = (2, 2_048);

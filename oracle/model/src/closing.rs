@@ -2,21 +2,8 @@
 //! room. Written from document 01, apart from the driver.
 
 use oracle_driver::bench::Event;
+use oracle_driver::script::RESET;
 use oracle_driver::Outcome;
-
-/// The reset rows, in their order.
-const RESET: [(u32, u32); 10] = [
-    (9, 0),
-    (10, 0),
-    (7, 0),
-    (4, 0),
-    (1, 0),
-    (2, 0),
-    (3, 0),
-    (5, 0),
-    (6, 0),
-    (8, 0x00c0_07ff),
-];
 
 /// What can close: CLKCR off or not, and so many guards.
 #[derive(Debug)]
