@@ -160,6 +160,32 @@ pub pulled-at-once : initialised statusHost 25_000_000 [] (replicate 40 0) ∷ i
 unfolding ensure word timedOut divisorOf clockOf firstMatch dataOf countOf rateOf madeOf bytesOf halvesOf scrOf handle until noted run row holdGated holdClock holdSignalling waitIdle resetController stopData setClken dataFrom configureClock clockDelay formOf issue pollCompletion waitCompletion echo responseWords judge answer complete commandInner command appCommand retryDelay readStatus tryReady waitReady arm startData clean pollTransfer drained settle dataComplete waitData receive closeGate stopTransmission endData transferData blockingData version late cardVersion powerOn beginInit powerUp tryPowerUp waitPowerUp select publish identify blockLength readScr setWidth setClock transferClock takeSwitch askSwitch switchSpeed settleCard initCard initialise ends initFrom initialised transferred approached served readFrom readKnown readCame statusCame unitsOf addressOf counted sdStatusOf clockedHost judgedHost made
 pulled-at-once = refl
 
+-- Among the data words of initialisation's CMD51: the reset rows of the data phase, and initialisation's own; with room for one
+-- row less it is 22, and the host as before.
+pub pulled-inside :
+    initialised (made narrowSettings .host) 39172822 (take 72 narrowScript) (replicate 150 0)
+    ∷ initialised (made narrowSettings .host) 39172822 (take 72 narrowScript) (replicate 148 0)
+    ∷ []
+    ≡ record {
+      answer = ScriptEnded;
+      words = 72;
+      rows = 75;
+      list = take 110 narrowRows ++ resetWords ++ resetWords;
+      taken = [];
+      host = hostOf narrowSettings (record { clkcr = 0; gated = false; clock = record { 0 = 398490 }; signalling = SDR12 }) false noCard;
+    }
+    ∷ record {
+      answer = TraceFull;
+      words = 72;
+      rows = 74;
+      list = take 110 narrowRows ++ resetWords ++ take 18 resetWords;
+      taken = [];
+      host = made narrowSettings .host;
+    }
+    ∷ []
+unfolding ensure word timedOut divisorOf clockOf firstMatch dataOf countOf rateOf madeOf bytesOf halvesOf scrOf handle until noted run row holdGated holdClock holdSignalling waitIdle resetController stopData setClken dataFrom configureClock clockDelay formOf issue pollCompletion waitCompletion echo responseWords judge answer complete commandInner command appCommand retryDelay readStatus tryReady waitReady arm startData clean pollTransfer drained settle dataComplete waitData receive closeGate stopTransmission endData transferData blockingData version late cardVersion powerOn beginInit powerUp tryPowerUp waitPowerUp select publish identify blockLength readScr setWidth setClock transferClock takeSwitch askSwitch switchSpeed settleCard initCard initialise ends initFrom initialised transferred approached served readFrom readKnown readCame statusCame unitsOf addressOf counted sdStatusOf clockedHost judgedHost made
+pulled-inside = refl
+
 -- At a status call's CMD55: the clock off, the record kept. At the last word of its closing ready wait: the clock off, and the
 -- reset rows; no record. With room for nine of these: 22, and the host as before.
 pub pulled : statusCame statusHost [] (replicate 4 0) ∷ statusCame statusHost (take 42 statusScript) (replicate 70 0) ∷ statusCame statusHost (take 42 statusScript) (replicate 68 0) ∷ []
