@@ -37,10 +37,13 @@ class Edit:
         if not self.input:
             self.fault = self.fault or "no line 'input: WHAT: `RIGHT` becomes `WRONG`': an input on which it differs"
 
-    def apply(self, folder):
-        """Applies the edit in a crate's folder: its files as they were, or what keeps it from applying."""
+    def apply(self, folder, code_alone=False):
+        """Applies the edit, or what it changes of the code alone, in a crate's folder: its files as they were, or what keeps it
+        from applying."""
         before = {}
         for path, old, new in self.pairs:
+            if code_alone and not path.startswith("src/"):
+                continue
             file = folder / path
             now = file.read_text()
             before.setdefault(file, now)

@@ -3,11 +3,12 @@ use Prim.Native.Nat.{ℕ}
 use mathlib.Core.List.{List}
 use mathlib.Core.Path.{_≡_}
 use borrow.Author.Tests.{eq-eqb, ne-eqb}
+use Rattle.tape.specs.declared.rows.Row.{Row}
 use Rattle.calls.specs.Serve as S
 use Rattle.book.specs.Layout as L
 use Rattle.bench.specs.Bench.{callWith}
 
-module _ (l : List ℕ) (bytes : ℕ) (c : L.Call) where
+module _ (l : List Row) (bytes : ℕ) (c : L.Call) where
   pub initialises : c .kind ≡ 1 → S.initialise (c .a) (c .script) l ≡ callWith l bytes c
   initialises one = rw (eq-eqb (c .kind) 1 one)
 

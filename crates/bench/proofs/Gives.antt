@@ -7,6 +7,7 @@ use lib.Dec.{eqb}
 use lib.ListN.{length}
 use Rattle.types.specs.declared.error.Answer.{Answer}
 use Rattle.types.specs.declared.error.Answer.the-variants as Answered
+use Rattle.tape.specs.declared.rows.Row.{Row}
 use Rattle.text.specs.Ink.{Laid}
 use Rattle.text.proofs.Ink.{and-then}
 use Rattle.host.specs.declared.host.Called.{Called}
@@ -30,7 +31,7 @@ none Answered.ScriptEnded = refl
 none Answered.TraceFull = refl
 none Answered.BadBook = refl
 
-pub gave : (l : List ℕ) (bytes : ℕ) (c : L.Call) (x : Came) (buffer : List ℕ)
+pub gave : (l : List Row) (bytes : ℕ) (c : L.Call) (x : Came) (buffer : List ℕ)
     → whereAccepted (x .answer) (kindText (c .kind) (x .host) (bytes / 512) buffer) ≡ givenText (callWith l bytes c) x buffer
 unfolding givenText
 gave l bytes c x buffer = by (eqb (c .kind) 1) (eqb (c .kind) 2)
@@ -43,11 +44,11 @@ gave l bytes c x buffer = by (eqb (c .kind) 1) (eqb (c .kind) 2)
     by false false = refl
 
 -- what is printed of a call, put together from what it came to
-module _ (number : ℕ) (host : Sdmmc) (l buffer ws : List ℕ) (asked : Asked) where
+module _ (number : ℕ) (host : Sdmmc) (l : List Row) (buffer ws : List ℕ) (asked : Asked) where
   abbrev call : S.Call
   call = asking l (length buffer) ws asked
 
-  pub traced : {called : Called} {l′ buffer′ out : List ℕ} {at₁ : ℕ} {out₁ : List ℕ} {at₂ : ℕ} {out₂ : List ℕ} {at₃ : ℕ} {out₃ : List ℕ}
+  pub traced : {called : Called} {l′ : List Row} {buffer′ out : List ℕ} {at₁ : ℕ} {out₁ : List ℕ} {at₂ : ℕ} {out₂ : List ℕ} {at₃ : ℕ} {out₃ : List ℕ}
       → called ≡ calledOf (comes host call) → l′ ≡ comes host call .list → buffer′ ≡ bufferAfter call (comes host call) buffer
       → Laid 0 (callLine number (numberOf (called .answer)) (called .words) (called .rows)) out at₁ out₁
       → Laid at₁ (rowsText (called .rows) l′ ++ carriedText (called .answer) ++ stateText (called .host)) out₁ at₂ out₂

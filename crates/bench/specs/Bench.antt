@@ -8,6 +8,8 @@ use lib.ListN.{replicate}
 use Rattle.types.specs.declared.error.Answer.{Answer}
 use Rattle.types.specs.declared.error.Answer.the-variants as Answered
 use Rattle.types.specs.Answer.{answerTold}
+use Rattle.tape.specs.declared.rows.Row.{Row}
+use Rattle.tape.specs.Layout.{rowsIn}
 use Rattle.init.specs.declared.settings.Settings.{Settings}
 use Rattle.host.specs.declared.host.Sdmmc.{Sdmmc}
 use Rattle.host.specs.Calls.{Came, bufferOf, made}
@@ -45,18 +47,18 @@ settingsIn h = settingsWith (h .source) (h .«poll_limit») (h .«ready_attempts
 
 -- kind (1 initialise, 2 read, 3 status), a (frequency, index, 0), b (0, blocks, 0), its script; with a row list, and a buffer
 -- of so many bytes
-abbrev pub callWith : List ℕ → ℕ → L.Call → S.Call
+abbrev pub callWith : List Row → ℕ → L.Call → S.Call
 callWith l bytes c =
     cond (eqb (c .kind) 1) (S.initialise (c .a) (c .script) l)
     (cond (eqb (c .kind) 2) (S.read (c .a) bytes (c .script) l) (S.status (c .script) l))
 
 -- a call of a book's words
-abbrev pub asking : List ℕ → ℕ → List ℕ → Asked → S.Call
+abbrev pub asking : List Row → ℕ → List ℕ → Asked → S.Call
 asking l bytes ws asked = callWith l bytes (callAsked ws asked)
 
 -- so many rows of room a call
 abbrev pub callOf : ℕ → L.Call → S.Call
-callOf room c = callWith (replicate (2 * room) 0) (512 * c .b) c
+callOf room c = callWith (rowsIn (replicate room 0)) (512 * c .b) c
 
 -- the buffer after it: only a read fills it
 unfoldable pub bufferAfter : S.Call → Came → List ℕ → List ℕ

@@ -6,6 +6,7 @@ use Rattle.types.specs.Settings.{madeOf}
 use Rattle.types.specs.Words.{bytesOf}
 use Rattle.text.specs.Digits.{decimalIn, decimalOf}
 use Rattle.text.specs.Typed.{typed}
+use Rattle.tape.specs.Layout.{rowsIn}
 use Rattle.tape.specs.Plan.{handle, until}
 use Rattle.tape.specs.Run.{noted, run}
 use Rattle.tape.specs.Steps.{word, row, holdGated, holdClock, holdSignalling, waitIdle, resetController, setClken}
@@ -20,5 +21,5 @@ use Rattle.bench.specs.Bench.{linesFrom, whereAccepted, bookLines, print
 
 pub worked : printed (bytesOf words)
     ≡ typed "host answer 0\n1 answer 17 words 0 rows 0\n2 answer 16 words 0 rows 0\n3 answer 2 words 1 rows 20\n"
-unfolding errorTold answerTold divisorOf clockOf madeOf bytesOf decimalIn decimalOf handle until noted run word row holdGated holdClock holdSignalling waitIdle resetController setClken configureClock clockDelay issue complete commandInner command powerOn beginInit initCard initialise ends initFrom initialised readCame clockedHost judgedHost made comes serve wordsOf callsOf bookIn badRow badRows scriptWords badWords badBook bookOf linesFrom whereAccepted bookLines
+unfolding rowsIn errorTold answerTold divisorOf clockOf madeOf bytesOf decimalIn decimalOf handle until noted run word row holdGated holdClock holdSignalling waitIdle resetController setClken configureClock clockDelay issue complete commandInner command powerOn beginInit initCard initialise ends initFrom initialised readCame clockedHost judgedHost made comes serve wordsOf callsOf bookIn badRow badRows scriptWords badWords badBook bookOf linesFrom whereAccepted bookLines
 worked = refl

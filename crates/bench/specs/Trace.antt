@@ -5,6 +5,8 @@ use mathlib.Core.List.{List, [], _∷_, _++_}
 use mathlib.Core.Option.{Option, none, some}
 use lib.Dec.{eqb}
 use lib.ListN.{length, replicate}
+use Rattle.tape.specs.declared.rows.Row.{Row}
+use Rattle.tape.specs.Layout.{rowsIn}
 use Rattle.host.specs.declared.host.Made.{Made}
 use Rattle.host.specs.declared.host.Sdmmc.{Sdmmc}
 use Rattle.host.specs.Calls.{Came, made}
@@ -37,7 +39,7 @@ traceText k c x buffer =
     cameLine k x ++ (rowsText (x .rows) (x .list) ++ carriedText (x .answer) ++ stateText (x .host)) ++ givenText c x buffer
 
 -- the same of a call of a book's words, from the row list and the buffer before it
-abbrev pub tracedText : ℕ → Sdmmc → List ℕ → List ℕ → List ℕ → Asked → List ℕ
+abbrev pub tracedText : ℕ → Sdmmc → List Row → List ℕ → List ℕ → Asked → List ℕ
 tracedText k host l buffer ws asked =
     let c = asking l (length buffer) ws asked in
     traceText k c (comes host c) (bufferAfter c (comes host c) buffer)
@@ -68,7 +70,7 @@ abbrev pub placeAfter : List ℕ → ℕ → ℕ → ℕ
 placeAfter ws k place = min (place + askedAt ws k place .«script_len») (length ws)
 
 abbrev pub callAt : List ℕ → ℕ → ℕ → ℕ → S.Call
-callAt ws k place room = callWith (replicate (2 * min room 4096) 0) (bytesAt ws k place) (callAsked ws (askedAt ws k place))
+callAt ws k place room = callWith (rowsIn (replicate (min room 4096) 0)) (bytesAt ws k place) (callAsked ws (askedAt ws k place))
 
 -- WHAT IS PRINTED OF A BOOK, with so many rows of room a call
 unfoldable pub callsText : ℕ → ℕ → Sdmmc → List L.Call → List ℕ

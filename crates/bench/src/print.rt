@@ -29,7 +29,7 @@ fn serve_call(host: Sdmmc, words: &[u32], k: u32, place: usize, out: &mut [u8], 
     ensures passed { λ r. ⌜ r .«script_at» ≡ place + getD (now (words .entry)) (7 + 4 * k + 3) 0 ⌝ }
     ensures printed { λ r. ⌜ Laid at (lineOf host (now (words .entry)) k place) (now (out .entry)) (r .at) (now (out .exit)) ⌝ }
 {
-    let mut rows = [0u32; 8192];
+    let mut rows = [0u64; 4096];
     let mut buffer = [0u8; 8192];
     let asked = layout::call_at(words, k, place);
     let end = asked.script_at + asked.script_len;

@@ -3,6 +3,7 @@ ghost use mathlib.Core.Path.{_≡_};
 ghost use mathlib.Core.List.{_++_};
 ghost use Prim.Native.Nat.{_*_, _≤_};
 ghost use lib.ListN.{length, take, drop};
+ghost use Rattle.tape.specs.Layout.{rowsIn};
 ghost use Rattle.host.specs.Calls.{calledOf, statusCame};
 ghost use Rattle.calls.specs.Serve.{comes};
 ghost use Rattle.bench.specs.Bench.{settingsIn, asking, bufferAfter};
@@ -16,9 +17,9 @@ use types::clock::Hertz;
 use types::config::Config;
 
 // A status call, told as any other: the status that it gives is in the next host's record too, where a book's trace has it.
-fn ask_status(host: Sdmmc, script: &[u32], rows: &mut [u32]) -> Called
-    ensures answered { λ r. ⌜ r ≡ calledOf (statusCame host (now (script .entry)) (now (rows .entry))) ⌝ }
-    ensures listed { λ r. ⌜ now (rows .exit) ≡ statusCame host (now (script .entry)) (now (rows .entry)) .list ⌝ }
+fn ask_status(host: Sdmmc, script: &[u32], rows: &mut [u64]) -> Called
+    ensures answered { λ r. ⌜ r ≡ calledOf (statusCame host (now (script .entry)) (rowsIn (now (rows .entry)))) ⌝ }
+    ensures listed { λ r. ⌜ rowsIn (now (rows .exit)) ≡ statusCame host (now (script .entry)) (rowsIn (now (rows .entry))) .list ⌝ }
 {
     let read = host.blocking_read_sd_status(script, rows);
     let answer = read.answer;
@@ -32,10 +33,10 @@ fn ask_status(host: Sdmmc, script: &[u32], rows: &mut [u32]) -> Called
 }
 
 // One call, with a buffer of its blocks' bytes.
-pub fn ask(host: Sdmmc, words: &[u32], asked: Asked, rows: &mut [u32], buffer: &mut [u8]) -> Called
-    ensures answered { λ r. ⌜ r ≡ calledOf (comes host (asking (now (rows .entry)) (length (now (buffer .entry))) (now (words .entry)) asked)) ⌝ }
-    ensures listed { λ r. ⌜ now (rows .exit) ≡ comes host (asking (now (rows .entry)) (length (now (buffer .entry))) (now (words .entry)) asked) .list ⌝ }
-    ensures filled { λ r. ⌜ now (buffer .exit) ≡ bufferAfter (asking (now (rows .entry)) (length (now (buffer .entry))) (now (words .entry)) asked) (comes host (asking (now (rows .entry)) (length (now (buffer .entry))) (now (words .entry)) asked)) (now (buffer .entry)) ⌝ }
+pub fn ask(host: Sdmmc, words: &[u32], asked: Asked, rows: &mut [u64], buffer: &mut [u8]) -> Called
+    ensures answered { λ r. ⌜ r ≡ calledOf (comes host (asking (rowsIn (now (rows .entry))) (length (now (buffer .entry))) (now (words .entry)) asked)) ⌝ }
+    ensures listed { λ r. ⌜ rowsIn (now (rows .exit)) ≡ comes host (asking (rowsIn (now (rows .entry))) (length (now (buffer .entry))) (now (words .entry)) asked) .list ⌝ }
+    ensures filled { λ r. ⌜ now (buffer .exit) ≡ bufferAfter (asking (rowsIn (now (rows .entry))) (length (now (buffer .entry))) (now (words .entry)) asked) (comes host (asking (rowsIn (now (rows .entry))) (length (now (buffer .entry))) (now (words .entry)) asked)) (now (buffer .entry)) ⌝ }
 {
     let kind = asked.kind;
     let a = asked.a;
@@ -56,13 +57,13 @@ pub fn ask_in(
     host: Sdmmc,
     words: &[u32],
     asked: Asked,
-    rows: &mut [u32],
+    rows: &mut [u64],
     buffer: &mut [u8],
 ) -> Called
     requires { ⌜ 512 * asked .b ≤ length (now buffer) ⌝ }
-    ensures answered { λ r. ⌜ r ≡ calledOf (comes host (asking (now (rows .entry)) (512 * asked .b) (now (words .entry)) asked)) ⌝ }
-    ensures listed { λ r. ⌜ now (rows .exit) ≡ comes host (asking (now (rows .entry)) (512 * asked .b) (now (words .entry)) asked) .list ⌝ }
-    ensures filled { λ r. ⌜ now (buffer .exit) ≡ bufferAfter (asking (now (rows .entry)) (512 * asked .b) (now (words .entry)) asked) (comes host (asking (now (rows .entry)) (512 * asked .b) (now (words .entry)) asked)) (take (512 * asked .b) (now (buffer .entry))) ++ drop (512 * asked .b) (now (buffer .entry)) ⌝ }
+    ensures answered { λ r. ⌜ r ≡ calledOf (comes host (asking (rowsIn (now (rows .entry))) (512 * asked .b) (now (words .entry)) asked)) ⌝ }
+    ensures listed { λ r. ⌜ rowsIn (now (rows .exit)) ≡ comes host (asking (rowsIn (now (rows .entry))) (512 * asked .b) (now (words .entry)) asked) .list ⌝ }
+    ensures filled { λ r. ⌜ now (buffer .exit) ≡ bufferAfter (asking (rowsIn (now (rows .entry))) (512 * asked .b) (now (words .entry)) asked) (comes host (asking (rowsIn (now (rows .entry))) (512 * asked .b) (now (words .entry)) asked)) (take (512 * asked .b) (now (buffer .entry))) ++ drop (512 * asked .b) (now (buffer .entry)) ⌝ }
 {
     let bytes = 512 * asked.b as usize;
     ask(host, words, asked, rows, &mut buffer[..bytes])

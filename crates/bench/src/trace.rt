@@ -5,6 +5,7 @@ ghost use mathlib.Core.List.{_++_};
 ghost use mathlib.Core.Path.{_≡_};
 ghost use Prim.Native.Nat.{_+_, _*_, _≤_, min};
 ghost use lib.ListN.{length, take};
+ghost use Rattle.tape.specs.Layout.{rowsIn};
 ghost use Rattle.book.specs.Readers.{askedAt, openedOf};
 ghost use Rattle.text.specs.Ink.{inked, Laid};
 ghost use Rattle.types.specs.declared.error.Answer.the-variants.{BadBook};
@@ -42,8 +43,8 @@ struct Traced {
 }
 
 // The rows, the word that the answer carries, and the host's state.
-fn put_happened(out: &mut [u8], at: usize, list: &[u32], called: Called) -> usize
-    ensures { λ r. ⌜ Laid at (rowsText (called .rows) (now (list .entry)) ++ carriedText (called .answer) ++ stateText (called .host)) (now (out .entry)) r (now (out .exit)) ⌝ }
+fn put_happened(out: &mut [u8], at: usize, list: &[u64], called: Called) -> usize
+    ensures { λ r. ⌜ Laid at (rowsText (called .rows) (rowsIn (now (list .entry))) ++ carriedText (called .answer) ++ stateText (called .host)) (now (out .entry)) r (now (out .exit)) ⌝ }
 {
     let answer = called.answer;
     let next = called.host;
@@ -94,12 +95,12 @@ fn trace_exact(
     words: &[u32],
     asked: Asked,
     number: u32,
-    list: &mut [u32],
+    list: &mut [u64],
     buffer: &mut [u8],
     out: &mut [u8],
 ) -> Traced
-    ensures served { λ r. ⌜ r .host ≡ comes host (asking (now (list .entry)) (length (now (buffer .entry))) (now (words .entry)) asked) .host ⌝ }
-    ensures traced { λ r. ⌜ Laid 0 (tracedText number host (now (list .entry)) (now (buffer .entry)) (now (words .entry)) asked) (now (out .entry)) (r .at) (now (out .exit)) ⌝ }
+    ensures served { λ r. ⌜ r .host ≡ comes host (asking (rowsIn (now (list .entry))) (length (now (buffer .entry))) (now (words .entry)) asked) .host ⌝ }
+    ensures traced { λ r. ⌜ Laid 0 (tracedText number host (rowsIn (now (list .entry))) (now (buffer .entry)) (now (words .entry)) asked) (now (out .entry)) (r .at) (now (out .exit)) ⌝ }
 {
     let kind = asked.kind;
     let count = buffer.len() / 512;
@@ -135,18 +136,18 @@ fn trace_in(
     k: u16,
     script_at: usize,
     room: usize,
-    list: &mut [u32],
+    list: &mut [u64],
     buffer: &mut [u8],
     out: &mut [u8],
 ) -> Turn
-    requires { ⌜ (8192 ≤ length (now list)) × (8192 ≤ length (now buffer)) ⌝ }
-    ensures served { λ r. ⌜ r .host ≡ comes host (asking (take (2 * min room 4096) (now (list .entry))) (length (take (bytesAt (now (words .entry)) k «script_at») (now (buffer .entry)))) (now (words .entry)) (askedAt (now (words .entry)) k «script_at»)) .host ⌝ }
+    requires { ⌜ (4096 ≤ length (now list)) × (8192 ≤ length (now buffer)) ⌝ }
+    ensures served { λ r. ⌜ r .host ≡ comes host (asking (rowsIn (take (min room 4096) (now (list .entry)))) (length (take (bytesAt (now (words .entry)) k «script_at») (now (buffer .entry)))) (now (words .entry)) (askedAt (now (words .entry)) k «script_at»)) .host ⌝ }
     ensures passed { λ r. ⌜ r .«script_at» ≡ placeAfter (now (words .entry)) k «script_at» ⌝ }
-    ensures traced { λ r. ⌜ Laid 0 (tracedText (k + 1) host (take (2 * min room 4096) (now (list .entry))) (take (bytesAt (now (words .entry)) k «script_at») (now (buffer .entry))) (now (words .entry)) (askedAt (now (words .entry)) k «script_at»)) (now (out .entry)) (r .at) (now (out .exit)) ⌝ }
+    ensures traced { λ r. ⌜ Laid 0 (tracedText (k + 1) host (rowsIn (take (min room 4096) (now (list .entry)))) (take (bytesAt (now (words .entry)) k «script_at») (now (buffer .entry))) (now (words .entry)) (askedAt (now (words .entry)) k «script_at»)) (now (out .entry)) (r .at) (now (out .exit)) ⌝ }
 {
     let asked = layout::call_at(words, k as u32, script_at);
     let end = behind(words, asked.script_at, asked.script_len);
-    let rows = 2 * pen::least(room, 4096);
+    let rows = pen::least(room, 4096);
     let bytes = 512 * pen::least(asked.b as usize, 16);
     let done = trace_exact(
         host,
@@ -178,7 +179,7 @@ pub fn trace_call(
     ensures passed { λ r. ⌜ r .«script_at» ≡ placeAfter (now (words .entry)) k «script_at» ⌝ }
     ensures traced { λ r. ⌜ Laid 0 (callText (k + 1) host (bytesAt (now (words .entry)) k «script_at») (callAt (now (words .entry)) k «script_at» room)) (now (out .entry)) (r .at) (now (out .exit)) ⌝ }
 {
-    let mut list = [0u32; 8192];
+    let mut list = [0u64; 4096];
     let mut buffer = [0u8; 8192];
     trace_in(host, words, k, script_at, room, &mut list, &mut buffer, out)
 }

@@ -11,6 +11,7 @@ use Rattle.types.specs.Leaf.{dataOf, firstMatch}
 use Rattle.tape.specs.declared.progress.Halt.the-variants.{Refused, ScriptEnded, TraceFull}
 use Rattle.tape.specs.declared.progress.Line.{Line}
 use Rattle.tape.specs.declared.progress.Pace.the-variants.{Going, Stopped}
+use Rattle.tape.specs.Layout.{rowOf, rowsOfPairs}
 use Rattle.tape.specs.Plan.{Plan, handle, ensure, until}
 use Rattle.tape.specs.Run.{After, after, noted, run}
 use Rattle.tape.specs.Steps.{word, row, waitIdle, setClken, resetController, stopData, dataFrom}
@@ -37,9 +38,9 @@ config =
       «allow_clock_bypass» = false;
     }
 
--- a plan on a script, of a host gated or not, with this many words of a row list
+-- a plan on a script, of a host gated or not, with room for this many rows
 abbrev on : {A : Type 0} → A → Plan A → Line → ℕ → List ℕ → After A
-on d p line room s = run s d p 0 0 line (replicate room 0)
+on d p line room s = run s d p 0 0 line (replicate room (rowOf 0))
 
 -- CMD13: CLKCR on, ICR, ARG, CMD, CLKCR off
 abbrev cmd13 : ℕ → List ℕ → After (List ℕ)
@@ -51,19 +52,19 @@ issued = 2 ∷ 260 ∷ 8 ∷ 0xc5 ∷ 3 ∷ 0x1234_0000 ∷ 4 ∷ 1101 ∷ []
 -- accepted after one poll that was busy; refused, the clock off as well; the script ended, and the same; no room for the row
 -- that turns it off, in either
 pub commands :
-    cmd13 10 (0 ∷ 0 ∷ 0x40 ∷ 13 ∷ 0x900 ∷ 1 ∷ 2 ∷ 3 ∷ [])
-    ∷ cmd13 10 (0 ∷ 0x4 ∷ [])
-    ∷ cmd13 10 (0 ∷ [])
-    ∷ cmd13 8 (0 ∷ 0x4 ∷ [])
-    ∷ cmd13 8 (0 ∷ [])
+    cmd13 5 (0 ∷ 0 ∷ 0x40 ∷ 13 ∷ 0x900 ∷ 1 ∷ 2 ∷ 3 ∷ [])
+    ∷ cmd13 5 (0 ∷ 0x4 ∷ [])
+    ∷ cmd13 5 (0 ∷ [])
+    ∷ cmd13 4 (0 ∷ 0x4 ∷ [])
+    ∷ cmd13 4 (0 ∷ [])
     ∷ []
-    ≡ after (0x900 ∷ 1 ∷ 2 ∷ 3 ∷ []) Going 8 5 (host true 4) (2 ∷ 260 ∷ 8 ∷ 0xc5 ∷ 3 ∷ 0x1234_0000 ∷ 4 ∷ 1101 ∷ 2 ∷ 4 ∷ [])
-    ∷ after zeros (Stopped (Refused E.Timeout)) 2 5 (host true 4) (2 ∷ 260 ∷ 8 ∷ 0xc5 ∷ 3 ∷ 0x1234_0000 ∷ 4 ∷ 1101 ∷ 2 ∷ 4 ∷ [])
-    ∷ after zeros (Stopped ScriptEnded) 1 5 (host true 4) (2 ∷ 260 ∷ 8 ∷ 0xc5 ∷ 3 ∷ 0x1234_0000 ∷ 4 ∷ 1101 ∷ 2 ∷ 4 ∷ [])
-    ∷ after zeros (Stopped TraceFull) 2 4 (host true 260) issued
-    ∷ after zeros (Stopped TraceFull) 1 4 (host true 260) issued
+    ≡ after (0x900 ∷ 1 ∷ 2 ∷ 3 ∷ []) Going 8 5 (host true 4) (rowsOfPairs (issued ++ 2 ∷ 4 ∷ []))
+    ∷ after zeros (Stopped (Refused E.Timeout)) 2 5 (host true 4) (rowsOfPairs (issued ++ 2 ∷ 4 ∷ []))
+    ∷ after zeros (Stopped ScriptEnded) 1 5 (host true 4) (rowsOfPairs (issued ++ 2 ∷ 4 ∷ []))
+    ∷ after zeros (Stopped TraceFull) 2 4 (host true 260) (rowsOfPairs issued)
+    ∷ after zeros (Stopped TraceFull) 1 4 (host true 260) (rowsOfPairs issued)
     ∷ []
-unfolding run handle ensure until noted word row waitIdle setClken formOf issue pollCompletion waitCompletion echo
+unfolding run rowsOfPairs handle ensure until noted word row waitIdle setClken formOf issue pollCompletion waitCompletion echo
     responseWords judge answer complete commandInner command
 commands = refl
 
@@ -72,9 +73,9 @@ abbrev cmd13Rows : List ℕ
 cmd13Rows = 8 ∷ 0xc5 ∷ 3 ∷ 0x1234_0000 ∷ 4 ∷ 1101 ∷ []
 
 pub ready :
-    on tt (waitReady 8_000_500 config 0x1234) (host false 260) 16 (0 ∷ 0x40 ∷ 13 ∷ 0x800 ∷ 0 ∷ 0 ∷ 0 ∷ 0 ∷ 0x40 ∷ 13 ∷ 0xf00 ∷ 0 ∷ 0 ∷ 0 ∷ [])
-    ≡ after tt (Stopped (Refused E.SoftwareTimeout)) 14 8 (host false 260) (cmd13Rows ++ 11 ∷ 8_001 ∷ cmd13Rows ++ 11 ∷ 8_001 ∷ [])
-unfolding run handle ensure until noted word row waitIdle setClken formOf issue pollCompletion waitCompletion echo
+    on tt (waitReady 8_000_500 config 0x1234) (host false 260) 8 (0 ∷ 0x40 ∷ 13 ∷ 0x800 ∷ 0 ∷ 0 ∷ 0 ∷ 0 ∷ 0x40 ∷ 13 ∷ 0xf00 ∷ 0 ∷ 0 ∷ 0 ∷ [])
+    ≡ after tt (Stopped (Refused E.SoftwareTimeout)) 14 8 (host false 260) (rowsOfPairs (cmd13Rows ++ 11 ∷ 8_001 ∷ cmd13Rows ++ 11 ∷ 8_001 ∷ []))
+unfolding run rowsOfPairs handle ensure until noted word row waitIdle setClken formOf issue pollCompletion waitCompletion echo
     responseWords judge answer complete commandInner command retryDelay readStatus tryReady waitReady
 ready = refl
 
@@ -98,18 +99,18 @@ resetRows = 9 ∷ 0 ∷ 10 ∷ 0 ∷ 7 ∷ 0 ∷ 4 ∷ 0 ∷ 1 ∷ 0 ∷ 2 ∷ 0
 -- accepted, after one poll at which the DMA ran; refused with words that remain: DCOUNT is not read, and the reset rows
 -- follow; the script ends among the data words, and they follow too, or find no room
 pub transfers :
-    cmd51 (host false 260) 36 (begun ++ 0 ∷ 0x4000_0001 ∷ 0x100 ∷ 0 ∷ 0x100 ∷ 0 ∷ 0 ∷ 0xaa ∷ 0xbb ∷ 0 ∷ 0x40 ∷ 13 ∷ 0x900 ∷ 0 ∷ 0 ∷ 0 ∷ [])
-    ∷ cmd51 (host true 4) 42 (begun ++ 0x100 ∷ 0 ∷ 0x100 ∷ 5 ∷ 0 ∷ [])
-    ∷ cmd51 (host true 4) 42 (begun ++ 0x100 ∷ 0 ∷ 0x100 ∷ 0 ∷ 0 ∷ 0xaa ∷ [])
-    ∷ cmd51 (host true 4) 24 (begun ++ 0x100 ∷ 0 ∷ 0x100 ∷ 0 ∷ 0 ∷ 0xaa ∷ [])
+    cmd51 (host false 260) 18 (begun ++ 0 ∷ 0x4000_0001 ∷ 0x100 ∷ 0 ∷ 0x100 ∷ 0 ∷ 0 ∷ 0xaa ∷ 0xbb ∷ 0 ∷ 0x40 ∷ 13 ∷ 0x900 ∷ 0 ∷ 0 ∷ 0 ∷ [])
+    ∷ cmd51 (host true 4) 21 (begun ++ 0x100 ∷ 0 ∷ 0x100 ∷ 5 ∷ 0 ∷ [])
+    ∷ cmd51 (host true 4) 21 (begun ++ 0x100 ∷ 0 ∷ 0x100 ∷ 0 ∷ 0 ∷ 0xaa ∷ [])
+    ∷ cmd51 (host true 4) 12 (begun ++ 0x100 ∷ 0 ∷ 0x100 ∷ 0 ∷ 0 ∷ 0xaa ∷ [])
     ∷ []
-    ≡ after (0xaa ∷ 0xbb ∷ []) Going 24 17 (host false 260) (begunRows ++ 9 ∷ 0 ∷ 7 ∷ 0 ∷ 8 ∷ 0x73a ∷ cmd13Rows ++ 0 ∷ 0 ∷ [])
+    ≡ after (0xaa ∷ 0xbb ∷ []) Going 24 17 (host false 260) (rowsOfPairs (begunRows ++ 9 ∷ 0 ∷ 7 ∷ 0 ∷ 8 ∷ 0x73a ∷ cmd13Rows ++ 0 ∷ 0 ∷ []))
     ∷ after [] (Stopped (Refused E.IncompleteTransfer)) 12 21 (host true 0)
-    (begunRows ++ resetRows)
-    ∷ after [] (Stopped ScriptEnded) 14 21 (host true 0) (begunRows ++ resetRows)
-    ∷ after [] (Stopped TraceFull) 14 12 (host true 260) (begunRows ++ 9 ∷ 0 ∷ [])
+    (rowsOfPairs (begunRows ++ resetRows))
+    ∷ after [] (Stopped ScriptEnded) 14 21 (host true 0) (rowsOfPairs (begunRows ++ resetRows))
+    ∷ after [] (Stopped TraceFull) 14 12 (host true 260) (rowsOfPairs (begunRows ++ 9 ∷ 0 ∷ []))
     ∷ []
-unfolding run handle ensure until noted word row waitIdle setClken formOf issue pollCompletion waitCompletion echo
+unfolding run rowsOfPairs handle ensure until noted word row waitIdle setClken formOf issue pollCompletion waitCompletion echo
     responseWords judge answer complete commandInner command retryDelay readStatus tryReady waitReady resetController
     stopData dataFrom dataOf firstMatch arm startData clean pollTransfer drained settle dataComplete waitData receive
     closeGate stopTransmission endData transferData blockingData

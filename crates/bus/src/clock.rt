@@ -2,6 +2,7 @@
 ghost use mathlib.Core.Path.{_≡_};
 ghost use mathlib.Core.List.{List};
 ghost use Prim.Native.Nat.{ℕ, _≤_};
+ghost use Rattle.tape.specs.Layout.{rowsIn};
 ghost use Rattle.tape.specs.Run.{at, Did};
 ghost use Rattle.bus.specs.Clock.{configureClock, spinsOf, clockDelay, delayed};
 use tape::progress;
@@ -18,13 +19,13 @@ use types::error::Error;
 pub fn configure_clock(
     p: Progress,
     script: &[u32],
-    rows: &mut [u32],
+    rows: &mut [u64],
     limit: u32,
     clock: Clock,
     wide: bool,
     clken: bool,
 ) -> Progress
-    ensures { λ r. ⌜ Did (now (script .entry)) (configureClock limit clock wide clken) (at p (now (rows .entry))) (at r (now (rows .exit))) ⌝ }
+    ensures { λ r. ⌜ Did (now (script .entry)) (configureClock limit clock wide clken) (at p (rowsIn (now (rows .entry)))) (at r (rowsIn (now (rows .exit)))) ⌝ }
 {
     let value = rows::clkcr(clock, wide, clken);
     let rest = script::rest(script, p.used);
@@ -64,12 +65,12 @@ pub fn delay(source: Hertz, clock: Hertz, cycles: u32) -> DelayAnswer
 // Waits for so many cycles of the card clock.
 pub fn clock_delay(
     p: Progress,
-    rows: &mut [u32],
+    rows: &mut [u64],
     source: Hertz,
     clock: Hertz,
     cycles: u32,
 ) -> Progress
-    ensures { λ r. ⌜ ((s : List ℕ) → Did s (clockDelay (source .0) (clock .0) cycles) (at p (now (rows .entry))) (at r (now (rows .exit)))) ⌝ }
+    ensures { λ r. ⌜ ((s : List ℕ) → Did s (clockDelay (source .0) (clock .0) cycles) (at p (rowsIn (now (rows .entry)))) (at r (rowsIn (now (rows .exit))))) ⌝ }
 {
     let answer = delay(source, clock, cycles);
     match answer {

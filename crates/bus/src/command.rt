@@ -5,6 +5,7 @@ ghost use mathlib.Core.Bool.{false, cond};
 ghost use Prim.Native.Nat.{ℕ, _+_, _^_, _<_, _≤_};
 ghost use lib.Dec.{ltb};
 ghost use lib.ListN.{length, getD};
+ghost use Rattle.tape.specs.Layout.{rowsIn};
 ghost use Rattle.tape.specs.Plan.{finally, giving, refusing};
 ghost use Rattle.tape.specs.Run.{at, Behind, Did, Gave, Settled};
 ghost use Rattle.tape.specs.Steps.{setClken};
@@ -28,8 +29,8 @@ use types::error::Error;
 use types::status::CardStatus;
 
 // The three rows of a command.
-fn issue(p: Progress, rows: &mut [u32], index: u8, argument: u32, form: Form) -> Progress
-    ensures { λ r. ⌜ ((s : List ℕ) → Did s (issue index argument form) (at p (now (rows .entry))) (at r (now (rows .exit)))) ⌝ }
+fn issue(p: Progress, rows: &mut [u64], index: u8, argument: u32, form: Form) -> Progress
+    ensures { λ r. ⌜ ((s : List ℕ) → Did s (issue index argument form) (at p (rowsIn (now (rows .entry)))) (at r (rowsIn (now (rows .exit))))) ⌝ }
 {
     let order = rows::cmd(index, form.wait);
     let icr = rows::write_row(p, rows, Row::ICR, Icr::COMMAND);
@@ -40,7 +41,7 @@ fn issue(p: Progress, rows: &mut [u32], index: u8, argument: u32, form: Form) ->
 // One status word, of a script of which `rest` lies behind its first `start` words; refuses where the card is late.
 fn poll_completion(p: Progress, rest: &[u32], start: usize) -> Word
     requires { ⌜ (start ≤ p .used) × (start + length (now rest) < 2 ^ 64) ⌝ }
-    ensures { λ r. ⌜ ((s l : List ℕ) → Behind start (now (rest .entry)) s → Gave s ℕ 0 pollCompletion (at p l) (r .word) (at (r .progress) l)) ⌝ }
+    ensures { λ r. ⌜ ((s : List ℕ) (l : List Row) → Behind start (now (rest .entry)) s → Gave s ℕ 0 pollCompletion (at p l) (r .word) (at (r .progress) l)) ⌝ }
 {
     let status = script::read_word(p, rest, start);
     let sta = status.word;
@@ -51,7 +52,7 @@ fn poll_completion(p: Progress, rest: &[u32], start: usize) -> Word
 // Polls the status, at most `limit` times, until it has a bit that completes the command.
 fn wait_completion(p: Progress, rest: &[u32], start: usize, limit: u32, form: Form) -> Word
     requires { ⌜ (start ≤ p .used) × (start + length (now rest) < 2 ^ 64) ⌝ }
-    ensures { λ r. ⌜ ((s l : List ℕ) → Behind start (now (rest .entry)) s → Gave s ℕ 0 (waitCompletion limit form) (at p l) (r .word) (at (r .progress) l)) ⌝ }
+    ensures { λ r. ⌜ ((s : List ℕ) (l : List Row) → Behind start (now (rest .entry)) s → Gave s ℕ 0 (waitCompletion limit form) (at p l) (r .word) (at (r .progress) l)) ⌝ }
 {
     let pace = p.pace;
     let Pace::Going = pace else {
@@ -75,7 +76,7 @@ fn wait_completion(p: Progress, rest: &[u32], start: usize, limit: u32, form: Fo
 // The index of the command that the card answers, where the response has it.
 fn check_echo(p: Progress, rest: &[u32], start: usize, index: u8, form: Form) -> Progress
     requires { ⌜ (start ≤ p .used) × (start + length (now rest) < 2 ^ 64) ⌝ }
-    ensures { λ r. ⌜ ((s l : List ℕ) → Behind start (now (rest .entry)) s → Did s (echo index form) (at p l) (at r l)) ⌝ }
+    ensures { λ r. ⌜ ((s : List ℕ) (l : List Row) → Behind start (now (rest .entry)) s → Did s (echo index form) (at p l) (at r l)) ⌝ }
 {
     if form.echoes {
         let echo = script::read_word(p, rest, start);
@@ -110,7 +111,7 @@ fn four_at(words: &[u32], place: usize) -> [u32; 4]
 // The four response words, taken in one go.
 fn take_words(p: Progress, rest: &[u32], start: usize) -> Words
     requires { ⌜ (start ≤ p .used) × (start + length (now rest) < 2 ^ 64) ⌝ }
-    ensures { λ r. ⌜ ((s l : List ℕ) → Behind start (now (rest .entry)) s → Gave s (List ℕ) zeros responseWords (at p l) (r .words) (at (r .progress) l)) ⌝ }
+    ensures { λ r. ⌜ ((s : List ℕ) (l : List Row) → Behind start (now (rest .entry)) s → Gave s (List ℕ) zeros responseWords (at p l) (r .words) (at (r .progress) l)) ⌝ }
 {
     let words = four_at(rest, p.used - start);
     let taken = script::take_data(p, rest, start, 4);
@@ -119,7 +120,7 @@ fn take_words(p: Progress, rest: &[u32], start: usize) -> Words
 
 // What the first word says of the card.
 fn judge(p: Progress, words: [u32; 4], form: Form) -> Words
-    ensures { λ r. ⌜ ((s l : List ℕ) → Gave s (List ℕ) zeros (judge form words) (at p l) (r .words) (at (r .progress) l)) ⌝ }
+    ensures { λ r. ⌜ ((s : List ℕ) (l : List Row) → Gave s (List ℕ) zeros (judge form words) (at p l) (r .words) (at (r .progress) l)) ⌝ }
 {
     let status = words[0];
     let good = progress::ensure(p, status & form.errors == 0, Error::CardStatus(status));
@@ -130,7 +131,7 @@ fn judge(p: Progress, words: [u32; 4], form: Form) -> Words
 // The response, after the status word that completed the command.
 fn take_answer(p: Progress, rest: &[u32], start: usize, index: u8, form: Form, status: u32) -> Words
     requires { ⌜ (start ≤ p .used) × (start + length (now rest) < 2 ^ 64) ⌝ }
-    ensures { λ r. ⌜ ((s l : List ℕ) → Behind start (now (rest .entry)) s → Gave s (List ℕ) zeros (answer index form status) (at p l) (r .words) (at (r .progress) l)) ⌝ }
+    ensures { λ r. ⌜ ((s : List ℕ) (l : List Row) → Behind start (now (rest .entry)) s → Gave s (List ℕ) zeros (answer index form status) (at p l) (r .words) (at (r .progress) l)) ⌝ }
 {
     if form.silent {
         return response::give_words(p, [0; 4]);
@@ -145,7 +146,7 @@ fn take_answer(p: Progress, rest: &[u32], start: usize, index: u8, form: Form, s
 // Waits until the command is complete, and takes its response.
 fn complete(p: Progress, rest: &[u32], start: usize, limit: u32, index: u8, form: Form) -> Words
     requires { ⌜ (start ≤ p .used) × (start + length (now rest) < 2 ^ 64) ⌝ }
-    ensures { λ r. ⌜ ((s l : List ℕ) → Behind start (now (rest .entry)) s → Gave s (List ℕ) zeros (complete limit index form) (at p l) (r .words) (at (r .progress) l)) ⌝ }
+    ensures { λ r. ⌜ ((s : List ℕ) (l : List Row) → Behind start (now (rest .entry)) s → Gave s (List ℕ) zeros (complete limit index form) (at p l) (r .words) (at (r .progress) l)) ⌝ }
 {
     let done = wait_completion(p, rest, start, limit, form);
     take_answer(done.progress, rest, start, index, form, done.word)
@@ -155,14 +156,14 @@ fn complete(p: Progress, rest: &[u32], start: usize, limit: u32, index: u8, form
 pub fn command_inner(
     p: Progress,
     rest: &[u32],
-    rows: &mut [u32],
+    rows: &mut [u64],
     limit: u32,
     index: u8,
     argument: u32,
     response: Response,
 ) -> Words
     requires { ⌜ p .used + length (now rest) < 2 ^ 64 ⌝ }
-    ensures { λ r. ⌜ ((s : List ℕ) → Behind (p .used) (now (rest .entry)) s → Gave s (List ℕ) zeros (commandInner limit index argument response) (at p (now (rows .entry))) (r .words) (at (r .progress) (now (rows .exit)))) ⌝ }
+    ensures { λ r. ⌜ ((s : List ℕ) → Behind (p .used) (now (rest .entry)) s → Gave s (List ℕ) zeros (commandInner limit index argument response) (at p (rowsIn (now (rows .entry)))) (r .words) (at (r .progress) (rowsIn (now (rows .exit))))) ⌝ }
 {
     let pace = p.pace;
     let Pace::Going = pace else {
@@ -180,8 +181,8 @@ pub fn command_inner(
 }
 
 // What the gate makes of a command: the clock off, after an answer and after a stop alike, unless there is no room.
-fn close_clock(a: Words, rows: &mut [u32]) -> Words
-    ensures { λ r. ⌜ ((s : List ℕ) → Settled s (List ℕ) (List ℕ) zeros (giving (setClken false)) (refusing (setClken false)) (a .words) (at (a .progress) (now (rows .entry))) (r .words) (at (r .progress) (now (rows .exit)))) ⌝ }
+fn close_clock(a: Words, rows: &mut [u64]) -> Words
+    ensures { λ r. ⌜ ((s : List ℕ) → Settled s (List ℕ) (List ℕ) zeros (giving (setClken false)) (refusing (setClken false)) (a .words) (at (a .progress) (rowsIn (now (rows .entry)))) (r .words) (at (r .progress) (rowsIn (now (rows .exit))))) ⌝ }
 {
     let p = a.progress;
     let words = a.words;
@@ -211,14 +212,14 @@ fn close_clock(a: Words, rows: &mut [u32]) -> Words
 fn command_closing(
     p: Progress,
     rest: &[u32],
-    rows: &mut [u32],
+    rows: &mut [u64],
     limit: u32,
     index: u8,
     argument: u32,
     response: Response,
 ) -> Words
     requires { ⌜ p .used + length (now rest) < 2 ^ 64 ⌝ }
-    ensures { λ r. ⌜ ((s : List ℕ) → Behind (p .used) (now (rest .entry)) s → Gave s (List ℕ) zeros (finally (setClken false) (commandInner limit index argument response)) (at p (now (rows .entry))) (r .words) (at (r .progress) (now (rows .exit)))) ⌝ }
+    ensures { λ r. ⌜ ((s : List ℕ) → Behind (p .used) (now (rest .entry)) s → Gave s (List ℕ) zeros (finally (setClken false) (commandInner limit index argument response)) (at p (rowsIn (now (rows .entry)))) (r .words) (at (r .progress) (rowsIn (now (rows .exit))))) ⌝ }
 {
     let pace = p.pace;
     match pace {
@@ -237,14 +238,14 @@ fn command_closing(
 pub fn command(
     p: Progress,
     rest: &[u32],
-    rows: &mut [u32],
+    rows: &mut [u64],
     limit: u32,
     index: u8,
     argument: u32,
     response: Response,
 ) -> Words
     requires { ⌜ p .used + length (now rest) < 2 ^ 64 ⌝ }
-    ensures { λ r. ⌜ ((s : List ℕ) → Behind (p .used) (now (rest .entry)) s → Gave s (List ℕ) zeros (command limit index argument response) (at p (now (rows .entry))) (r .words) (at (r .progress) (now (rows .exit)))) ⌝ }
+    ensures { λ r. ⌜ ((s : List ℕ) → Behind (p .used) (now (rest .entry)) s → Gave s (List ℕ) zeros (command limit index argument response) (at p (rowsIn (now (rows .entry)))) (r .words) (at (r .progress) (rowsIn (now (rows .exit))))) ⌝ }
 {
     if p.line.gated {
         let open = steps::set_clken(p, rows, true);
@@ -258,21 +259,21 @@ pub fn command(
 pub fn send(
     p: Progress,
     script: &[u32],
-    rows: &mut [u32],
+    rows: &mut [u64],
     limit: u32,
     index: u8,
     argument: u32,
     response: Response,
 ) -> Words
-    ensures { λ r. ⌜ Gave (now (script .entry)) (List ℕ) zeros (command limit index argument response) (at p (now (rows .entry))) (r .words) (at (r .progress) (now (rows .exit))) ⌝ }
+    ensures { λ r. ⌜ Gave (now (script .entry)) (List ℕ) zeros (command limit index argument response) (at p (rowsIn (now (rows .entry)))) (r .words) (at (r .progress) (rowsIn (now (rows .exit)))) ⌝ }
 {
     let rest = script::rest(script, p.used);
     command(p, rest, rows, limit, index, argument, response)
 }
 
 // Tells the card that an application command follows.
-pub fn app_command(p: Progress, script: &[u32], rows: &mut [u32], limit: u32, rca: u16) -> Progress
-    ensures { λ r. ⌜ Did (now (script .entry)) (appCommand limit rca) (at p (now (rows .entry))) (at r (now (rows .exit))) ⌝ }
+pub fn app_command(p: Progress, script: &[u32], rows: &mut [u64], limit: u32, rca: u16) -> Progress
+    ensures { λ r. ⌜ Did (now (script .entry)) (appCommand limit rca) (at p (rowsIn (now (rows .entry)))) (at r (rowsIn (now (rows .exit)))) ⌝ }
 {
     let told = send(
         p,

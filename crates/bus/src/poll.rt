@@ -12,6 +12,7 @@ use tape::progress;
 use tape::progress::Flag;
 use tape::progress::Pace;
 use tape::progress::Progress;
+use tape::rows::Row;
 use tape::script;
 use tape::script::Dma;
 use tape::script::Sta;
@@ -28,7 +29,7 @@ pub struct Poll {
 
 // Refuses where a status word says that the transfer failed.
 fn clean(p: Progress, word: u32) -> Progress
-    ensures { λ r. ⌜ ((s l : List ℕ) → Did s (clean word) (at p l) (at r l)) ⌝ }
+    ensures { λ r. ⌜ ((s : List ℕ) (l : List Row) → Did s (clean word) (at p l) (at r l)) ⌝ }
 {
     let answer = status::data_error(word);
     match answer {
@@ -39,7 +40,7 @@ fn clean(p: Progress, word: u32) -> Progress
 
 // Gives both words, unless the call has stopped.
 fn give_poll(p: Progress, status: u32, dma: u32) -> Poll
-    ensures { λ r. ⌜ ((s l : List ℕ) → Gave s Polled nothingPolled (give (record { status = status; dma = dma })) (at p l) (record { status = r .status; dma = r .dma }) (at (r .progress) l)) ⌝ }
+    ensures { λ r. ⌜ ((s : List ℕ) (l : List Row) → Gave s Polled nothingPolled (give (record { status = status; dma = dma })) (at p l) (record { status = r .status; dma = r .dma }) (at (r .progress) l)) ⌝ }
 {
     let pace = p.pace;
     match pace {
@@ -59,7 +60,7 @@ fn give_poll(p: Progress, status: u32, dma: u32) -> Poll
 // One status word and one DMA word, neither of which says that the transfer failed.
 fn poll_transfer(p: Progress, rest: &[u32], start: usize) -> Poll
     requires { ⌜ (start ≤ p .used) × (start + length (now rest) < 2 ^ 64) ⌝ }
-    ensures { λ r. ⌜ ((s l : List ℕ) → Behind start (now (rest .entry)) s → Gave s Polled nothingPolled pollTransfer (at p l) (record { status = r .status; dma = r .dma }) (at (r .progress) l)) ⌝ }
+    ensures { λ r. ⌜ ((s : List ℕ) (l : List Row) → Behind start (now (rest .entry)) s → Gave s Polled nothingPolled pollTransfer (at p l) (record { status = r .status; dma = r .dma }) (at (r .progress) l)) ⌝ }
 {
     let status = script::read_word(p, rest, start);
     let sound = clean(status.progress, status.word);
@@ -71,7 +72,7 @@ fn poll_transfer(p: Progress, rest: &[u32], start: usize) -> Poll
 // No word remains in the DMA, and no byte in the controller, which is asked only then.
 fn drained(p: Progress, rest: &[u32], start: usize, dma: u32) -> Progress
     requires { ⌜ (start ≤ p .used) × (start + length (now rest) < 2 ^ 64) ⌝ }
-    ensures { λ r. ⌜ ((s l : List ℕ) → Behind start (now (rest .entry)) s → Did s (drained dma) (at p l) (at r l)) ⌝ }
+    ensures { λ r. ⌜ ((s : List ℕ) (l : List Row) → Behind start (now (rest .entry)) s → Did s (drained dma) (at p l) (at r l)) ⌝ }
 {
     let moved = progress::ensure(p, dma % Dma::REMAINING == 0, Error::IncompleteTransfer);
     let count = script::read_word(moved, rest, start);
@@ -92,7 +93,7 @@ fn unfinished(status: u32) -> bool
 // The second half of a poll, once the DMA no longer runs.
 fn settle(p: Progress, rest: &[u32], start: usize) -> Flag
     requires { ⌜ (start ≤ p .used) × (start + length (now rest) < 2 ^ 64) ⌝ }
-    ensures { λ r. ⌜ ((s l : List ℕ) → Behind start (now (rest .entry)) s → Gave s Bool false settle (at p l) (r .flag) (at (r .progress) l)) ⌝ }
+    ensures { λ r. ⌜ ((s : List ℕ) (l : List Row) → Behind start (now (rest .entry)) s → Gave s Bool false settle (at p l) (r .flag) (at (r .progress) l)) ⌝ }
 {
     let again = poll_transfer(p, rest, start);
     if unfinished(again.status) {
@@ -106,7 +107,7 @@ fn settle(p: Progress, rest: &[u32], start: usize) -> Flag
 // One poll: whether the transfer is complete. `rest` is what is left of the script.
 pub fn data_complete(p: Progress, rest: &[u32]) -> Flag
     requires { ⌜ p .used + length (now rest) < 2 ^ 64 ⌝ }
-    ensures { λ r. ⌜ ((s l : List ℕ) → Behind (p .used) (now (rest .entry)) s → Gave s Bool false dataComplete (at p l) (r .flag) (at (r .progress) l)) ⌝ }
+    ensures { λ r. ⌜ ((s : List ℕ) (l : List Row) → Behind (p .used) (now (rest .entry)) s → Gave s Bool false dataComplete (at p l) (r .flag) (at (r .progress) l)) ⌝ }
 {
     let start = p.used;
     let first = poll_transfer(p, rest, start);
@@ -120,7 +121,7 @@ pub fn data_complete(p: Progress, rest: &[u32]) -> Flag
 // Polls, at most `limit` times, until the transfer is complete. `rest` is what is left of the script.
 pub fn wait_data(p: Progress, rest: &[u32], limit: u32) -> Progress
     requires { ⌜ p .used + length (now rest) < 2 ^ 64 ⌝ }
-    ensures { λ r. ⌜ ((s l : List ℕ) → Behind (p .used) (now (rest .entry)) s → Did s (waitData limit) (at p l) (at r l)) ⌝ }
+    ensures { λ r. ⌜ ((s : List ℕ) (l : List Row) → Behind (p .used) (now (rest .entry)) s → Did s (waitData limit) (at p l) (at r l)) ⌝ }
 {
     let start = p.used;
     let mut q = p;

@@ -4,6 +4,7 @@ ghost use mathlib.Core.List.{List};
 ghost use mathlib.Core.Bool.{Bool, false};
 ghost use Prim.Native.Nat.{ℕ};
 ghost use Rattle.types.specs.Leaf.{roundedUp};
+ghost use Rattle.tape.specs.Layout.{rowsIn};
 ghost use Rattle.tape.specs.Run.{at, Did, Gave};
 ghost use Rattle.bus.specs.Ready.{retryDelay, readStatus, tryReady, waitReady};
 use crate::command;
@@ -27,16 +28,16 @@ pub fn millisecond(source: Hertz) -> u32
 }
 
 // The delay before the next attempt.
-pub fn retry_delay(p: Progress, rows: &mut [u32], source: Hertz) -> Progress
-    ensures { λ r. ⌜ ((s : List ℕ) → Did s (retryDelay (source .0)) (at p (now (rows .entry))) (at r (now (rows .exit)))) ⌝ }
+pub fn retry_delay(p: Progress, rows: &mut [u64], source: Hertz) -> Progress
+    ensures { λ r. ⌜ ((s : List ℕ) → Did s (retryDelay (source .0)) (at p (rowsIn (now (rows .entry)))) (at r (rowsIn (now (rows .exit))))) ⌝ }
 {
     let spins = millisecond(source);
     rows::write_row(p, rows, Row::DELAY, spins)
 }
 
 // The card's status.
-pub fn read_status(p: Progress, script: &[u32], rows: &mut [u32], limit: u32, rca: u16) -> Word
-    ensures { λ r. ⌜ Gave (now (script .entry)) ℕ 0 (readStatus limit rca) (at p (now (rows .entry))) (r .word) (at (r .progress) (now (rows .exit))) ⌝ }
+pub fn read_status(p: Progress, script: &[u32], rows: &mut [u64], limit: u32, rca: u16) -> Word
+    ensures { λ r. ⌜ Gave (now (script .entry)) ℕ 0 (readStatus limit rca) (at p (rowsIn (now (rows .entry)))) (r .word) (at (r .progress) (rowsIn (now (rows .exit)))) ⌝ }
 {
     let answer = command::send(
         p,
@@ -58,12 +59,12 @@ pub fn read_status(p: Progress, script: &[u32], rows: &mut [u32], limit: u32, rc
 fn try_ready(
     p: Progress,
     script: &[u32],
-    rows: &mut [u32],
+    rows: &mut [u64],
     source: Hertz,
     limit: u32,
     rca: u16,
 ) -> Flag
-    ensures { λ r. ⌜ Gave (now (script .entry)) Bool false (tryReady (source .0) limit rca) (at p (now (rows .entry))) (r .flag) (at (r .progress) (now (rows .exit))) ⌝ }
+    ensures { λ r. ⌜ Gave (now (script .entry)) Bool false (tryReady (source .0) limit rca) (at p (rowsIn (now (rows .entry)))) (r .flag) (at (r .progress) (rowsIn (now (rows .exit)))) ⌝ }
 {
     let answer = read_status(p, script, rows, limit, rca);
     let status = CardStatus(answer.word);
@@ -81,12 +82,12 @@ fn try_ready(
 pub fn wait_ready(
     p: Progress,
     script: &[u32],
-    rows: &mut [u32],
+    rows: &mut [u64],
     source: Hertz,
     config: Config,
     rca: u16,
 ) -> Progress
-    ensures { λ r. ⌜ Did (now (script .entry)) (waitReady (source .0) config rca) (at p (now (rows .entry))) (at r (now (rows .exit))) ⌝ }
+    ensures { λ r. ⌜ Did (now (script .entry)) (waitReady (source .0) config rca) (at p (rowsIn (now (rows .entry)))) (at r (rowsIn (now (rows .exit)))) ⌝ }
 {
     let attempts = config.card_ready_attempts;
     let limit = config.poll_limit;

@@ -8,6 +8,7 @@ ghost use Rattle.tape.specs.Run.{at, Gave};
 ghost use Rattle.bus.specs.Command.{formOf, zeros};
 use tape::progress::Pace;
 use tape::progress::Progress;
+use tape::rows::Row;
 use tape::script::Sta;
 use types::status::CardStatus;
 
@@ -103,7 +104,7 @@ impl Response {
 
 // Gives the words, unless the call has stopped.
 pub fn give_words(p: Progress, words: [u32; 4]) -> Words
-    ensures { λ r. ⌜ ((s l : List ℕ) → Gave s (List ℕ) zeros (give words) (at p l) (r .words) (at (r .progress) l)) ⌝ }
+    ensures { λ r. ⌜ ((s : List ℕ) (l : List Row) → Gave s (List ℕ) zeros (give words) (at p l) (r .words) (at (r .progress) l)) ⌝ }
 {
     let pace = p.pace;
     match pace {

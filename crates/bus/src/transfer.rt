@@ -2,6 +2,7 @@
 ghost use mathlib.Core.List.{List, []};
 ghost use Prim.Native.Nat.{ℕ};
 ghost use lib.ListN.{take, drop};
+ghost use Rattle.tape.specs.Layout.{rowsIn};
 ghost use Rattle.tape.specs.Run.{at, Did, Gave, Lies};
 ghost use Rattle.bus.specs.Transfer.{placeAfter, dataPlace, arm, startData, waitData, receive, closeGate, stopTransmission, endData, transferData, blockingData};
 use crate::command;
@@ -27,8 +28,8 @@ pub struct Transfer {
 }
 
 // Readies the data path.
-fn arm(p: Progress, rows: &mut [u32], timeout: u32, transfer: Transfer) -> Progress
-    ensures { λ r. ⌜ ((s : List ℕ) → Did s (arm timeout transfer) (at p (now (rows .entry))) (at r (now (rows .exit)))) ⌝ }
+fn arm(p: Progress, rows: &mut [u64], timeout: u32, transfer: Transfer) -> Progress
+    ensures { λ r. ⌜ ((s : List ℕ) → Did s (arm timeout transfer) (at p (rowsIn (now (rows .entry)))) (at r (rowsIn (now (rows .exit))))) ⌝ }
 {
     let control = rows::dctrl(true, transfer.block_size);
     let bytes = 4 * transfer.words as u32;
@@ -43,11 +44,11 @@ fn arm(p: Progress, rows: &mut [u32], timeout: u32, transfer: Transfer) -> Progr
 pub fn start_data(
     p: Progress,
     script: &[u32],
-    rows: &mut [u32],
+    rows: &mut [u64],
     config: Config,
     transfer: Transfer,
 ) -> Progress
-    ensures { λ r. ⌜ Did (now (script .entry)) (startData config transfer) (at p (now (rows .entry))) (at r (now (rows .exit))) ⌝ }
+    ensures { λ r. ⌜ Did (now (script .entry)) (startData config transfer) (at p (rowsIn (now (rows .entry)))) (at r (rowsIn (now (rows .exit)))) ⌝ }
 {
     let limit = config.poll_limit;
     let rest = script::rest(script, p.used);
@@ -69,8 +70,8 @@ pub fn start_data(
 
 // Waits until the transfer is complete, and takes its words.
 fn receive(p: Progress, script: &[u32], limit: u32, count: u16) -> Data
-    ensures took { λ r. ⌜ ((l : List ℕ) → Gave (now (script .entry)) (List ℕ) [] (receive limit count) (at p l) (take (r .count) (drop (r .place) (now (script .entry)))) (at (r .progress) l)) ⌝ }
-    ensures lie { λ r. ⌜ ((l : List ℕ) → Lies (placeAfter (now (script .entry)) (waitData limit) (at p l)) count r) ⌝ }
+    ensures took { λ r. ⌜ ((l : List Row) → Gave (now (script .entry)) (List ℕ) [] (receive limit count) (at p l) (take (r .count) (drop (r .place) (now (script .entry)))) (at (r .progress) l)) ⌝ }
+    ensures lie { λ r. ⌜ ((l : List Row) → Lies (placeAfter (now (script .entry)) (waitData limit) (at p l)) count r) ⌝ }
 {
     let start = p.used;
     let rest = script::rest(script, start);
@@ -79,8 +80,8 @@ fn receive(p: Progress, script: &[u32], limit: u32, count: u16) -> Data
 }
 
 // Closes the card clock of a gated host.
-fn close_gate(p: Progress, rows: &mut [u32]) -> Progress
-    ensures { λ r. ⌜ ((s : List ℕ) → Did s closeGate (at p (now (rows .entry))) (at r (now (rows .exit)))) ⌝ }
+fn close_gate(p: Progress, rows: &mut [u64]) -> Progress
+    ensures { λ r. ⌜ ((s : List ℕ) → Did s closeGate (at p (rowsIn (now (rows .entry)))) (at r (rowsIn (now (rows .exit))))) ⌝ }
 {
     if p.line.gated {
         steps::set_clken(p, rows, false)
@@ -93,11 +94,11 @@ fn close_gate(p: Progress, rows: &mut [u32]) -> Progress
 fn stop_transmission(
     p: Progress,
     script: &[u32],
-    rows: &mut [u32],
+    rows: &mut [u64],
     limit: u32,
     index: u8,
 ) -> Progress
-    ensures { λ r. ⌜ Did (now (script .entry)) (stopTransmission limit index) (at p (now (rows .entry))) (at r (now (rows .exit))) ⌝ }
+    ensures { λ r. ⌜ Did (now (script .entry)) (stopTransmission limit index) (at p (rowsIn (now (rows .entry)))) (at r (rowsIn (now (rows .exit)))) ⌝ }
 {
     if index == 18 {
         let told = command::send(p, script, rows, limit, 12, 0, Response::R1);
@@ -111,13 +112,13 @@ fn stop_transmission(
 fn end_data(
     p: Progress,
     script: &[u32],
-    rows: &mut [u32],
+    rows: &mut [u64],
     source: Hertz,
     config: Config,
     index: u8,
     rca: u16,
 ) -> Progress
-    ensures { λ r. ⌜ Did (now (script .entry)) (endData (source .0) config index rca) (at p (now (rows .entry))) (at r (now (rows .exit))) ⌝ }
+    ensures { λ r. ⌜ Did (now (script .entry)) (endData (source .0) config index rca) (at p (rowsIn (now (rows .entry)))) (at r (rowsIn (now (rows .exit)))) ⌝ }
 {
     let stopped = steps::stop_data(p, rows);
     let closed = close_gate(stopped, rows);
@@ -129,14 +130,14 @@ fn end_data(
 fn transfer_data(
     p: Progress,
     script: &[u32],
-    rows: &mut [u32],
+    rows: &mut [u64],
     source: Hertz,
     config: Config,
     transfer: Transfer,
     rca: u16,
 ) -> Data
-    ensures gave { λ r. ⌜ Gave (now (script .entry)) (List ℕ) [] (transferData (source .0) config transfer rca) (at p (now (rows .entry))) (take (r .count) (drop (r .place) (now (script .entry)))) (at (r .progress) (now (rows .exit))) ⌝ }
-    ensures lie { λ r. ⌜ Lies (dataPlace (now (script .entry)) config transfer (at p (now (rows .entry)))) (transfer .words) r ⌝ }
+    ensures gave { λ r. ⌜ Gave (now (script .entry)) (List ℕ) [] (transferData (source .0) config transfer rca) (at p (rowsIn (now (rows .entry)))) (take (r .count) (drop (r .place) (now (script .entry)))) (at (r .progress) (rowsIn (now (rows .exit)))) ⌝ }
+    ensures lie { λ r. ⌜ Lies (dataPlace (now (script .entry)) config transfer (at p (rowsIn (now (rows .entry))))) (transfer .words) r ⌝ }
 {
     let started = start_data(p, script, rows, config, transfer);
     let taken = receive(started, script, config.poll_limit, transfer.words);
@@ -156,14 +157,14 @@ fn transfer_data(
 pub fn blocking_data(
     p: Progress,
     script: &[u32],
-    rows: &mut [u32],
+    rows: &mut [u64],
     source: Hertz,
     config: Config,
     transfer: Transfer,
     rca: u16,
 ) -> Data
-    ensures gave { λ r. ⌜ Gave (now (script .entry)) (List ℕ) [] (blockingData (source .0) config transfer rca) (at p (now (rows .entry))) (take (r .count) (drop (r .place) (now (script .entry)))) (at (r .progress) (now (rows .exit))) ⌝ }
-    ensures lie { λ r. ⌜ Lies (dataPlace (now (script .entry)) config transfer (at p (now (rows .entry)))) (transfer .words) r ⌝ }
+    ensures gave { λ r. ⌜ Gave (now (script .entry)) (List ℕ) [] (blockingData (source .0) config transfer rca) (at p (rowsIn (now (rows .entry)))) (take (r .count) (drop (r .place) (now (script .entry)))) (at (r .progress) (rowsIn (now (rows .exit)))) ⌝ }
+    ensures lie { λ r. ⌜ Lies (dataPlace (now (script .entry)) config transfer (at p (rowsIn (now (rows .entry))))) (transfer .words) r ⌝ }
 {
     let pace = p.pace;
     match pace {

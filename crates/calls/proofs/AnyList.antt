@@ -22,6 +22,7 @@ use Rattle.types.specs.Words.{sdStatusOf}
 use Rattle.tape.specs.declared.progress.Halt.the-variants.{Refused, ScriptEnded, TraceFull}
 use Rattle.tape.specs.declared.progress.Pace.{Pace}
 use Rattle.tape.specs.declared.progress.Pace.the-variants.{Going, Stopped}
+use Rattle.tape.specs.declared.rows.Row.{Row}
 use Rattle.tape.specs.Plan.{Nothing, Cause, failed, ended, Plan}
 use Rattle.tape.specs.Run.{State, haltOf, run, runFrom}
 use Rattle.bus.specs.Command.{appCommand}
@@ -68,7 +69,7 @@ unfolding afterInitialise
 none-left frequency (failed e) found before may = allowed-none (eqb frequency 0 || ltb 50_000_000 frequency) before may
 none-left frequency ended found before may = allowed-none (eqb frequency 0 || ltb 50_000_000 frequency) before may
 
-module _ (host : Sdmmc) (frequency : ℕ) (s l : List ℕ) (c : Clock) (clocked : clockOf (sourceOf (host .settings)) 400_000 false ≡ Clocked.Set c) where
+module _ (host : Sdmmc) (frequency : ℕ) (s : List ℕ) (l : List Row) (c : Clock) (clocked : clockOf (sourceOf (host .settings)) 400_000 false ≡ Clocked.Set c) where
   abbrev initRule : Answer → List ℕ → Held
   initRule a words = afterInitialise frequency a (foundBy (host .settings) (initialise frequency s l)) (heldOf host)
 
@@ -100,7 +101,7 @@ kept-before-data ended accepted before = refl
 -- A call with a data phase: `accepted` is what it leaves of the record where it was accepted, from its data words.
 
 module _ (host : Sdmmc) (plan : Plan Nothing) (transfer : Plan (List ℕ)) (next : State → List ℕ → Sdmmc) (accepted : List ℕ → Held)
-    (same : (w : State) (ws : List ℕ) → heldOf (next w ws) ≡ accepted ws) (s l : List ℕ) where
+    (same : (w : State) (ws : List ℕ) → heldOf (next w ws) ≡ accepted ws) (s : List ℕ) (l : List Row) where
   abbrev dataRule : Answer → List ℕ → Held
   dataRule a words = afterData a (passed (approach plan) (host .line) s l) (accepted words) (heldOf host)
 
@@ -127,7 +128,7 @@ abbrev ruleOf : Sdmmc → Call → Answer → List ℕ → Held
 ruleOf host c a words =
     afterCall c (record { call = c; answer = a; begun = begun host c; found = foundBy (host .settings) c; taken = words }) (heldOf host)
 
-status-follows : (host : Sdmmc) (s l : List ℕ) → Follows host (ruleOf host (status s l)) (statusCame host s l)
+status-follows : (host : Sdmmc) (s : List ℕ) (l : List Row) → Follows host (ruleOf host (status s l)) (statusCame host s l)
 unfolding statusCame afterCall begun approachOf passed leftOut afterData
 status-follows host s l = by (host .known) refl
   where
@@ -142,7 +143,7 @@ status-follows host s l = by (host .known) refl
         (λ ws. record { answer = heldOf host .answer; card = withStatus (heldOf host .card) (sdStatusOf ws) }) (λ w ws. rw k) s l
     by false k = refl
 
-read-follows : (host : Sdmmc) (index bytes : ℕ) (s l : List ℕ) → Follows host (ruleOf host (read index bytes s l)) (readCame host index bytes s l)
+read-follows : (host : Sdmmc) (index bytes : ℕ) (s : List ℕ) (l : List Row) → Follows host (ruleOf host (read index bytes s l)) (readCame host index bytes s l)
 unfolding readCame readKnown readFrom afterCall begun approachOf passed leftOut afterData
 read-follows host index bytes s l =
     by (host .known) (eqb (bytes % 512) 0) (addressOf (host .card .«card_type») (host .card .«block_count» .0) index (bytes / 512))
@@ -170,7 +171,7 @@ follows host (status s l) k = status-follows host s l
 
 -- What every call keeps: its settings; and the whole host where it is left out.
 
-abbrev pub listOf : Call → List ℕ
+abbrev pub listOf : Call → List Row
 listOf (initialise frequency s l) = l
 listOf (read index bytes s l) = l
 listOf (status s l) = l
@@ -280,7 +281,7 @@ ends-as-new h k set card words (Stopped (Refused e)) w = refl
 ends-as-new h k set card words (Stopped ScriptEnded) w = refl
 ends-as-new h k set card words (Stopped TraceFull) w = refl
 
-initialise-as-new : (h k : Sdmmc) (frequency : ℕ) (s l : List ℕ) → h .settings ≡ k .settings → Clockable (k .settings) → allowed frequency ≡ true
+initialise-as-new : (h k : Sdmmc) (frequency : ℕ) (s : List ℕ) (l : List Row) → h .settings ≡ k .settings → Clockable (k .settings) → allowed frequency ≡ true
     → comes h (initialise frequency s l) ≡ asNew h (comes k (initialise frequency s l))
 unfolding Clockable comes initialised initFrom
 initialise-as-new h k frequency s l e c may =
@@ -294,7 +295,7 @@ initialise-as-new h k frequency s l e c may =
 
 -- 'An initialisation of allowed frequency answers, writes and uses what a new host of the same settings would on the same
 -- script and row list, and but for TraceFull leaves the same host', whatever calls came before it.
-pub as-a-new-host : (set : Settings) → made set .answer ≡ Answered.Accepted → (past : List Call) (frequency : ℕ) (s l : List ℕ) → allowed frequency ≡ true
+pub as-a-new-host : (set : Settings) → made set .answer ≡ Answered.Accepted → (past : List Call) (frequency : ℕ) (s : List ℕ) (l : List Row) → allowed frequency ≡ true
     → comes (serve (made set .host) past .host) (initialise frequency s l)
     ≡ asNew (serve (made set .host) past .host) (comes (made set .host) (initialise frequency s l))
 as-a-new-host set ok past frequency s l may =
@@ -312,11 +313,11 @@ none-known host e = by (host .known) (host .card) e
         let z : _≡_ {A = ℕ} 0 1 = cc in absurd (omega arith)
     by false card r = refl
 
-pub read-of-none : (host : Sdmmc) → heldOf host ≡ holdsNone → (index bytes : ℕ) (s l : List ℕ) → comes host (read index bytes s l) ≡ untouched host E.NoCard l
+pub read-of-none : (host : Sdmmc) → heldOf host ≡ holdsNone → (index bytes : ℕ) (s : List ℕ) (l : List Row) → comes host (read index bytes s l) ≡ untouched host E.NoCard l
 unfolding comes
 read-of-none host e index bytes s l = read-16 host s l index bytes (none-known host e)
 
-pub status-of-none : (host : Sdmmc) → heldOf host ≡ holdsNone → (s l : List ℕ) → comes host (status s l) ≡ untouched host E.NoCard l
+pub status-of-none : (host : Sdmmc) → heldOf host ≡ holdsNone → (s : List ℕ) (l : List Row) → comes host (status s l) ≡ untouched host E.NoCard l
 unfolding comes
 status-of-none host e s l = status-16 host s l (none-known host e)
 
@@ -326,7 +327,7 @@ module _ (set : Settings) (ok : made set .answer ≡ Answered.Accepted) (past : 
   abbrev pub used : Sdmmc
   used = serve (made set .host) past .host
 
-  module _ (frequency : ℕ) (may : allowed frequency ≡ true) (s l : List ℕ) (e : Cause) (refused : comes used (initialise frequency s l) .answer ≡ answerFor e) where
+  module _ (frequency : ℕ) (may : allowed frequency ≡ true) (s : List ℕ) (l : List Row) (e : Cause) (refused : comes used (initialise frequency s l) .answer ≡ answerFor e) where
     pub none-after-a-bad-card : heldOf (comes used (initialise frequency s l) .host) ≡ holdsNone
     unfolding leftOut afterCall afterInitialise
     none-after-a-bad-card = by e refused
@@ -335,12 +336,12 @@ module _ (set : Settings) (ok : made set .answer ≡ Answered.Accepted) (past : 
         by (failed e) r = rw (r, may) at (follows used (initialise frequency s l) (rw (settings-stay (made set .host) past) (made-clockable set ok)))
         by ended r = rw (r, may) at (follows used (initialise frequency s l) (rw (settings-stay (made set .host) past) (made-clockable set ok)))
 
-    pub read-after-a-bad-card : (index bytes : ℕ) (s′ l′ : List ℕ)
+    pub read-after-a-bad-card : (index bytes : ℕ) (s′ : List ℕ) (l′ : List Row)
         → comes (comes used (initialise frequency s l) .host) (read index bytes s′ l′) ≡ untouched (comes used (initialise frequency s l) .host) E.NoCard l′
     read-after-a-bad-card = read-of-none (comes used (initialise frequency s l) .host) none-after-a-bad-card
 
 -- an accepted initialisation was of allowed frequency
-accepted-allowed : (host : Sdmmc) (frequency : ℕ) (s l : List ℕ) → comes host (initialise frequency s l) .answer ≡ Answered.Accepted → allowed frequency ≡ true
+accepted-allowed : (host : Sdmmc) (frequency : ℕ) (s : List ℕ) (l : List Row) → comes host (initialise frequency s l) .answer ≡ Answered.Accepted → allowed frequency ≡ true
 unfolding comes initialised
 accepted-allowed host frequency s l r = by (eqb frequency 0 || ltb 50_000_000 frequency) _ r
   where
@@ -350,7 +351,7 @@ accepted-allowed host frequency s l r = by (eqb frequency 0 || ltb 50_000_000 fr
 
 -- two hosts of the same settings with different pasts cannot be told apart after an accepted initialisation on the same
 -- script: whatever calls follow
-pub not-told-apart : (set : Settings) → made set .answer ≡ Answered.Accepted → (past other : List Call) (frequency : ℕ) (s l : List ℕ)
+pub not-told-apart : (set : Settings) → made set .answer ≡ Answered.Accepted → (past other : List Call) (frequency : ℕ) (s : List ℕ) (l : List Row)
     → comes (serve (made set .host) past .host) (initialise frequency s l) .answer ≡ Answered.Accepted
     → (cs : List Call)
     → serve (comes (serve (made set .host) past .host) (initialise frequency s l) .host) cs

@@ -10,6 +10,7 @@ use Rattle.types.specs.declared.error.Answer.{Answer}
 use Rattle.types.specs.declared.error.Answer.the-variants as Answered
 use Rattle.types.specs.declared.error.Error.the-variants as E
 use Rattle.types.specs.Words.{sdStatusOf}
+use Rattle.tape.specs.declared.rows.Row.{Row}
 use Rattle.init.specs.declared.settings.Settings.{Settings}
 use Rattle.host.specs.declared.host.Held.{Held}
 use Rattle.host.specs.declared.host.Sdmmc.{Sdmmc}
@@ -36,7 +37,7 @@ module _ (begun : Bool) (found : Card) (taken : List ℕ) (earlier : List Told) 
       by (some card) false e = rw (e, r)
 
   -- an accepted status read, of a record that is held
-  statused : (s l : List ℕ) (o : Option Card) (ts : List Told) → dueOf o ts .answer ≡ Answered.Accepted
+  statused : (s : List ℕ) (l : List Row) (o : Option Card) (ts : List Told) → dueOf o ts .answer ≡ Answered.Accepted
       → record { answer = dueOf o ts .answer; card = withStatus (dueOf o ts .card) (sdStatusOf taken) } ≡ dueOf o (telling (status s l) Answered.Accepted ∷ ts)
   unfolding dueOf lost loses refused lastStatus readsStatus accepted
   statused s l none ts held = let z : _≡_ {A = ℕ} 0 1 = cc in absurd (omega arith)

@@ -14,7 +14,8 @@ use Rattle.types.specs.declared.card.AddressAnswer.the-variants as Address
 use Rattle.types.specs.declared.error.Error.{Error}
 use Rattle.types.specs.Leaf.{addressOf}
 use Rattle.tape.specs.declared.progress.Pace.the-variants.{Going, Stopped}
-use Rattle.tape.specs.Rows.{ICR, placeOf, wordsOf}
+use Rattle.tape.specs.declared.rows.Row.{Row}
+use Rattle.tape.specs.Layout.{rowOf}
 use Rattle.tape.specs.Plan.{Cause}
 use Rattle.tape.specs.Run.{State, haltOf}
 use Rattle.tape.proofs.Walk.{Rule, LastRow, starts-last}
@@ -34,7 +35,7 @@ use Rattle.calls.specs.Serve.{read, status, comes, approach, none, appro
 -- the last ten of the rows that a call wrote are the reset rows
 pub record ResetLast (x : Came) : Type 0 where
   pub ten : 10 ≤ x .rows
-  pub last : take 20 (drop (placeOf (x .rows - 10)) (x .list)) ≡ wordsOf resetRows
+  pub last : take 10 (drop (x .rows - 10) (x .list)) ≡ resetRows
 
 -- what a caller sees of whether a data phase had begun
 pub record Seen (begun : Bool) (x : Came) : Type 0 where
@@ -46,24 +47,19 @@ abbrev approachRule : Rule
 approachRule = record { holds = λ h. Unit {0}; writes = Ordinary; refuses = λ e. Unit {0}; noted = λ r h i. tt }
 
 -- where the last row is an ordinary one they are not
-word-there : (l : List ℕ) (n i : ℕ) → i < 20 → take 20 (drop n l) ≡ wordsOf resetRows → getD l (n + i) 0 ≡ getD (wordsOf resetRows) i 0
-word-there l n i h e = sym (getD-take 20 (drop n l) i 0 h ∙ getD-drop n l i 0) ∙ ap (λ (ws : List ℕ). getD ws i 0) e
-
-not-reset : {n : ℕ} {l : List ℕ} → LastRow Ordinary n l → 10 ≤ n → take 20 (drop (placeOf (n - 10)) l) ≡ wordsOf resetRows → ⊥
-unfolding wordsOf
+not-reset : {n : ℕ} {l : List Row} → LastRow Ordinary n l → 10 ≤ n → take 10 (drop (n - 10) l) ≡ resetRows → ⊥
 not-reset {n} {l} o h e =
-    let place : placeOf (n - 10) + 18 ≡ placeOf (n - 1) = omega arith in
-    let behind : placeOf (n - 10) + 19 ≡ placeOf (n - 1) + 1 = omega arith in
-    let register : getD l (placeOf (n - 1)) 0 ≡ ICR = rw place at (word-there l (placeOf (n - 10)) 18 (omega arith) e) in
-    let value : getD l (placeOf (n - 1) + 1) 0 ≡ 0x00c0_07ff = rw behind at (word-there l (placeOf (n - 10)) 19 (omega arith) e) in
-    let never = rw (eq-eqb _ _ register, eq-eqb _ _ value) at (o .last (n - 1) (omega arith)) in
+    let place : n - 10 + 9 ≡ n - 1 = omega arith in
+    let there : getD l (n - 10 + 9) (rowOf 0) ≡ getD resetRows 9 (rowOf 0) =
+    sym (getD-take 10 (drop (n - 10) l) 9 (rowOf 0) (omega arith) ∙ getD-drop (n - 10) l 9 (rowOf 0)) ∙ ap (λ (rs : List Row). getD rs 9 (rowOf 0)) e in
+    let never = rw (rw place at there) at (o .last (n - 1) (omega arith)) in
     let z : _≡_ {A = ℕ} 0 1 = cc in
     omega arith
 
 unbegun : {x : Came} → (ResetLast x → ⊥) → Seen false x
 unbegun never = record { shown = λ t. let z : _≡_ {A = ℕ} 0 1 = cc in absurd (omega arith); only = λ r. absurd (never r) }
 
-of-untouched : {x : Came} {host : Sdmmc} {e : Error} {l : List ℕ} → x ≡ untouched host e l → Seen false x
+of-untouched : {x : Came} {host : Sdmmc} {e : Error} {l : List Row} → x ≡ untouched host e l → Seen false x
 of-untouched same = rw same (unbegun (λ r. omega (arith, r .ten)))
 
 -- a call with an approach and a data phase, refused: w is where its approach has come
@@ -78,7 +74,7 @@ of-refused o (R.dataPhase g) early late = record { shown = λ t. late g; only = 
 after-reset : {e : Cause} {host : Sdmmc} {w : State} {x : Came} → ResetAfter e host w x → ResetLast x
 after-reset r = record { ten = omega (arith, r .rows); last = reset-last r }
 
-module _ (host : Sdmmc) (s l : List ℕ) (e : Cause) where
+module _ (host : Sdmmc) (s : List ℕ) (l : List Row) (e : Cause) where
   -- A status call.
   pub status-begun : comes host (status s l) .answer ≡ answerFor e → Seen (begun host (status s l)) (comes host (status s l))
   unfolding comes begun approachOf passed

@@ -46,7 +46,7 @@ ends-steady host refused accepted words (Stopped (Refused e)) w r a = r
 ends-steady host refused accepted words (Stopped ScriptEnded) w r a = r
 ends-steady host refused accepted words (Stopped TraceFull) w r a = unmoved
 
-served-steady : (host : Sdmmc) (plan : Plan Nothing) (transfer : Plan (List ℕ)) (next : State → List ℕ → Sdmmc) (s l : List ℕ)
+served-steady : (host : Sdmmc) (plan : Plan Nothing) (transfer : Plan (List ℕ)) (next : State → List ℕ → Sdmmc) (s : List ℕ) (l : List Row)
     → Obeys (lineRule (host .line)) Nothing plan → Obeys (lineRule (host .line)) (List ℕ) transfer → ((w : State) (ws : List ℕ) → next w ws .line ≡ w .progress .line)
     → SameLine (host .line) (served host plan transfer next s l .host .line)
 unfolding served approached transferred
@@ -70,7 +70,7 @@ data-steady : (host : Sdmmc) (transfer : Transfer) → Obeys (lineRule (host .li
 data-steady host transfer = data-obeys (lineRule (host .line)) (λ e o. tt) (λ r o. tt) (λ r. tt) _ _ transfer _
 
 -- 'a status read that also changes the clock' is none of ours
-pub status-keeps-the-clock : (host : Sdmmc) (s l : List ℕ) → SameLine (host .line) (comes host (S.status s l) .host .line)
+pub status-keeps-the-clock : (host : Sdmmc) (s : List ℕ) (l : List Row) → SameLine (host .line) (comes host (S.status s l) .host .line)
 unfolding comes statusCame
 status-keeps-the-clock host s l =
     by-cases (λ (x : Came). SameLine (host .line) (x .host .line)) (host .known) _ _
@@ -78,7 +78,7 @@ status-keeps-the-clock host s l =
     (app-obeys (lineRule (host .line)) (λ e o. tt) (λ r o. tt) _ _) (data-steady host statusTransfer) (λ w ws. refl))
     unmoved
 
-pub read-keeps-the-clock : (host : Sdmmc) (index bytes : ℕ) (s l : List ℕ) → SameLine (host .line) (comes host (S.read index bytes s l) .host .line)
+pub read-keeps-the-clock : (host : Sdmmc) (index bytes : ℕ) (s : List ℕ) (l : List Row) → SameLine (host .line) (comes host (S.read index bytes s l) .host .line)
 unfolding comes readCame readKnown readFrom
 read-keeps-the-clock host index bytes s l =
     by-cases (λ (x : Came). SameLine (host .line) (x .host .line)) (host .known) _ _

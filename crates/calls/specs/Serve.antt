@@ -21,6 +21,7 @@ use Rattle.types.specs.Words.{sdStatusOf}
 use Rattle.tape.specs.declared.progress.Line.{Line}
 use Rattle.tape.specs.declared.progress.Pace.{Pace}
 use Rattle.tape.specs.declared.progress.Pace.the-variants.{Going, Stopped}
+use Rattle.tape.specs.declared.rows.Row.{Row}
 use Rattle.tape.specs.Plan.{Nothing, Plan}
 use Rattle.tape.specs.Run.{run}
 use Rattle.bus.specs.Command.{appCommand}
@@ -34,9 +35,9 @@ use Rattle.host.specs.Calls.{Came, freshLine, initialised, readCame, statusCame
 
 -- a call: what is asked, its script, and its row list
 pub data Call : Type 0 where
-  initialise : (frequency : ℕ) (script list : List ℕ) → Call
-  read : (index bytes : ℕ) (script list : List ℕ) → Call
-  status : (script list : List ℕ) → Call
+  initialise : (frequency : ℕ) (script : List ℕ) (list : List Row) → Call
+  read : (index bytes : ℕ) (script : List ℕ) (list : List Row) → Call
+  status : (script : List ℕ) (list : List Row) → Call
 
 -- what it comes to on a host: what the contract of its method says
 unfoldable pub comes : Sdmmc → Call → Came
@@ -59,7 +60,7 @@ serve host (c ∷ cs) =
 -- What is told of a call, apart from the host that it leaves.
 
 -- the record that an initialisation gave: its plan takes the settings and the asked frequency alone
-unfoldable pub foundFrom : Settings → ℕ → ClockAnswer → List ℕ → List ℕ → Card
+unfoldable pub foundFrom : Settings → ℕ → ClockAnswer → List ℕ → List Row → Card
 foundFrom set frequency (Clocked.Refused e) s l = noCard
 foundFrom set frequency (Clocked.Set c) s l = run s noCard (I.initialise set c frequency) 0 0 (freshLine (c .frequency)) l .value
 
@@ -88,7 +89,7 @@ unfoldable pub going : Pace → Bool
 going Going = true
 going (Stopped x) = false
 
-unfoldable pub passed : Approach → Line → List ℕ → List ℕ → Bool
+unfoldable pub passed : Approach → Line → List ℕ → List Row → Bool
 passed none line s l = false
 passed (approach p) line s l = going (run s (tt {0}) p 0 0 line l .state .progress .pace)
 

@@ -15,6 +15,8 @@ use Rattle.types.specs.Answer.{errorTold, answerTold}
 use Rattle.text.specs.Digits.{decimalIn, decimalOf}
 use Rattle.text.specs.Typed.{typed}
 use Rattle.tape.proofs.Laws.{by-cases}
+use Rattle.tape.proofs.Layouts.{rows-long}
+use Rattle.tape.specs.Layout.{rowsIn}
 use Rattle.host.specs.declared.host.Sdmmc.{Sdmmc}
 use Rattle.host.specs.Calls.{made}
 use Rattle.calls.specs.Serve as S
@@ -105,15 +107,15 @@ call-line k a words rows hk hw hr =
 script-of : (c : L.Call) → scriptOf (callOf 4096 c) ≡ c .script
 script-of c = by-cases (λ (x : S.Call). scriptOf x ≡ c .script) (eqb (c .kind) 1) _ _ refl (by-cases (λ (x : S.Call). scriptOf x ≡ c .script) (eqb (c .kind) 2) _ _ refl refl)
 
-list-of : (c : L.Call) → listOf (callOf 4096 c) ≡ replicate 8192 0
-list-of c = by-cases (λ (x : S.Call). listOf x ≡ replicate 8192 0) (eqb (c .kind) 1) _ _ refl (by-cases (λ (x : S.Call). listOf x ≡ replicate 8192 0) (eqb (c .kind) 2) _ _ refl refl)
+list-of : (c : L.Call) → listOf (callOf 4096 c) ≡ rowsIn (replicate 4096 0)
+list-of c = by-cases (λ (x : S.Call). listOf x ≡ rowsIn (replicate 4096 0)) (eqb (c .kind) 1) _ _ refl (by-cases (λ (x : S.Call). listOf x ≡ rowsIn (replicate 4096 0)) (eqb (c .kind) 2) _ _ refl refl)
 
 came-line : (host : Sdmmc) (c : L.Call) (k : ℕ) → k ≤ 64 → length (c .script) ≤ 4096 → length (cameLine k (comes host (callOf 4096 c))) ≤ 34
 came-line host c k hk hs =
     let left = leaves host (callOf 4096 c) in
     let used = rw (script-of c) at (left .words) in
     let wrote = rw (list-of c) at (left .rows .within (omega arith)) in
-    call-line k _ _ _ hk (omega (arith, used, hs)) (omega (arith, wrote, length-replicate {A = ℕ} 8192 0))
+    call-line k _ _ _ hk (omega (arith, used, hs)) (omega (arith, wrote, rows-long (replicate 4096 0), length-replicate {A = ℕ} 4096 0))
 
 -- All calls of a book.
 

@@ -6,7 +6,7 @@ use mathlib.Core.Bool.{Bool, true, false, cond, not}
 use mathlib.Core.List.{List, []}
 use native.Mathlib.Omega.{arith}
 use lib.Dec.{ltb}
-use lib.ListN.{length, getD, length-set}
+use lib.ListN.{length, getD, length-set, set}
 use borrow.Author.Tests.{lt-ltb, le-ltb, ltb-true, ltb-false}
 use Rattle.types.specs.declared.error.Answer.{Answer}
 use Rattle.types.specs.declared.error.Answer.the-variants as Answered
@@ -14,7 +14,6 @@ use Rattle.tape.specs.declared.progress.Line.{Line}
 use Rattle.tape.specs.declared.rows.Row.{Row}
 use Rattle.tape.specs.declared.script.Reading.{Reading}
 use Rattle.tape.specs.Plan.{Plan, failed, ended}
-use Rattle.tape.specs.Rows.{rowAt, roomOf}
 use Rattle.tape.specs.Run.{After, run}
 use Rattle.host.specs.declared.host.Called.{Called}
 use Rattle.host.specs.declared.host.Sdmmc.{Sdmmc}
@@ -66,7 +65,7 @@ even s m g g′ u = at-even s (m .job) g g′ (m .known) (m .held) (m .at) u (m 
 
 module _ (s : List ℕ) where
   -- a reading that takes its word; and below, a row that is written
-  pub read-turn : (f : Feeding) (g l : List ℕ) (r : Reading) (call : Call) (place : ℕ) → f .used < length s
+  pub read-turn : (f : Feeding) (g : List ℕ) (l : List Row) (r : Reading) (call : Call) (place : ℕ) → f .used < length s
       → W.Read r ≡ wantOf (under g (f .call) .ahead)
       → ((g g′ : List ℕ) → HandedBy (wantOf (under g (f .call) .ahead)) (getD s (f .used) 0) g g′ → under g′ call ≡ answered (under g (f .call)) (getD s (f .used) 0))
       → place ≡ liesAt r (f .used) (f .place)
@@ -80,7 +79,7 @@ module _ (s : List ℕ) where
       (λ i. turned (E.Read r w) (record { call = goes g (handed r w g) hand i; used = f .used + 1; rows = f .rows; place = is i }) l)
 
   -- one that finds none
-  pub missed-turn : (f : Feeding) (g l : List ℕ) (r : Reading) (call : Call) → length s ≤ f .used
+  pub missed-turn : (f : Feeding) (g : List ℕ) (l : List Row) (r : Reading) (call : Call) → length s ≤ f .used
       → ((g : List ℕ) → under g call ≡ unanswered (under g (f .call)))
       → turnedOf g (record { event = E.Missed r; feeding = record { call = call; used = f .used; rows = f .rows; place = f .place } }) l
       ≡ turnBy s (wayOf g f) l (W.Read r)
@@ -88,20 +87,20 @@ module _ (s : List ℕ) where
   missed-turn f g l r call none goes =
       rw (le-ltb _ _ none) (λ i. turned (E.Missed r) (record { call = goes g i; used = f .used; rows = f .rows; place = f .place }) l)
 
-  pub row-turn : (f : Feeding) (g l : List ℕ) (r : Row) (call : Call) → f .rows < roomOf l
+  pub row-turn : (f : Feeding) (g : List ℕ) (l : List Row) (r : Row) (call : Call) → f .rows < length l
       → ((g : List ℕ) → under g call ≡ written (under g (f .call)))
-      → turnedOf g (record { event = E.Wrote r; feeding = record { call = call; used = f .used; rows = f .rows + 1; place = f .place } }) (rowAt l (f .rows) r)
+      → turnedOf g (record { event = E.Wrote r; feeding = record { call = call; used = f .used; rows = f .rows + 1; place = f .place } }) (set l (f .rows) r)
       ≡ turnBy s (wayOf g f) l (W.Write r)
   unfolding turnBy handedAt
   row-turn f g l r call room goes =
       rw (lt-ltb _ _ room)
-      (λ i. turned (E.Wrote r) (record { call = goes g i; used = f .used; rows = f .rows + 1; place = f .place }) (rowAt l (f .rows) r))
+      (λ i. turned (E.Wrote r) (record { call = goes g i; used = f .used; rows = f .rows + 1; place = f .place }) (set l (f .rows) r))
 
   -- a turn is the one that is waited for
-  pub as-wanted : (w : Way) (l : List ℕ) (x : Wants) (t : Turned) → x ≡ wantOf (w .call .ahead) → t ≡ turnBy s w l x → t ≡ turnOf s w l
+  pub as-wanted : (w : Way) (l : List Row) (x : Wants) (t : Turned) → x ≡ wantOf (w .call .ahead) → t ≡ turnBy s w l x → t ≡ turnOf s w l
   as-wanted w l x t e is = is ∙ ap (turnBy s w l) e
 
-  module _ (b : Sdmmc) (u n q : ℕ) (l : List ℕ) where
+  module _ (b : Sdmmc) (u n q : ℕ) (l : List Row) where
     abbrev at : Next Closing → Way
     at x = record { call = record { before = b; ahead = x }; used = u; rows = n; place = q }
 
@@ -153,15 +152,15 @@ module _ (s : List ℕ) where
     module _ (h : Line) (r : Row) (p : Plan Closing) where
       abbrev wrote : Turned
       wrote =
-          turned (E.Wrote r) (record { call = written (at (tells h r p) .call); used = u; rows = n + 1; place = q }) (rowAt l n r)
+          turned (E.Wrote r) (record { call = written (at (tells h r p) .call); used = u; rows = n + 1; place = q }) (set l n r)
 
       abbrev full : Turned
       full = turned (E.Full r) (at (tells h r p)) l
 
-      tells-goes : (t : Bool) → ltb n (roomOf l) ≡ t → goesOn (cond t wrote full .event) ≡ true → Goes (cond t wrote full) (tells h r p)
+      tells-goes : (t : Bool) → ltb n (length l) ≡ t → goesOn (cond t wrote full .event) ≡ true → Goes (cond t wrote full) (tells h r p)
       unfolding goesOn
       tells-goes true within e =
-          let room = ltb-true n (roomOf l) within in
+          let room = ltb-true n (length l) within in
           record {
             fed = ap (cameOf b) (sym (run-told s (noClosing b) h r p u n l room));
             place = sym (place-told s h r p q u n l room);
@@ -170,11 +169,11 @@ module _ (s : List ℕ) where
           }
       tells-goes false within e = absurd (not-both e refl)
 
-      tells-ends : (t : Bool) → ltb n (roomOf l) ≡ t → goesOn (cond t wrote full .event) ≡ false → Ends (cond t wrote full) (tells h r p)
+      tells-ends : (t : Bool) → ltb n (length l) ≡ t → goesOn (cond t wrote full .event) ≡ false → Ends (cond t wrote full) (tells h r p)
       unfolding goesOn calledWith closedOf cameBy
       tells-ends true within e = absurd (not-both refl e)
       tells-ends false within e =
-          let none = ltb-false n (roomOf l) within in
+          let none = ltb-false n (length l) within in
           let stops = run-full s (noClosing b) h r p u n l none in
           record {
             called = ap (λ (x : After Closing). calledOf (cameOf b x)) (sym stops);
@@ -185,29 +184,29 @@ module _ (s : List ℕ) where
     goes : (x : Next Closing) → goesOn (turnOf s (at x) l .event) ≡ true → Goes (turnOf s (at x) l) x
     unfolding turnBy wantOf goesOn
     goes (asks h r k z) e = asks-goes h r k z (ltb u (length s)) refl
-    goes (tells h r p) e = tells-goes h r p (ltb n (roomOf l)) refl e
+    goes (tells h r p) e = tells-goes h r p (ltb n (length l)) refl e
     goes (over h a) e = absurd (not-both e refl)
     goes (refused h c) e = absurd (not-both e refl)
 
     ends : (x : Next Closing) → goesOn (turnOf s (at x) l .event) ≡ false → Ends (turnOf s (at x) l) x
     unfolding turnBy wantOf runNext placeNext cameBy calledWith closedOf
     ends (asks h r k z) e = absurd (not-both (asks-on h r k z (ltb u (length s))) e)
-    ends (tells h r p) e = tells-ends h r p (ltb n (roomOf l)) refl e
+    ends (tells h r p) e = tells-ends h r p (ltb n (length l)) refl e
     ends (over h a) e = record { called = refl; list = refl; place = refl }
     ends (refused h (failed x)) e = record { called = refl; list = refl; place = refl }
     ends (refused h ended) e = record { called = refl; list = refl; place = refl }
 
   -- the same of any way: a turn that another follows keeps what the call comes to, and the last one tells it
-  pub turn-keeps : (w : Way) (l : List ℕ) → goesOn (turnOf s w l .event) ≡ true
+  pub turn-keeps : (w : Way) (l : List Row) → goesOn (turnOf s w l .event) ≡ true
       → fedFrom s (turnOf s w l .next) (turnOf s w l .list) ≡ fedFrom s w l
   turn-keeps w l e = goes (w .call .before) (w .used) (w .rows) (w .place) l (w .call .ahead) e .fed
 
   -- and leaves one turn fewer
-  pub turn-fewer : (w : Way) (l : List ℕ) → goesOn (turnOf s w l .event) ≡ true
+  pub turn-fewer : (w : Way) (l : List Row) → goesOn (turnOf s w l .event) ≡ true
       → nextSpan s (w .call .ahead) (w .used) ≡ suc (nextSpan s (turnOf s w l .next .call .ahead) (turnOf s w l .next .used))
   turn-fewer w l e = goes (w .call .before) (w .used) (w .rows) (w .place) l (w .call .ahead) e .fewer
 
-  pub turn-left : (f : Feeding) (t : Turn) (g l l′ : List ℕ) → turnedOf g t l′ ≡ turnOf s (wayOf g f) l → goesOn (t .event) ≡ true
+  pub turn-left : (f : Feeding) (t : Turn) (g : List ℕ) (l l′ : List Row) → turnedOf g t l′ ≡ turnOf s (wayOf g f) l → goesOn (t .event) ≡ true
       → nextSpan s (under [] (f .call) .ahead) (f .used) ≡ suc (nextSpan s (under [] (t .feeding .call) .ahead) (t .feeding .used))
   turn-left f t g l l′ is e =
       even s (f .call) [] g (f .used)
@@ -215,21 +214,21 @@ module _ (s : List ℕ) where
       ∙ ap (λ (t : Turned). suc (nextSpan s (t .next .call .ahead) (t .next .used))) (sym is)
       ∙ ap suc (even s (t .feeding .call) (handedAt (t .event) g) [] (t .feeding .used))
 
-  pub turn-closes : (w : Way) (l : List ℕ) → goesOn (turnOf s w l .event) ≡ false
+  pub turn-closes : (w : Way) (l : List Row) → goesOn (turnOf s w l .event) ≡ false
       → calledAt (turnOf s w l .next) ≡ calledOf (fedFrom s w l)
   turn-closes w l e = ends (w .call .before) (w .used) (w .rows) (w .place) l (w .call .ahead) e .called
 
   -- on its way from w₀, with the list l₀; `out` are the data words handed out so far
-  pub record On (w₀ : Way) (l₀ : List ℕ) (f : Feeding) (l : List ℕ) : Type 0 where
+  pub record On (w₀ : Way) (l₀ : List Row) (f : Feeding) (l : List Row) : Type 0 where
     pub out : List ℕ
     pub fed : fedFrom s (wayOf out f) l ≡ fedFrom s w₀ l₀
     pub place : placeFrom s (wayOf out f) l ≡ placeFrom s w₀ l₀
     pub long : length l ≡ length l₀
 
-  pub begun : (f : Feeding) (l : List ℕ) → On (wayOf [] f) l f l
+  pub begun : (f : Feeding) (l : List Row) → On (wayOf [] f) l f l
   begun f l = record { out = []; fed = refl; place = refl; long = refl }
 
-  module _ {w₀ : Way} {l₀ : List ℕ} {f : Feeding} {l : List ℕ} (on : On w₀ l₀ f l) (t : Turn) (l′ : List ℕ)
+  module _ {w₀ : Way} {l₀ : List Row} {f : Feeding} {l : List Row} (on : On w₀ l₀ f l) (t : Turn) (l′ : List Row)
       (is : (g : List ℕ) → turnedOf g t l′ ≡ turnOf s (wayOf g f) l) where
     abbrev there : Turned
     there = turnOf s (wayOf (on .out) f) l
@@ -268,7 +267,7 @@ module _ (s : List ℕ) where
         )
 
   -- from its start, a call that begins as a plan comes to what the plan does
-  module _ (u : Under) (host : Sdmmc) (p : Plan Closing) (l : List ℕ) (begins : u ≡ record { before = host; ahead = next p (host .line) }) where
+  module _ (u : Under) (host : Sdmmc) (p : Plan Closing) (l : List Row) (begins : u ≡ record { before = host; ahead = next p (host .line) }) where
     pub fed-whole : fedFrom s (starts u) l ≡ cameOf host (run s (noClosing host) p 0 0 (host .line) l)
     fed-whole =
         ap (λ (u : Under). fedFrom s (starts u) l) begins ∙ ap (cameOf host) (run-next s (noClosing host) p 0 0 (host .line) l)

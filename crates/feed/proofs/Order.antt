@@ -6,7 +6,7 @@ use mathlib.Core.List.{List, [], _∷_}
 use native.Mathlib.Omega.{arith}
 use native.Mathlib.Decide.{decLt}
 use lib.Dec.{eqb, ltb}
-use lib.ListN.{length, getD, take, drop}
+use lib.ListN.{length, getD, take, drop, set}
 use lib.Seq.{drop-cons}
 use borrow.Author.Tests.{lt-ltb, le-ltb, ne-eqb}
 use Rattle.types.specs.declared.card.AddressAnswer.{AddressAnswer}
@@ -21,10 +21,10 @@ use Rattle.tape.specs.declared.progress.Halt.the-variants.{Refused, ScriptEnded
 use Rattle.tape.specs.declared.progress.Line.{Line}
 use Rattle.tape.specs.declared.progress.Pace.{Pace}
 use Rattle.tape.specs.declared.progress.Pace.the-variants.{Going, Stopped}
+use Rattle.tape.specs.declared.rows.Row.{Row}
 use Rattle.tape.specs.declared.script.Reading.{Reading}
 use Rattle.tape.specs.declared.script.Reading.the-variants as Reading
 use Rattle.tape.specs.Plan.{Nothing, Plan, Cause, failed, ended, give, refuse, read, write, look, hold, handle, _then_, refusing, ensure, until}
-use Rattle.tape.specs.Rows.{rowAt, roomOf}
 use Rattle.tape.specs.Run.{State, After, after, noted, run, runFrom, nextAt}
 use Rattle.tape.specs.Steps.{word, row, waitIdle, resetController, stopData, setClken, dataFrom, dataWords}
 use Rattle.tape.proofs.Laws.{by-cases, run-handle}
@@ -61,13 +61,13 @@ by-place : (b : Bool) {x y q : ℕ} → x ≡ q → y ≡ q → cond b x y ≡ q
 by-place true e e′ = e
 by-place false e e′ = e′
 
-stays : {A : Type 0} (s : List ℕ) (p : Plan A) (q u n : ℕ) (h : Line) (l : List ℕ) → dataless p → placeRun s p q u n h l ≡ q
+stays : {A : Type 0} (s : List ℕ) (p : Plan A) (q u n : ℕ) (h : Line) (l : List Row) → dataless p → placeRun s p q u n h l ≡ q
 unfolding dataless placeRun
 stays s (give a) q u n h l b = refl
 stays s (refuse c) q u n h l b = refl
 stays s (read r k z) q u n h l b =
     by-place (ltb u (length s)) (stays s (k (getD s u 0)) (liesAt r u q) (u + 1) n h l (b .1 (getD s u 0)) ∙ b .0 u q) (stays s z q u n h l (b .2))
-stays s (write r p) q u n h l b = by-place (ltb n (roomOf l)) (stays s p q u (n + 1) (noted r h) (rowAt l n r) b) refl
+stays s (write r p) q u n h l b = by-place (ltb n (length l)) (stays s p q u (n + 1) (noted r h) (set l n r) b) refl
 stays s (look k) q u n h l b = stays s (k h) q u n h l (b h)
 stays s (hold h′ p) q u n h l b = stays s p q u n h′ l b
 
@@ -198,7 +198,7 @@ module _ (s : List ℕ) where
   by-both g true e e′ = e
   by-both g false e e′ = e′
 
-  place-handle : {A B : Type 0} (d : A) (f : A → Plan B) (g : Cause → Plan B) (p : Plan A) (q u n : ℕ) (h : Line) (l : List ℕ)
+  place-handle : {A B : Type 0} (d : A) (f : A → Plan B) (g : Cause → Plan B) (p : Plan A) (q u n : ℕ) (h : Line) (l : List Row)
       → placeRun s (handle f g p) q u n h l ≡ placed f g (run s d p u n h l) (placeRun s p q u n h l)
   unfolding run handle placeRun placeThen
   place-handle d f g (give a) q u n h l = refl
@@ -208,7 +208,7 @@ module _ (s : List ℕ) where
       by-both (placed f g) (ltb u (length s)) (place-handle d f g (k (getD s u 0)) (liesAt r u q) (u + 1) n h l)
       (place-handle d f g z q u n h l)
   place-handle {A} d f g (write r p) q u n h l =
-      by-both (placed f g) (ltb n (roomOf l)) (place-handle d f g p q u (n + 1) (noted r h) (rowAt l n r)) refl
+      by-both (placed f g) (ltb n (length l)) (place-handle d f g p q u (n + 1) (noted r h) (set l n r)) refl
   place-handle d f g (look k) q u n h l = place-handle d f g (k h) q u n h l
   place-handle d f g (hold h′ p) q u n h l = place-handle d f g p q u n h′ l
 
@@ -216,20 +216,20 @@ module _ (s : List ℕ) where
   Lain ws place = ws ≡ take (length ws) (drop place s)
 
   record Laid (A : Type 0) (d : A) (taken : A → List ℕ) (p : Plan A) : Type 0 where
-    each : (q u n : ℕ) (h : Line) (l : List ℕ) → Lain (taken (run s d p u n h l .value)) (placeRun s p q u n h l)
+    each : (q u n : ℕ) (h : Line) (l : List Row) → Lain (taken (run s d p u n h l .value)) (placeRun s p q u n h l)
 
   -- a plan whose values, and whose refusals, are laid by what comes after it
   module _ {A B : Type 0} (d : A) (d′ : B) (taken : B → List ℕ) (none : taken d′ ≡ []) (f : A → Plan B) (g : Cause → Plan B) (p : Plan A) where
     laid-handle :
-        ((q u n u′ n′ : ℕ) (h h′ : Line) (l l′ : List ℕ) → run s d p u n h l .state .progress .pace ≡ Going
+        ((q u n u′ n′ : ℕ) (h h′ : Line) (l l′ : List Row) → run s d p u n h l .state .progress .pace ≡ Going
         → Lain (taken (run s d′ (f (run s d p u n h l .value)) u′ n′ h′ l′ .value)) (placeRun s (f (run s d p u n h l .value)) (placeRun s p q u n h l) u′ n′ h′ l′))
-        → ((e : Cause) (q u n : ℕ) (h : Line) (l : List ℕ) → Lain (taken (run s d′ (g e) u n h l .value)) (placeRun s (g e) q u n h l))
+        → ((e : Cause) (q u n : ℕ) (h : Line) (l : List Row) → Lain (taken (run s d′ (g e) u n h l .value)) (placeRun s (g e) q u n h l))
         → Laid B d′ taken (handle f g p)
     unfolding nextAt placeThen
     laid-handle good bad =
         record { each = λ q u n h l. rw (run-handle s d d′ f g p u n h l, place-handle d f g p q u n h l) (by q u n h l (run s d p u n h l .state .progress .pace) refl) }
       where
-        by : (q u n : ℕ) (h : Line) (l : List ℕ) (a : Pace) → run s d p u n h l .state .progress .pace ≡ a
+        by : (q u n : ℕ) (h : Line) (l : List Row) (a : Pace) → run s d p u n h l .state .progress .pace ≡ a
             → Lain (taken (nextAt s d′ f g (run s d p u n h l .value) a (run s d p u n h l .state) .value))
             (placeThen f g (run s d p u n h l .value) a (run s d p u n h l .state) (placeRun s p q u n h l))
         by q u n h l Going going = good q u n _ _ h _ l _ going
@@ -245,14 +245,14 @@ module _ (s : List ℕ) where
   data-dataless k (suc n) some =
       on-then (on-word (Reading.Data k) (λ u q. rw (ne-eqb k 0 (λ e. omega arith)))) (λ w. on-then (data-dataless (k + 1) n (omega arith)) (λ ws. on-give))
 
-  module _ (k n u m : ℕ) (h : Line) (l : List ℕ) (some : u < length s) where
+  module _ (k n u m : ℕ) (h : Line) (l : List Row) (some : u < length s) where
     one : run s [] (dataFrom k (suc n)) u m h l
         ≡ nextAt s [] (λ ws. give (getD s u 0 ∷ ws)) refuse (run s [] (dataFrom (k + 1) n) (u + 1) m h l .value)
         (run s [] (dataFrom (k + 1) n) (u + 1) m h l .state .progress .pace) (run s [] (dataFrom (k + 1) n) (u + 1) m h l .state)
     unfolding dataFrom handle run word
     one = rw (lt-ltb u (length s) some) (run-handle s [] [] (λ ws. give (getD s u 0 ∷ ws)) refuse (dataFrom (k + 1) n) (u + 1) m h l)
 
-  data-lain : (k n u m : ℕ) (h : Line) (l : List ℕ) → Lain (run s [] (dataFrom k n) u m h l .value) u
+  data-lain : (k n u m : ℕ) (h : Line) (l : List Row) → Lain (run s [] (dataFrom k n) u m h l .value) u
   unfolding dataFrom run nextAt handle word
   data-lain k zero u m h l = refl
   data-lain k (suc n) u m h l = by (decLt u (length s)) (data-lain (k + 1) n (u + 1) m h l)
@@ -277,7 +277,7 @@ module _ (s : List ℕ) where
   data-laid zero = record { each = λ q u m h l. refl }
   data-laid (suc n) = record { each = λ q u m h l. by q u m h l (decLt u (length s)) }
     where
-      by : (q u m : ℕ) (h : Line) (l : List ℕ) → Dec (u < length s)
+      by : (q u m : ℕ) (h : Line) (l : List Row) → Dec (u < length s)
           → Lain (run s [] (dataFrom 0 (suc n)) u m h l .value) (placeRun s (dataFrom 0 (suc n)) q u m h l)
       by q u m h l (yes some) =
           let rest = on-then (data-dataless 1 n (omega arith)) (λ (ws : List ℕ). on-give {a = getD s u 0 ∷ ws}) in
@@ -292,7 +292,7 @@ module _ (s : List ℕ) where
   laid-after d p f v = laid-handle d [] (λ ws. ws) refl f refuse p (λ q u n u′ n′ h h′ l l′ going. v _ .each _ u′ n′ h′ l′) (λ e q u n h l. refl)
 
   -- rows and readings, and then no value at all
-  refusing-none : (p : Plan Nothing) (c : Cause) (u n : ℕ) (h : Line) (l : List ℕ) → _≡_ {A = List ℕ} (run s [] (refusing p c) u n h l .value) []
+  refusing-none : (p : Plan Nothing) (c : Cause) (u n : ℕ) (h : Line) (l : List Row) → _≡_ {A = List ℕ} (run s [] (refusing p c) u n h l .value) []
   unfolding nextAt run
   refusing-none p c u n h l = rw (run-handle s {B = List ℕ} (tt {0}) [] (λ _. refuse c) refuse p u n h l) (by (x .state .progress .pace))
     where
@@ -369,7 +369,7 @@ module _ (s : List ℕ) where
         by-cases LaidCall (host .known) _ _
         (by-cases LaidCall (eqb (bytes % 512) 0) _ _ (at-laid (bytes / 512) _) (keeping-laid E.InvalidBufferLength)) (keeping-laid E.NoCard)
 
-    read-lain : (index bytes : ℕ) (l : List ℕ)
+    read-lain : (index bytes : ℕ) (l : List Row)
         → Lain (readCame host index bytes s l .taken) (placeRun s (readCall host index bytes) 0 0 0 (host .line) l)
     unfolding cameBy
     read-lain index bytes l =
@@ -406,7 +406,7 @@ ends-own host refused accepted words (Stopped (Refused e)) w = refl
 ends-own host refused accepted words (Stopped ScriptEnded) w = refl
 ends-own host refused accepted words (Stopped TraceFull) w = refl
 
-module _ (host : Sdmmc) (index bytes : ℕ) (s l : List ℕ) where
+module _ (host : Sdmmc) (index bytes : ℕ) (s : List ℕ) (l : List Row) where
   from-own : (a : AddressAnswer) → Own (readFrom host (bytes / 512) a s l)
   unfolding readFrom served approached transferred takenBy
   from-own (Address.Refused e) = refl

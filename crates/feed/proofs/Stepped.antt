@@ -5,14 +5,13 @@ use mathlib.Core.Path.{_≡_, refl, ap, sym, _∙_}
 use mathlib.Core.List.{List, [], _∷_}
 use native.Mathlib.Omega.{arith}
 use native.Mathlib.Decide.{decLt}
-use lib.ListN.{length, getD, take, length-take}
+use lib.ListN.{length, getD, take, length-take, set}
 use Rattle.types.specs.declared.error.Answer.{Answer}
 use Rattle.types.specs.declared.error.Answer.the-variants as Answered
 use Rattle.types.specs.Words.{bytesOf}
 use Rattle.tape.specs.declared.rows.Row.{Row}
 use Rattle.tape.specs.declared.script.Reading.{Reading}
 use Rattle.tape.specs.Plan.{failed, ended}
-use Rattle.tape.specs.Rows.{rowAt, roomOf}
 use Rattle.tape.specs.Run.{After}
 use Rattle.host.specs.declared.host.Called.{Called}
 use Rattle.host.specs.declared.host.Sdmmc.{Sdmmc}
@@ -53,10 +52,10 @@ rowIn W.Nothing = record { register = 0; value = 0 }
 
 module _ (s : List ℕ) where
   -- what a call comes to from there on
-  abbrev comesTo : Under → ℕ → ℕ → List ℕ → Came
+  abbrev comesTo : Under → ℕ → ℕ → List Row → Came
   comesTo u used n l = cameOf (u .before) (runNext s (noClosing (u .before)) (u .ahead) used n l)
 
-  module _ (host : Sdmmc) (u n : ℕ) (l : List ℕ) where
+  module _ (host : Sdmmc) (u n : ℕ) (l : List Row) where
     abbrev at : Next Closing → Under
     at x = record { before = host; ahead = x }
 
@@ -75,12 +74,12 @@ module _ (s : List ℕ) where
     missed-same (over h a) q e none = cc
     missed-same (refused h c) q e none = cc
 
-    told-same : (x : Next Closing) (r : Row) → W.Write r ≡ wantOf x → n < roomOf l
-        → comesTo (at (told x)) u (n + 1) (rowAt l n r) ≡ comesTo (at x) u n l
+    told-same : (x : Next Closing) (r : Row) → W.Write r ≡ wantOf x → n < length l
+        → comesTo (at (told x)) u (n + 1) (set l n r) ≡ comesTo (at x) u n l
     unfolding wantOf
     told-same (asks h r k z) q e room = cc
     told-same (tells h r p) q e room =
-        ap (λ (q : Row). comesTo (at (told (tells h r p))) u (n + 1) (rowAt l n q)) (ap rowIn e)
+        ap (λ (q : Row). comesTo (at (told (tells h r p))) u (n + 1) (set l n q)) (ap rowIn e)
         ∙ ap (cameOf host) (sym (run-told s (noClosing host) h r p u n l room))
     told-same (over h a) q e room = cc
     told-same (refused h c) q e room = cc
@@ -98,7 +97,7 @@ module _ (s : List ℕ) where
     closed-comes (refused h (failed c)) answer e = let same : answer ≡ Answered.Refused c = cc in (rw same, refl)
     closed-comes (refused h ended) answer e = let same : answer ≡ Answered.ScriptEnded = cc in (rw same, refl)
 
-    full-comes : (x : Next Closing) (r : Row) → W.Write r ≡ wantOf x → roomOf l ≤ n
+    full-comes : (x : Next Closing) (r : Row) → W.Write r ≡ wantOf x → length l ≤ n
         → Comes (record { answer = Answered.TraceFull; words = u; rows = n; host = host }) x
     unfolding wantOf cameBy
     full-comes (asks h r k z) q e dry = (cc, cc)
@@ -117,7 +116,7 @@ module _ (s : List ℕ) where
   turn-same (misses {m = m} {g = g} {u = u} {n = n} {l = l} r e none goes) =
       ap (λ (v : Under). comesTo v u n l) goes ∙ missed-same (under g m .before) u n l (under g m .ahead) r e none
   turn-same (writes {m = m} {g = g} {u = u} {n = n} {l = l} r e room goes) =
-      ap (λ (v : Under). comesTo v u (n + 1) (rowAt l n r)) goes ∙ told-same (under g m .before) u n l (under g m .ahead) r e room
+      ap (λ (v : Under). comesTo v u (n + 1) (set l n r)) goes ∙ told-same (under g m .before) u n l (under g m .ahead) r e room
 
   -- each answer is one turn less of what is ahead
   abbrev turnsLeft : Midway → ℕ
@@ -239,7 +238,7 @@ module _ (m : Call) (g : List ℕ) where
       by (A.Over (Z.Dropping x)) e = λ many. absurd (omega arith)
 
 module _ (s : List ℕ) where
-  taken-closed : (host : Sdmmc) (u n : ℕ) (l : List ℕ) (x : Next Closing) (answer : Answer)
+  taken-closed : (host : Sdmmc) (u n : ℕ) (l : List Row) (x : Next Closing) (answer : Answer)
       → closedOf (record { before = host; ahead = x }) .outcome ≡ O.Over answer → comesTo s (record { before = host; ahead = x }) u n l .taken ≡ takenIn x
   unfolding closedOf runNext cameBy takenIn
   taken-closed host u n l (asks h r k z) answer e = cc
@@ -253,7 +252,7 @@ module _ (s : List ℕ) where
       rw (taken-closed (under g m .before) u n l (under g m .ahead) answer e) (over-handed m g (e ∙ ap O.Over ok))
   left-handed (full r e dry) ok = absurd (other-answer 2 refl refl ok)
 
-module _ {host : Sdmmc} {index bytes : ℕ} {s l : List ℕ} {r : Called} {last : Midway} (x : Stepped host (S.read index bytes s l) r last) where
+module _ {host : Sdmmc} {index bytes : ℕ} {s : List ℕ} {l : List Row} {r : Called} {last : Midway} (x : Stepped host (S.read index bytes s l) r last) where
   pub stepped-words : r .answer ≡ Answered.Accepted → readCame host index bytes s l .taken ≡ take (128 * (bytes / 512)) (last .out)
   unfolding scriptBy comes
   stepped-words ok =

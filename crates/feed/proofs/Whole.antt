@@ -17,6 +17,7 @@ use Rattle.tape.specs.declared.progress.Halt.the-variants.{Refused, ScriptEnded
 use Rattle.tape.specs.declared.progress.Line.{Line}
 use Rattle.tape.specs.declared.progress.Pace.{Pace}
 use Rattle.tape.specs.declared.progress.Pace.the-variants.{Going, Stopped}
+use Rattle.tape.specs.declared.rows.Row.{Row}
 use Rattle.tape.specs.Plan.{Nothing, Plan, failed, handle}
 use Rattle.tape.specs.Run.{State, run, runFrom, nextAt}
 use Rattle.tape.proofs.Laws.{run-handle}
@@ -36,7 +37,7 @@ either : {X Y : Type 0} (g : X → Y) (b : Bool) {p q : X} {x y : Y} → x ≡ g
 either g true e e′ = e
 either g false e e′ = e′
 
-module _ (host : Sdmmc) (s l : List ℕ) where
+module _ (host : Sdmmc) (s : List ℕ) (l : List Row) where
   abbrev came : Plan Closing → Came
   came p = cameOf host (run s (noClosing host) p 0 0 (host .line) l)
 

@@ -3,17 +3,17 @@ use Prim.Native.Nat.{ℕ, suc, _+_, _*_, _/_}
 use mathlib.Core.Bool.{cond}
 use mathlib.Core.List.{List, []}
 use lib.Dec.{eqb, ltb}
-use lib.ListN.{length, getD}
+use lib.ListN.{length, getD, set}
 use Rattle.types.specs.declared.error.Answer.{Answer}
 use Rattle.types.specs.declared.error.Answer.the-variants as Answered
 use Rattle.tape.specs.declared.progress.Halt.the-variants.{Refused, ScriptEnded, TraceFull}
 use Rattle.tape.specs.declared.progress.Line.{Line}
 use Rattle.tape.specs.declared.progress.Pace.{Pace}
 use Rattle.tape.specs.declared.progress.Pace.the-variants.{Going, Stopped}
+use Rattle.tape.specs.declared.rows.Row.{Row}
 use Rattle.tape.specs.declared.script.Reading.{Reading}
 use Rattle.tape.specs.declared.script.Reading.the-variants as Reading
 use Rattle.tape.specs.Plan.{Plan, give, refuse, read, write, look, hold}
-use Rattle.tape.specs.Rows.{rowAt, roomOf}
 use Rattle.tape.specs.Run.{State, After, after, haltOf, noted, run}
 use Rattle.host.specs.declared.host.Sdmmc.{Sdmmc}
 use Rattle.host.specs.Calls.{Came, came}
@@ -21,7 +21,7 @@ use Rattle.step.specs.Next.{Next, asks, tells, over, refused}
 use Rattle.stepping.specs.Closing.{Closing}
 
 -- what is ahead, on the script s, from u words and n rows of l; it gives d where it stops
-unfoldable pub runNext : {A : Type 0} → List ℕ → A → Next A → ℕ → ℕ → List ℕ → After A
+unfoldable pub runNext : {A : Type 0} → List ℕ → A → Next A → ℕ → ℕ → List Row → After A
 runNext s d (asks h r k z) u n l = run s d (read r k z) u n h l
 runNext s d (tells h r p) u n l = run s d (write r p) u n h l
 runNext s d (over h a) u n l = after a Going u n h l
@@ -51,16 +51,16 @@ liesAt Reading.DCount u place = place
 liesAt (Reading.Data k) u place = cond (eqb k 0) u place
 
 -- and after a run
-unfoldable pub placeRun : {A : Type 0} → List ℕ → Plan A → ℕ → ℕ → ℕ → Line → List ℕ → ℕ
+unfoldable pub placeRun : {A : Type 0} → List ℕ → Plan A → ℕ → ℕ → ℕ → Line → List Row → ℕ
 placeRun s (give a) place u n h l = place
 placeRun s (refuse c) place u n h l = place
 placeRun s (read r k z) place u n h l =
     cond (ltb u (length s)) (placeRun s (k (getD s u 0)) (liesAt r u place) (u + 1) n h l) (placeRun s z place u n h l)
-placeRun s (write r p) place u n h l = cond (ltb n (roomOf l)) (placeRun s p place u (n + 1) (noted r h) (rowAt l n r)) place
+placeRun s (write r p) place u n h l = cond (ltb n (length l)) (placeRun s p place u (n + 1) (noted r h) (set l n r)) place
 placeRun s (look k) place u n h l = placeRun s (k h) place u n h l
 placeRun s (hold h′ p) place u n h l = placeRun s p place u n h′ l
 
-unfoldable pub placeNext : {A : Type 0} → List ℕ → Next A → ℕ → ℕ → ℕ → List ℕ → ℕ
+unfoldable pub placeNext : {A : Type 0} → List ℕ → Next A → ℕ → ℕ → ℕ → List Row → ℕ
 placeNext s (asks h r k z) place u n l = placeRun s (read r k z) place u n h l
 placeNext s (tells h r p) place u n l = placeRun s (write r p) place u n h l
 placeNext s (over h a) place u n l = place

@@ -3,13 +3,12 @@
 use Prim.Native.Nat.{ℕ, _+_, _<_, _≤_}
 use mathlib.Core.Path.{_≡_}
 use mathlib.Core.List.{List, [], _∷_}
-use lib.ListN.{length, getD}
+use lib.ListN.{length, getD, set}
 use Rattle.types.specs.declared.error.Answer.{Answer}
 use Rattle.types.specs.declared.error.Answer.the-variants as Answered
 use Rattle.tape.specs.declared.rows.Row.{Row}
 use Rattle.tape.specs.declared.script.Reading.{Reading}
 use Rattle.tape.specs.Plan.{Plan}
-use Rattle.tape.specs.Rows.{rowAt, roomOf}
 use Rattle.host.specs.declared.host.Called.{Called}
 use Rattle.host.specs.declared.host.Sdmmc.{Sdmmc}
 use Rattle.calls.specs.Serve as S
@@ -27,25 +26,25 @@ pub record Midway : Type 0 where
   pub out : List ℕ
   pub used : ℕ
   pub rows : ℕ
-  pub list : List ℕ
+  pub list : List Row
 
-abbrev pub midway : Call → List ℕ → ℕ → ℕ → List ℕ → Midway
+abbrev pub midway : Call → List ℕ → ℕ → ℕ → List Row → Midway
 midway m g u n l = record { call = m; out = g; used = u; rows = n; list = l }
 
 module _ (s : List ℕ) where
   pub data Turn : Midway → Midway → Type 0 where
-    hears : {m m′ : Call} {g g′ : List ℕ} {u n : ℕ} {l : List ℕ} (r : Reading)
+    hears : {m m′ : Call} {g g′ : List ℕ} {u n : ℕ} {l : List Row} (r : Reading)
         → W.Read r ≡ wantOf (under g m .ahead) → u < length s → Handed r (getD s u 0) g g′
         → under g′ m′ ≡ answered (under g m) (getD s u 0)
         → Turn (midway m g u n l) (midway m′ g′ (u + 1) n l)
-    misses : {m m′ : Call} {g : List ℕ} {u n : ℕ} {l : List ℕ} (r : Reading)
+    misses : {m m′ : Call} {g : List ℕ} {u n : ℕ} {l : List Row} (r : Reading)
         → W.Read r ≡ wantOf (under g m .ahead) → length s ≤ u
         → under g m′ ≡ unanswered (under g m)
         → Turn (midway m g u n l) (midway m′ g u n l)
-    writes : {m m′ : Call} {g : List ℕ} {u n : ℕ} {l : List ℕ} (r : Row)
-        → W.Write r ≡ wantOf (under g m .ahead) → n < roomOf l
+    writes : {m m′ : Call} {g : List ℕ} {u n : ℕ} {l : List Row} (r : Row)
+        → W.Write r ≡ wantOf (under g m .ahead) → n < length l
         → under g m′ ≡ written (under g m)
-        → Turn (midway m g u n l) (midway m′ g u (n + 1) (rowAt l n r))
+        → Turn (midway m g u n l) (midway m′ g u (n + 1) (set l n r))
 
   pub data Turns : Midway → Midway → Type 0 where
     still : {x : Midway} → Turns x x
@@ -53,9 +52,9 @@ module _ (s : List ℕ) where
 
   -- what it has come to there
   pub data Left : Midway → Called → Type 0 where
-    closed : {m : Call} {g : List ℕ} {u n : ℕ} {l : List ℕ} (answer : Answer) → closedOf (under g m) .outcome ≡ O.Over answer
+    closed : {m : Call} {g : List ℕ} {u n : ℕ} {l : List Row} (answer : Answer) → closedOf (under g m) .outcome ≡ O.Over answer
         → Left (midway m g u n l) (record { answer = answer; words = u; rows = n; host = closedOf (under g m) .host })
-    full : {m : Call} {g : List ℕ} {u n : ℕ} {l : List ℕ} (r : Row) → W.Write r ≡ wantOf (under g m .ahead) → roomOf l ≤ n
+    full : {m : Call} {g : List ℕ} {u n : ℕ} {l : List Row} (r : Row) → W.Write r ≡ wantOf (under g m .ahead) → length l ≤ n
         → Left (midway m g u n l) (record { answer = Answered.TraceFull; words = u; rows = n; host = under g m .before })
 
 -- the calls of a list
@@ -69,7 +68,7 @@ scriptBy (S.initialise frequency s l) = s
 scriptBy (S.read index bytes s l) = s
 scriptBy (S.status s l) = s
 
-unfoldable pub listBy : S.Call → List ℕ
+unfoldable pub listBy : S.Call → List Row
 listBy (S.initialise frequency s l) = l
 listBy (S.read index bytes s l) = l
 listBy (S.status s l) = l

@@ -4,9 +4,9 @@ use Prim.Native.Nat.{ℕ, _+_}
 use mathlib.Core.Bool.{Bool, true, false, cond}
 use mathlib.Core.List.{List}
 use lib.Dec.{ltb}
-use lib.ListN.{length, getD}
+use lib.ListN.{length, getD, set}
 use Rattle.types.specs.declared.error.Answer.the-variants as Answered
-use Rattle.tape.specs.Rows.{rowAt, roomOf}
+use Rattle.tape.specs.declared.rows.Row.{Row}
 use Rattle.host.specs.declared.host.Called.{Called}
 use Rattle.host.specs.declared.host.Sdmmc.{Sdmmc}
 use Rattle.host.specs.Calls.{Came}
@@ -40,34 +40,34 @@ wayOf g f = record { call = under g (f .call); used = f .used; rows = f .rows; p
 pub record Turned : Type 0 where
   pub event : Event
   pub next : Way
-  pub list : List ℕ
+  pub list : List Row
 
-abbrev pub turned : Event → Way → List ℕ → Turned
+abbrev pub turned : Event → Way → List Row → Turned
 turned event next list = record { event = event; next = next; list = list }
 
 module _ (s : List ℕ) where
   -- a turn of a call that waits for this: the next word of the script, and where there is none the call is told so; or a row into
   -- the list, and where there is no room the call stays as it is
-  unfoldable pub turnBy : Way → List ℕ → Wants → Turned
+  unfoldable pub turnBy : Way → List Row → Wants → Turned
   turnBy w l (W.Read r) =
       cond (ltb (w .used) (length s))
       (turned (E.Read r (getD s (w .used) 0))
       (record { call = answered (w .call) (getD s (w .used) 0); used = w .used + 1; rows = w .rows; place = liesAt r (w .used) (w .place) }) l)
       (turned (E.Missed r) (record { call = unanswered (w .call); used = w .used; rows = w .rows; place = w .place }) l)
   turnBy w l (W.Write r) =
-      cond (ltb (w .rows) (roomOf l))
-      (turned (E.Wrote r) (record { call = written (w .call); used = w .used; rows = w .rows + 1; place = w .place }) (rowAt l (w .rows) r))
+      cond (ltb (w .rows) (length l))
+      (turned (E.Wrote r) (record { call = written (w .call); used = w .used; rows = w .rows + 1; place = w .place }) (set l (w .rows) r))
       (turned (E.Full r) w l)
   turnBy w l W.Nothing = turned E.Over w l
 
-  abbrev pub turnOf : Way → List ℕ → Turned
+  abbrev pub turnOf : Way → List Row → Turned
   turnOf w l = turnBy w l (wantOf (w .call .ahead))
 
   -- what a call comes to from there on, and where its data words lie then
-  abbrev pub fedFrom : Way → List ℕ → Came
+  abbrev pub fedFrom : Way → List Row → Came
   fedFrom w l = cameOf (w .call .before) (runNext s (noClosing (w .call .before)) (w .call .ahead) (w .used) (w .rows) l)
 
-  abbrev pub placeFrom : Way → List ℕ → ℕ
+  abbrev pub placeFrom : Way → List Row → ℕ
   placeFrom w l = placeNext s (w .call .ahead) (w .place) (w .used) (w .rows) l
 
 -- the data words handed out after a turn
@@ -78,7 +78,7 @@ handedAt (E.Wrote r) g = g
 handedAt (E.Full r) g = g
 handedAt E.Over g = g
 
-abbrev pub turnedOf : List ℕ → Turn → List ℕ → Turned
+abbrev pub turnedOf : List ℕ → Turn → List Row → Turned
 turnedOf g t l = turned (t .event) (wayOf (handedAt (t .event) g) (t .feeding)) l
 
 -- whether another turn follows

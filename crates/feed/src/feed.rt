@@ -3,6 +3,7 @@ ghost use mathlib.Core.Path.{_≡_};
 ghost use mathlib.Core.List.{List, []};
 ghost use Prim.Native.Nat.{ℕ};
 ghost use lib.ListN.{length};
+ghost use Rattle.tape.specs.Layout.{rowsIn};
 ghost use Rattle.host.specs.Calls.{calledOf, initialised, readCame, bufferOf, statusCame, statusReadOf};
 ghost use Rattle.underway.specs.Under.{under};
 ghost use Rattle.feed.specs.Runs.{countOf};
@@ -34,10 +35,10 @@ fn ended(feeding: Feeding) -> Fed
 }
 
 // Feeds a call to its end, or to the end of the list.
-pub fn feed(call: Call, script: &[u32], rows: &mut [u32]) -> Fed
-    ensures answered { λ r. ⌜ r .called ≡ calledOf (fedFrom (now (script .entry)) (starts (under [] call)) (now (rows .entry))) ⌝ }
-    ensures listed { λ r. ⌜ now (rows .exit) ≡ fedFrom (now (script .entry)) (starts (under [] call)) (now (rows .entry)) .list ⌝ }
-    ensures placed { λ r. ⌜ r .place ≡ placeFrom (now (script .entry)) (starts (under [] call)) (now (rows .entry)) ⌝ }
+pub fn feed(call: Call, script: &[u32], rows: &mut [u64]) -> Fed
+    ensures answered { λ r. ⌜ r .called ≡ calledOf (fedFrom (now (script .entry)) (starts (under [] call)) (rowsIn (now (rows .entry)))) ⌝ }
+    ensures listed { λ r. ⌜ rowsIn (now (rows .exit)) ≡ fedFrom (now (script .entry)) (starts (under [] call)) (rowsIn (now (rows .entry))) .list ⌝ }
+    ensures placed { λ r. ⌜ r .place ≡ placeFrom (now (script .entry)) (starts (under [] call)) (rowsIn (now (rows .entry))) ⌝ }
 {
     let mut feeding = Feeding::begin(call);
     loop {
@@ -52,18 +53,18 @@ pub fn feed(call: Call, script: &[u32], rows: &mut [u32]) -> Fed
 }
 
 // Initialises the card: its record, and the clock and signalling for it.
-pub fn init_card(host: Sdmmc, script: &[u32], rows: &mut [u32], frequency: Hertz) -> Called
-    ensures answered { λ r. ⌜ r ≡ calledOf (initialised host (frequency .0) (now (script .entry)) (now (rows .entry))) ⌝ }
-    ensures listed { λ r. ⌜ now (rows .exit) ≡ initialised host (frequency .0) (now (script .entry)) (now (rows .entry)) .list ⌝ }
+pub fn init_card(host: Sdmmc, script: &[u32], rows: &mut [u64], frequency: Hertz) -> Called
+    ensures answered { λ r. ⌜ r ≡ calledOf (initialised host (frequency .0) (now (script .entry)) (rowsIn (now (rows .entry)))) ⌝ }
+    ensures listed { λ r. ⌜ rowsIn (now (rows .exit)) ≡ initialised host (frequency .0) (now (script .entry)) (rowsIn (now (rows .entry))) .list ⌝ }
 {
     let fed = feed(Call::init_card(host, frequency), script, rows);
     fed.called
 }
 
 // Reads the card's SD status, which is then in its record too.
-pub fn read_sd_status(host: Sdmmc, script: &[u32], rows: &mut [u32]) -> StatusRead
-    ensures answered { λ r. ⌜ r ≡ statusReadOf (statusCame host (now (script .entry)) (now (rows .entry))) ⌝ }
-    ensures listed { λ r. ⌜ now (rows .exit) ≡ statusCame host (now (script .entry)) (now (rows .entry)) .list ⌝ }
+pub fn read_sd_status(host: Sdmmc, script: &[u32], rows: &mut [u64]) -> StatusRead
+    ensures answered { λ r. ⌜ r ≡ statusReadOf (statusCame host (now (script .entry)) (rowsIn (now (rows .entry)))) ⌝ }
+    ensures listed { λ r. ⌜ rowsIn (now (rows .exit)) ≡ statusCame host (now (script .entry)) (rowsIn (now (rows .entry))) .list ⌝ }
 {
     let fed = feed(Call::read_sd_status(host), script, rows);
     let called = fed.called;
@@ -98,13 +99,13 @@ fn count(answer: Answer, bytes: usize) -> usize
 pub fn read_blocks(
     host: Sdmmc,
     script: &[u32],
-    rows: &mut [u32],
+    rows: &mut [u64],
     index: u32,
     buffer: &mut [u8],
 ) -> Called
-    ensures answered { λ r. ⌜ r ≡ calledOf (readCame host index (length (now (buffer .entry))) (now (script .entry)) (now (rows .entry))) ⌝ }
-    ensures listed { λ r. ⌜ now (rows .exit) ≡ readCame host index (length (now (buffer .entry))) (now (script .entry)) (now (rows .entry)) .list ⌝ }
-    ensures filled { λ r. ⌜ now (buffer .exit) ≡ bufferOf (readCame host index (length (now (buffer .entry))) (now (script .entry)) (now (rows .entry))) (now (buffer .entry)) ⌝ }
+    ensures answered { λ r. ⌜ r ≡ calledOf (readCame host index (length (now (buffer .entry))) (now (script .entry)) (rowsIn (now (rows .entry)))) ⌝ }
+    ensures listed { λ r. ⌜ rowsIn (now (rows .exit)) ≡ readCame host index (length (now (buffer .entry))) (now (script .entry)) (rowsIn (now (rows .entry))) .list ⌝ }
+    ensures filled { λ r. ⌜ now (buffer .exit) ≡ bufferOf (readCame host index (length (now (buffer .entry))) (now (script .entry)) (rowsIn (now (rows .entry)))) (now (buffer .entry)) ⌝ }
 {
     let bytes = buffer.len();
     let fed = feed(Call::read_blocks(host, index, bytes), script, rows);

@@ -2,6 +2,7 @@
 ghost use mathlib.Core.Path.{_≡_};
 ghost use mathlib.Core.List.{List};
 ghost use Prim.Native.Nat.{ℕ};
+ghost use Rattle.tape.specs.Layout.{rowsIn};
 ghost use Rattle.step.specs.declared.wants.Wants.the-variants as W;
 ghost use Rattle.step.specs.Next.{wantOf};
 ghost use Rattle.underway.specs.Under.{under};
@@ -83,7 +84,7 @@ impl Feeding {
 
     // A reading: the next word of the script; where there is none, the call is told so.
     fn reads(self, script: &[u32], reading: Reading) -> Turn
-        ensures { λ r. ⌜ ((g l : List ℕ) → W.Read reading ≡ wantOf (under g (self .call) .ahead) → turnedOf g r l ≡ turnBy (now (script .entry)) (wayOf g self) l (W.Read reading)) ⌝ }
+        ensures { λ r. ⌜ ((g : List ℕ) (l : List Row) → W.Read reading ≡ wantOf (under g (self .call) .ahead) → turnedOf g r l ≡ turnBy (now (script .entry)) (wayOf g self) l (W.Read reading)) ⌝ }
     {
         let used = self.used;
         let call = self.call;
@@ -112,18 +113,17 @@ impl Feeding {
     }
 
     // A row: into the list, where there is room.
-    fn writes(self, rows: &mut [u32], row: Row) -> Turn
-        ensures { λ r. ⌜ ((g s : List ℕ) → W.Write row ≡ wantOf (under g (self .call) .ahead) → turnedOf g r (now (rows .exit)) ≡ turnBy s (wayOf g self) (now (rows .entry)) (W.Write row)) ⌝ }
+    fn writes(self, rows: &mut [u64], row: Row) -> Turn
+        ensures { λ r. ⌜ ((g s : List ℕ) → W.Write row ≡ wantOf (under g (self .call) .ahead) → turnedOf g r (rowsIn (now (rows .exit))) ≡ turnBy s (wayOf g self) (rowsIn (now (rows .entry))) (W.Write row)) ⌝ }
     {
         let n = self.rows;
-        if rows.len() / 2 <= n {
+        if rows.len() <= n {
             return Turn {
                 event: Event::Full(row),
                 feeding: self,
             };
         }
-        rows[2 * n] = row.register;
-        rows[2 * n + 1] = row.value;
+        rows[n] = row.word();
         let next = n + 1;
         let call = self.call;
         Turn {
@@ -138,8 +138,8 @@ impl Feeding {
     }
 
     // One turn.
-    pub fn turn(self, script: &[u32], rows: &mut [u32]) -> Turn
-        ensures { λ r. ⌜ ((g : List ℕ) → turnedOf g r (now (rows .exit)) ≡ turnOf (now (script .entry)) (wayOf g self) (now (rows .entry))) ⌝ }
+    pub fn turn(self, script: &[u32], rows: &mut [u64]) -> Turn
+        ensures { λ r. ⌜ ((g : List ℕ) → turnedOf g r (rowsIn (now (rows .exit))) ≡ turnOf (now (script .entry)) (wayOf g self) (rowsIn (now (rows .entry)))) ⌝ }
     {
         let call = self.call;
         let wants = call.wants();

@@ -9,6 +9,7 @@ use Rattle.tape.specs.declared.progress.Line.{Line}
 use Rattle.tape.specs.declared.progress.Pace.{Pace}
 use Rattle.tape.specs.declared.progress.Pace.the-variants.{Going, Stopped}
 use Rattle.tape.specs.declared.progress.Progress.{Progress}
+use Rattle.tape.specs.declared.rows.Row.{Row}
 use Rattle.tape.specs.Plan.{Nothing, Plan}
 use Rattle.tape.specs.Run.{State, at, After, keptAt, run, runFrom, doesAt, Gave}
 use Rattle.bus.specs.Command.{appCommand}
@@ -32,7 +33,7 @@ abbrev pub begun : Line → Progress
 begun line = record { pace = Going; used = 0; rows = 0; line = line }
 
 -- a plan that was started there
-pub from-start : {s : List ℕ} {A : Type 0} {d : A} {p : Plan A} {line : Line} {l : List ℕ} {v : A} {w : State}
+pub from-start : {s : List ℕ} {A : Type 0} {d : A} {p : Plan A} {line : Line} {l : List Row} {v : A} {w : State}
     → Gave s A d p (at (begun line) l) v w → record { value = v; state = w } ≡ run s d p 0 0 line l
 unfolding doesAt
 from-start e = e .same
@@ -108,7 +109,7 @@ module _ (host : Sdmmc) (transfer : Plan (List ℕ)) (next : State → List ℕ 
   unfolding approached
   at-stopped w h g = rw g
 
-  module _ (approach : Plan Nothing) (l : List ℕ) {p : Progress} {l′ : List ℕ} (e : Gave s Nothing tt approach (at (begun (host .line)) l) tt (at p l′)) where
+  module _ (approach : Plan Nothing) (l : List Row) {p : Progress} {l′ : List Row} (e : Gave s Nothing tt approach (at (begun (host .line)) l) tt (at p l′)) where
     through : approached host transfer next s (p .pace) (at p l′) ≡ served host approach transfer next s l
     unfolding served
     through = ap (λ (x : After Nothing). approached host transfer next s (x .state .progress .pace) (x .state)) (from-start e)
@@ -135,7 +136,7 @@ ends-held host refused accepted words (Stopped (Refused x)) w e = refl
 ends-held host refused accepted words (Stopped ScriptEnded) w e = refl
 ends-held host refused accepted words (Stopped TraceFull) w e = refl
 
-status-held : (host : Sdmmc) (s l : List ℕ) → Told (statusCame host s l)
+status-held : (host : Sdmmc) (s : List ℕ) (l : List Row) → Told (statusCame host s l)
 unfolding statusCame served approached transferred ends
 status-held host s l = by-cases Told (host .known) _ _ (by (w .progress .pace)) refl
   where
@@ -150,7 +151,7 @@ status-held host s l = by-cases Told (host .known) _ _ (by (w .progress .pace)) 
     by (Stopped ScriptEnded) = refl
     by (Stopped TraceFull) = refl
 
-pub status-read : (host : Sdmmc) (s l : List ℕ) (r : Called) (status : List ℕ) → r ≡ calledOf (statusCame host s l)
+pub status-read : (host : Sdmmc) (s : List ℕ) (l : List Row) (r : Called) (status : List ℕ) → r ≡ calledOf (statusCame host s l)
     → status ≡ statusGiven (r .answer) (r .host .card .status)
     → record { answer = r .answer; words = r .words; rows = r .rows; status = status; host = r .host } ≡ statusReadOf (statusCame host s l)
 status-read host s l r status e given =

@@ -25,6 +25,7 @@ use Rattle.tape.specs.declared.progress.Halt.the-variants.{Refused, ScriptEnded
 use Rattle.tape.specs.declared.progress.Line.{Line}
 use Rattle.tape.specs.declared.progress.Pace.{Pace}
 use Rattle.tape.specs.declared.progress.Pace.the-variants.{Going, Stopped}
+use Rattle.tape.specs.declared.rows.Row.{Row}
 use Rattle.tape.specs.Plan.{Nothing, Cause, failed, ended, Plan}
 use Rattle.tape.specs.Run.{State, run, runFrom}
 use Rattle.bus.specs.declared.transfer.Transfer.{Transfer}
@@ -52,7 +53,7 @@ pub record Came : Type 0 where
   pub answer : Answer
   pub words : ℕ
   pub rows : ℕ
-  pub list : List ℕ
+  pub list : List Row
   pub taken : List ℕ
   pub host : Sdmmc
 
@@ -72,7 +73,7 @@ abbrev pub calledOf : Came → Called
 calledOf x = record { answer = x .answer; words = x .words; rows = x .rows; host = x .host }
 
 -- host as before, no row, no word used
-abbrev pub untouched : Sdmmc → Error → List ℕ → Came
+abbrev pub untouched : Sdmmc → Error → List Row → Came
 untouched host e l = record { answer = Answered.Refused e; words = 0; rows = 0; list = l; taken = []; host = host }
 
 -- a host with the line as a call left it: with a record, with none, with what it had
@@ -100,14 +101,14 @@ ends host refused accepted words (Stopped TraceFull) w = came Answered.TraceFull
 
 -- Initialisation: any refusal of its plan leaves no record.
 
-unfoldable pub initFrom : Sdmmc → ℕ → ClockAnswer → List ℕ → List ℕ → Came
+unfoldable pub initFrom : Sdmmc → ℕ → ClockAnswer → List ℕ → List Row → Came
 initFrom host frequency (Clocked.Refused e) s l = untouched host e l
 initFrom host frequency (Clocked.Set c) s l =
     let x = run s noCard (initialise (host .settings) c frequency) 0 0 (freshLine (c .frequency)) l in
     ends host (dropped host (x .state)) (holding host (x .state) (x .value)) [] (x .state .progress .pace) (x .state)
 
 -- 17 for an asked frequency of 0 or over 50,000,000; then the clock of identification
-unfoldable pub initialised : Sdmmc → ℕ → List ℕ → List ℕ → Came
+unfoldable pub initialised : Sdmmc → ℕ → List ℕ → List Row → Came
 initialised host frequency s l =
     cond (eqb frequency 0 || ltb 50_000_000 frequency) (untouched host E.BadClock l)
     (initFrom host frequency (clockOf (sourceOf (host .settings)) 400_000 false) s l)
@@ -124,7 +125,7 @@ unfoldable pub approached : Sdmmc → Plan (List ℕ) → (State → List ℕ �
 approached host transfer next s Going w = transferred host transfer next s w
 approached host transfer next s (Stopped h) w = ends host (kept host w) host [] (Stopped h) w
 
-unfoldable pub served : Sdmmc → Plan Nothing → Plan (List ℕ) → (State → List ℕ → Sdmmc) → List ℕ → List ℕ → Came
+unfoldable pub served : Sdmmc → Plan Nothing → Plan (List ℕ) → (State → List ℕ → Sdmmc) → List ℕ → List Row → Came
 served host approach transfer next s l =
     let x = run s (tt {0}) approach 0 0 (host .line) l in
     approached host transfer next s (x .state .progress .pace) (x .state)
@@ -147,20 +148,20 @@ readNext host w ws = kept host w
 abbrev pub readData : Sdmmc → ℕ → ℕ → List ℕ → State → Came
 readData host address blocks s w = transferred host (readPlan host address blocks) (readNext host) s w
 
-unfoldable pub readFrom : Sdmmc → ℕ → AddressAnswer → List ℕ → List ℕ → Came
+unfoldable pub readFrom : Sdmmc → ℕ → AddressAnswer → List ℕ → List Row → Came
 readFrom host blocks (Address.Refused e) s l = untouched host e l
 readFrom host blocks (Address.Address a) s l =
     served host (waitReady (sourceOf (host .settings)) (host .settings .config) (host .card .rca))
     (readPlan host a blocks) (readNext host) s l
 
 -- 16; 19 for a byte length not a multiple of 512, for 0 blocks or over 511; 20 when index plus count exceeds the blocks
-unfoldable pub readKnown : Sdmmc → ℕ → ℕ → List ℕ → List ℕ → Came
+unfoldable pub readKnown : Sdmmc → ℕ → ℕ → List ℕ → List Row → Came
 readKnown host index bytes s l =
     cond (eqb (bytes % 512) 0)
     (readFrom host (bytes / 512) (addressOf (host .card .«card_type») (host .card .«block_count» .0) index (bytes / 512)) s l)
     (untouched host E.InvalidBufferLength l)
 
-unfoldable pub readCame : Sdmmc → ℕ → ℕ → List ℕ → List ℕ → Came
+unfoldable pub readCame : Sdmmc → ℕ → ℕ → List ℕ → List Row → Came
 readCame host index bytes s l = cond (host .known) (readKnown host index bytes s l) (untouched host E.NoCard l)
 
 -- the buffer after it: each block's 128 words as its 512 bytes, little-endian, as many blocks as there are words for; there
@@ -202,10 +203,10 @@ abbrev pub statusData : Sdmmc → List ℕ → State → Came
 statusData host s w = transferred host (statusPlan host) (statusNext host) s w
 
 -- 16; CMD55, and the data phase
-abbrev pub statusFrom : Sdmmc → List ℕ → List ℕ → Came
+abbrev pub statusFrom : Sdmmc → List ℕ → List Row → Came
 statusFrom host s l = served host (appCommand (limitOf (host .settings)) (host .card .rca)) (statusPlan host) (statusNext host) s l
 
-unfoldable pub statusCame : Sdmmc → List ℕ → List ℕ → Came
+unfoldable pub statusCame : Sdmmc → List ℕ → List Row → Came
 statusCame host s l = cond (host .known) (statusFrom host s l) (untouched host E.NoCard l)
 
 -- the status that a call gives of the one that was read: zeros unless it was accepted

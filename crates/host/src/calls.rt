@@ -7,6 +7,7 @@ ghost use lib.Dec.{eqb};
 ghost use lib.ListN.{length};
 ghost use Rattle.types.specs.declared.card.AddressAnswer.the-variants as Address;
 ghost use Rattle.types.specs.declared.clock.ClockAnswer.the-variants as Clocked;
+ghost use Rattle.tape.specs.Layout.{rowsIn};
 ghost use Rattle.tape.specs.Run.{at};
 ghost use Rattle.host.specs.Calls.{calledOf, kept, dropped, ends, initFrom, initialised, readTransfer, readData, readFrom, readKnown, readCame, bufferOf, withStatus, statusData, statusFrom, statusCame, statusGiven, statusReadOf};
 use crate::blocks;
@@ -23,6 +24,7 @@ use init::identify;
 use init::lent;
 use tape::progress::Pace;
 use tape::progress::Progress;
+use tape::rows::Row;
 use types::card::AddressAnswer;
 use types::card::Card;
 use types::card::block_address;
@@ -79,7 +81,7 @@ fn read_transfer(address: u32, blocks: u16) -> Transfer
 impl Sdmmc {
     // How a call ends that began with the card itself and did not come through: a refusal leaves no record.
     fn ends_without(self, p: Progress) -> Called
-        ensures { λ r. ⌜ ((words l : List ℕ) → r ≡ calledOf (ends self (dropped self (at p l)) self words (p .pace) (at p l))) ⌝ }
+        ensures { λ r. ⌜ ((words : List ℕ) (l : List Row) → r ≡ calledOf (ends self (dropped self (at p l)) self words (p .pace) (at p l))) ⌝ }
     {
         let line = p.line;
         let none = self.with(line, false, identify::no_card());
@@ -87,9 +89,9 @@ impl Sdmmc {
     }
 
     // An initialisation with this clock of identification.
-    fn init_from(self, script: &[u32], rows: &mut [u32], frequency: Hertz, initial: Clock) -> Called
-        ensures answered { λ r. ⌜ r ≡ calledOf (initFrom self (frequency .0) (Clocked.Set initial) (now (script .entry)) (now (rows .entry))) ⌝ }
-        ensures listed { λ r. ⌜ now (rows .exit) ≡ initFrom self (frequency .0) (Clocked.Set initial) (now (script .entry)) (now (rows .entry)) .list ⌝ }
+    fn init_from(self, script: &[u32], rows: &mut [u64], frequency: Hertz, initial: Clock) -> Called
+        ensures answered { λ r. ⌜ r ≡ calledOf (initFrom self (frequency .0) (Clocked.Set initial) (now (script .entry)) (rowsIn (now (rows .entry)))) ⌝ }
+        ensures listed { λ r. ⌜ rowsIn (now (rows .exit)) ≡ initFrom self (frequency .0) (Clocked.Set initial) (now (script .entry)) (rowsIn (now (rows .entry))) .list ⌝ }
     {
         let settings = self.settings;
         let clock = initial.frequency;
@@ -107,9 +109,9 @@ impl Sdmmc {
     }
 
     // Initialises the card: its record, and the clock and signalling for it.
-    pub fn blocking_init_card(self, script: &[u32], rows: &mut [u32], frequency: Hertz) -> Called
-        ensures answered { λ r. ⌜ r ≡ calledOf (initialised self (frequency .0) (now (script .entry)) (now (rows .entry))) ⌝ }
-        ensures listed { λ r. ⌜ now (rows .exit) ≡ initialised self (frequency .0) (now (script .entry)) (now (rows .entry)) .list ⌝ }
+    pub fn blocking_init_card(self, script: &[u32], rows: &mut [u64], frequency: Hertz) -> Called
+        ensures answered { λ r. ⌜ r ≡ calledOf (initialised self (frequency .0) (now (script .entry)) (rowsIn (now (rows .entry)))) ⌝ }
+        ensures listed { λ r. ⌜ rowsIn (now (rows .exit)) ≡ initialised self (frequency .0) (now (script .entry)) (rowsIn (now (rows .entry))) .list ⌝ }
     {
         let asked = frequency.0;
         let source = self.settings.source;
@@ -128,7 +130,7 @@ impl Sdmmc {
 
     // A call that stopped before its data phase: the record stays.
     fn ends_before(self, p: Progress) -> Called
-        ensures { λ r. ⌜ ((l : List ℕ) → r ≡ calledOf (ends self (kept self (at p l)) self [] (p .pace) (at p l))) ⌝ }
+        ensures { λ r. ⌜ ((l : List Row) → r ≡ calledOf (ends self (kept self (at p l)) self [] (p .pace) (at p l))) ⌝ }
     {
         let line = p.line;
         let card = self.card;
@@ -137,10 +139,10 @@ impl Sdmmc {
     }
 
     // The data phase of a status call.
-    fn status_data(self, p: Progress, script: &[u32], rows: &mut [u32]) -> Called
+    fn status_data(self, p: Progress, script: &[u32], rows: &mut [u64]) -> Called
         requires { ⌜ p .pace ≡ Pace.Going ⌝ }
-        ensures answered { λ r. ⌜ r ≡ calledOf (statusData self (now (script .entry)) (at p (now (rows .entry)))) ⌝ }
-        ensures listed { λ r. ⌜ now (rows .exit) ≡ statusData self (now (script .entry)) (at p (now (rows .entry))) .list ⌝ }
+        ensures answered { λ r. ⌜ r ≡ calledOf (statusData self (now (script .entry)) (at p (rowsIn (now (rows .entry))))) ⌝ }
+        ensures listed { λ r. ⌜ rowsIn (now (rows .exit)) ≡ statusData self (now (script .entry)) (at p (rowsIn (now (rows .entry)))) .list ⌝ }
     {
         let source = self.settings.source;
         let config = self.settings.config;
@@ -164,9 +166,9 @@ impl Sdmmc {
     }
 
     // A status call on a host that has a card.
-    fn status_from(self, script: &[u32], rows: &mut [u32]) -> Called
-        ensures answered { λ r. ⌜ r ≡ calledOf (statusFrom self (now (script .entry)) (now (rows .entry))) ⌝ }
-        ensures listed { λ r. ⌜ now (rows .exit) ≡ statusFrom self (now (script .entry)) (now (rows .entry)) .list ⌝ }
+    fn status_from(self, script: &[u32], rows: &mut [u64]) -> Called
+        ensures answered { λ r. ⌜ r ≡ calledOf (statusFrom self (now (script .entry)) (rowsIn (now (rows .entry)))) ⌝ }
+        ensures listed { λ r. ⌜ rowsIn (now (rows .exit)) ≡ statusFrom self (now (script .entry)) (rowsIn (now (rows .entry))) .list ⌝ }
     {
         let limit = self.settings.config.poll_limit;
         let line = self.line;
@@ -180,9 +182,9 @@ impl Sdmmc {
     }
 
     // A status call, but for the status that it gives.
-    fn status_called(self, script: &[u32], rows: &mut [u32]) -> Called
-        ensures answered { λ r. ⌜ r ≡ calledOf (statusCame self (now (script .entry)) (now (rows .entry))) ⌝ }
-        ensures listed { λ r. ⌜ now (rows .exit) ≡ statusCame self (now (script .entry)) (now (rows .entry)) .list ⌝ }
+    fn status_called(self, script: &[u32], rows: &mut [u64]) -> Called
+        ensures answered { λ r. ⌜ r ≡ calledOf (statusCame self (now (script .entry)) (rowsIn (now (rows .entry)))) ⌝ }
+        ensures listed { λ r. ⌜ rowsIn (now (rows .exit)) ≡ statusCame self (now (script .entry)) (rowsIn (now (rows .entry))) .list ⌝ }
     {
         if self.known {
             self.status_from(script, rows)
@@ -192,9 +194,9 @@ impl Sdmmc {
     }
 
     // Reads the card's SD status, which is then in its record too.
-    pub fn blocking_read_sd_status(self, script: &[u32], rows: &mut [u32]) -> StatusRead
-        ensures answered { λ r. ⌜ r ≡ statusReadOf (statusCame self (now (script .entry)) (now (rows .entry))) ⌝ }
-        ensures listed { λ r. ⌜ now (rows .exit) ≡ statusCame self (now (script .entry)) (now (rows .entry)) .list ⌝ }
+    pub fn blocking_read_sd_status(self, script: &[u32], rows: &mut [u64]) -> StatusRead
+        ensures answered { λ r. ⌜ r ≡ statusReadOf (statusCame self (now (script .entry)) (rowsIn (now (rows .entry)))) ⌝ }
+        ensures listed { λ r. ⌜ rowsIn (now (rows .exit)) ≡ statusCame self (now (script .entry)) (rowsIn (now (rows .entry))) .list ⌝ }
     {
         let called = self.status_called(script, rows);
         let answer = called.answer;
@@ -216,15 +218,15 @@ impl Sdmmc {
         self,
         p: Progress,
         script: &[u32],
-        rows: &mut [u32],
+        rows: &mut [u64],
         buffer: &mut [u8],
         address: u32,
         blocks: u16,
     ) -> Called
         requires { ⌜ (p .pace ≡ Pace.Going) × (blocks ≤ 511) ⌝ }
-        ensures answered { λ r. ⌜ r ≡ calledOf (readData self address blocks (now (script .entry)) (at p (now (rows .entry)))) ⌝ }
-        ensures listed { λ r. ⌜ now (rows .exit) ≡ readData self address blocks (now (script .entry)) (at p (now (rows .entry))) .list ⌝ }
-        ensures filled { λ r. ⌜ now (buffer .exit) ≡ bufferOf (readData self address blocks (now (script .entry)) (at p (now (rows .entry)))) (now (buffer .entry)) ⌝ }
+        ensures answered { λ r. ⌜ r ≡ calledOf (readData self address blocks (now (script .entry)) (at p (rowsIn (now (rows .entry))))) ⌝ }
+        ensures listed { λ r. ⌜ rowsIn (now (rows .exit)) ≡ readData self address blocks (now (script .entry)) (at p (rowsIn (now (rows .entry)))) .list ⌝ }
+        ensures filled { λ r. ⌜ now (buffer .exit) ≡ bufferOf (readData self address blocks (now (script .entry)) (at p (rowsIn (now (rows .entry))))) (now (buffer .entry)) ⌝ }
     {
         let source = self.settings.source;
         let config = self.settings.config;
@@ -247,15 +249,15 @@ impl Sdmmc {
     fn read_from(
         self,
         script: &[u32],
-        rows: &mut [u32],
+        rows: &mut [u64],
         buffer: &mut [u8],
         address: u32,
         blocks: u16,
     ) -> Called
         requires { ⌜ blocks ≤ 511 ⌝ }
-        ensures answered { λ r. ⌜ r ≡ calledOf (readFrom self blocks (Address.Address address) (now (script .entry)) (now (rows .entry))) ⌝ }
-        ensures listed { λ r. ⌜ now (rows .exit) ≡ readFrom self blocks (Address.Address address) (now (script .entry)) (now (rows .entry)) .list ⌝ }
-        ensures filled { λ r. ⌜ now (buffer .exit) ≡ bufferOf (readFrom self blocks (Address.Address address) (now (script .entry)) (now (rows .entry))) (now (buffer .entry)) ⌝ }
+        ensures answered { λ r. ⌜ r ≡ calledOf (readFrom self blocks (Address.Address address) (now (script .entry)) (rowsIn (now (rows .entry)))) ⌝ }
+        ensures listed { λ r. ⌜ rowsIn (now (rows .exit)) ≡ readFrom self blocks (Address.Address address) (now (script .entry)) (rowsIn (now (rows .entry))) .list ⌝ }
+        ensures filled { λ r. ⌜ now (buffer .exit) ≡ bufferOf (readFrom self blocks (Address.Address address) (now (script .entry)) (rowsIn (now (rows .entry)))) (now (buffer .entry)) ⌝ }
     {
         let source = self.settings.source;
         let config = self.settings.config;
@@ -270,10 +272,10 @@ impl Sdmmc {
     }
 
     // A read on a host that has a card.
-    fn read_known(self, script: &[u32], rows: &mut [u32], index: u32, buffer: &mut [u8]) -> Called
-        ensures answered { λ r. ⌜ r ≡ calledOf (readKnown self index (length (now (buffer .entry))) (now (script .entry)) (now (rows .entry))) ⌝ }
-        ensures listed { λ r. ⌜ now (rows .exit) ≡ readKnown self index (length (now (buffer .entry))) (now (script .entry)) (now (rows .entry)) .list ⌝ }
-        ensures filled { λ r. ⌜ now (buffer .exit) ≡ bufferOf (readKnown self index (length (now (buffer .entry))) (now (script .entry)) (now (rows .entry))) (now (buffer .entry)) ⌝ }
+    fn read_known(self, script: &[u32], rows: &mut [u64], index: u32, buffer: &mut [u8]) -> Called
+        ensures answered { λ r. ⌜ r ≡ calledOf (readKnown self index (length (now (buffer .entry))) (now (script .entry)) (rowsIn (now (rows .entry)))) ⌝ }
+        ensures listed { λ r. ⌜ rowsIn (now (rows .exit)) ≡ readKnown self index (length (now (buffer .entry))) (now (script .entry)) (rowsIn (now (rows .entry))) .list ⌝ }
+        ensures filled { λ r. ⌜ now (buffer .exit) ≡ bufferOf (readKnown self index (length (now (buffer .entry))) (now (script .entry)) (rowsIn (now (rows .entry)))) (now (buffer .entry)) ⌝ }
     {
         let bytes = buffer.len();
         let card = self.card;
@@ -300,13 +302,13 @@ impl Sdmmc {
     pub fn blocking_read_blocks(
         self,
         script: &[u32],
-        rows: &mut [u32],
+        rows: &mut [u64],
         index: u32,
         buffer: &mut [u8],
     ) -> Called
-        ensures answered { λ r. ⌜ r ≡ calledOf (readCame self index (length (now (buffer .entry))) (now (script .entry)) (now (rows .entry))) ⌝ }
-        ensures listed { λ r. ⌜ now (rows .exit) ≡ readCame self index (length (now (buffer .entry))) (now (script .entry)) (now (rows .entry)) .list ⌝ }
-        ensures filled { λ r. ⌜ now (buffer .exit) ≡ bufferOf (readCame self index (length (now (buffer .entry))) (now (script .entry)) (now (rows .entry))) (now (buffer .entry)) ⌝ }
+        ensures answered { λ r. ⌜ r ≡ calledOf (readCame self index (length (now (buffer .entry))) (now (script .entry)) (rowsIn (now (rows .entry)))) ⌝ }
+        ensures listed { λ r. ⌜ rowsIn (now (rows .exit)) ≡ readCame self index (length (now (buffer .entry))) (now (script .entry)) (rowsIn (now (rows .entry))) .list ⌝ }
+        ensures filled { λ r. ⌜ now (buffer .exit) ≡ bufferOf (readCame self index (length (now (buffer .entry))) (now (script .entry)) (rowsIn (now (rows .entry)))) (now (buffer .entry)) ⌝ }
     {
         if self.known {
             self.read_known(script, rows, index, buffer)

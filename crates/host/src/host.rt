@@ -12,6 +12,7 @@ use tape::progress::Halt;
 use tape::progress::Line;
 use tape::progress::Pace;
 use tape::progress::Progress;
+use tape::rows::Row;
 use types::card::Card;
 use types::card::Signalling;
 use types::clock::ClockAnswer;
@@ -201,7 +202,7 @@ impl Sdmmc {
 
     // A call that is refused before its first step.
     pub fn untouched(self, error: Error) -> Called
-        ensures { λ r. ⌜ ((l : List ℕ) → r ≡ calledOf (untouched self error l)) ⌝ }
+        ensures { λ r. ⌜ ((l : List Row) → r ≡ calledOf (untouched self error l)) ⌝ }
     {
         Called {
             answer: Answer::Refused(error),
@@ -215,7 +216,7 @@ impl Sdmmc {
     // at the end of the script or of the list. A host is copied, so a caller that knows which it is makes that one, and
     // names this one for the other.
     pub fn ends(self, p: Progress, refused: Sdmmc, accepted: Sdmmc) -> Called
-        ensures { λ r. ⌜ ((words l : List ℕ) → r ≡ calledOf (ends self refused accepted words (p .pace) (at p l))) ⌝ }
+        ensures { λ r. ⌜ ((words : List ℕ) (l : List Row) → r ≡ calledOf (ends self refused accepted words (p .pace) (at p l))) ⌝ }
     {
         let pace = p.pace;
         match pace {

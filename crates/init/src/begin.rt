@@ -3,6 +3,7 @@ ghost use mathlib.Core.Path.{_≡_};
 ghost use mathlib.Core.List.{List};
 ghost use mathlib.Core.Bool.{Bool, false};
 ghost use Prim.Native.Nat.{ℕ};
+ghost use Rattle.tape.specs.Layout.{rowsIn};
 ghost use Rattle.tape.specs.Run.{at, Did, Gave, Settled};
 ghost use Rattle.bus.specs.Command.{firstOf};
 ghost use Rattle.init.specs.Initialise.{version, timedOut, late, cardVersion, powerOn, beginInit};
@@ -34,7 +35,7 @@ impl Interface {
 
 // Whether the first word of an answer to CMD8 is that of a card of version 2; refuses where it is no known card's.
 fn version(p: Progress, word: u32) -> Flag
-    ensures { λ r. ⌜ ((s l : List ℕ) → Gave s Bool false (version word) (at p l) (r .flag) (at (r .progress) l)) ⌝ }
+    ensures { λ r. ⌜ ((s : List ℕ) (l : List Row) → Gave s Bool false (version word) (at p l) (r .flag) (at (r .progress) l)) ⌝ }
 {
     if word == Interface::CONDITION {
         progress::give_flag(p, true)
@@ -62,7 +63,7 @@ pub fn timed_out(e: Error) -> bool
 
 // What an answer to CMD8 says: no answer in time is that of a card of version 1.
 fn judge_version(a: Words) -> Flag
-    ensures { λ r. ⌜ ((s l : List ℕ) → Settled s (List ℕ) Bool false (λ ws. version (firstOf ws)) late (a .words) (at (a .progress) l) (r .flag) (at (r .progress) l)) ⌝ }
+    ensures { λ r. ⌜ ((s : List ℕ) (l : List Row) → Settled s (List ℕ) Bool false (λ ws. version (firstOf ws)) late (a .words) (at (a .progress) l) (r .flag) (at (r .progress) l)) ⌝ }
 {
     let p = a.progress;
     let word = a.words[0];
@@ -96,8 +97,8 @@ fn judge_version(a: Words) -> Flag
 }
 
 // Whether the card is of version 2.
-fn card_version(p: Progress, script: &[u32], rows: &mut [u32], limit: u32) -> Flag
-    ensures { λ r. ⌜ Gave (now (script .entry)) Bool false (cardVersion limit) (at p (now (rows .entry))) (r .flag) (at (r .progress) (now (rows .exit))) ⌝ }
+fn card_version(p: Progress, script: &[u32], rows: &mut [u64], limit: u32) -> Flag
+    ensures { λ r. ⌜ Gave (now (script .entry)) Bool false (cardVersion limit) (at p (rowsIn (now (rows .entry)))) (r .flag) (at (r .progress) (rowsIn (now (rows .exit)))) ⌝ }
 {
     let pace = p.pace;
     match pace {
@@ -124,11 +125,11 @@ fn card_version(p: Progress, script: &[u32], rows: &mut [u32], limit: u32) -> Fl
 fn power_on(
     p: Progress,
     script: &[u32],
-    rows: &mut [u32],
+    rows: &mut [u64],
     settings: Settings,
     initial: Clock,
 ) -> Progress
-    ensures { λ r. ⌜ Did (now (script .entry)) (powerOn settings initial) (at p (now (rows .entry))) (at r (now (rows .exit))) ⌝ }
+    ensures { λ r. ⌜ Did (now (script .entry)) (powerOn settings initial) (at p (rowsIn (now (rows .entry)))) (at r (rowsIn (now (rows .exit)))) ⌝ }
 {
     let source = settings.source;
     let frequency = initial.frequency;
@@ -144,11 +145,11 @@ fn power_on(
 pub fn begin_init(
     p: Progress,
     script: &[u32],
-    rows: &mut [u32],
+    rows: &mut [u64],
     settings: Settings,
     initial: Clock,
 ) -> Flag
-    ensures { λ r. ⌜ Gave (now (script .entry)) Bool false (beginInit settings initial) (at p (now (rows .entry))) (r .flag) (at (r .progress) (now (rows .exit))) ⌝ }
+    ensures { λ r. ⌜ Gave (now (script .entry)) Bool false (beginInit settings initial) (at p (rowsIn (now (rows .entry)))) (r .flag) (at (r .progress) (rowsIn (now (rows .exit)))) ⌝ }
 {
     let limit = settings.config.poll_limit;
     let powered = power_on(p, script, rows, settings, initial);

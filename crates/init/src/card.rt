@@ -2,6 +2,7 @@
 ghost use mathlib.Core.Path.{_≡_};
 ghost use Prim.Native.Nat.{ℕ};
 ghost use Rattle.types.specs.declared.card.Card.{Card};
+ghost use Rattle.tape.specs.Layout.{rowsIn};
 ghost use Rattle.tape.specs.Run.{at, Did, Gave};
 ghost use Rattle.init.specs.Initialise.{noCard, blockLength, readScr, withScr, settleCard, initCard, initialise};
 use crate::begin;
@@ -35,11 +36,11 @@ pub struct ScrRead {
 fn set_block_length(
     p: Progress,
     script: &[u32],
-    rows: &mut [u32],
+    rows: &mut [u64],
     limit: u32,
     card_type: CardCapacity,
 ) -> Progress
-    ensures { λ r. ⌜ Did (now (script .entry)) (blockLength limit «card_type») (at p (now (rows .entry))) (at r (now (rows .exit))) ⌝ }
+    ensures { λ r. ⌜ Did (now (script .entry)) (blockLength limit «card_type») (at p (rowsIn (now (rows .entry)))) (at r (rowsIn (now (rows .exit)))) ⌝ }
 {
     match card_type {
         CardCapacity::SDSC => {
@@ -54,11 +55,11 @@ fn set_block_length(
 fn read_scr(
     p: Progress,
     script: &[u32],
-    rows: &mut [u32],
+    rows: &mut [u64],
     settings: Settings,
     card: Card,
 ) -> ScrRead
-    ensures { λ r. ⌜ Gave (now (script .entry)) ℕ 0 (readScr settings card) (at p (now (rows .entry))) (r .scr .0) (at (r .progress) (now (rows .exit))) ⌝ }
+    ensures { λ r. ⌜ Gave (now (script .entry)) ℕ 0 (readScr settings card) (at p (rowsIn (now (rows .entry)))) (r .scr .0) (at (r .progress) (rowsIn (now (rows .exit)))) ⌝ }
 {
     let source = settings.source;
     let config = settings.config;
@@ -96,12 +97,12 @@ pub fn with_scr(card: Card, scr: Scr) -> Card
 fn settle_card(
     p: Progress,
     script: &[u32],
-    rows: &mut [u32],
+    rows: &mut [u64],
     settings: Settings,
     frequency: Hertz,
     card: Card,
 ) -> Known
-    ensures { λ r. ⌜ Gave (now (script .entry)) Card noCard (settleCard settings (frequency .0) card) (at p (now (rows .entry))) (r .card) (at (r .progress) (now (rows .exit))) ⌝ }
+    ensures { λ r. ⌜ Gave (now (script .entry)) Card noCard (settleCard settings (frequency .0) card) (at p (rowsIn (now (rows .entry)))) (r .card) (at (r .progress) (rowsIn (now (rows .exit)))) ⌝ }
 {
     let rca = card.rca;
     let csd = card.csd;
@@ -118,12 +119,12 @@ fn settle_card(
 fn init_card(
     p: Progress,
     script: &[u32],
-    rows: &mut [u32],
+    rows: &mut [u64],
     settings: Settings,
     initial: Clock,
     frequency: Hertz,
 ) -> Known
-    ensures { λ r. ⌜ Gave (now (script .entry)) Card noCard (initCard settings initial (frequency .0)) (at p (now (rows .entry))) (r .card) (at (r .progress) (now (rows .exit))) ⌝ }
+    ensures { λ r. ⌜ Gave (now (script .entry)) Card noCard (initCard settings initial (frequency .0)) (at p (rowsIn (now (rows .entry)))) (r .card) (at (r .progress) (rowsIn (now (rows .exit)))) ⌝ }
 {
     let limit = settings.config.poll_limit;
     let begun = begin::begin_init(p, script, rows, settings, initial);
@@ -137,12 +138,12 @@ fn init_card(
 pub fn initialise(
     p: Progress,
     script: &[u32],
-    rows: &mut [u32],
+    rows: &mut [u64],
     settings: Settings,
     initial: Clock,
     frequency: Hertz,
 ) -> Known
-    ensures { λ r. ⌜ Gave (now (script .entry)) Card noCard (initialise settings initial (frequency .0)) (at p (now (rows .entry))) (r .card) (at (r .progress) (now (rows .exit))) ⌝ }
+    ensures { λ r. ⌜ Gave (now (script .entry)) Card noCard (initialise settings initial (frequency .0)) (at p (rowsIn (now (rows .entry)))) (r .card) (at (r .progress) (rowsIn (now (rows .exit)))) ⌝ }
 {
     let pace = p.pace;
     match pace {

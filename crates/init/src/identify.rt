@@ -9,6 +9,7 @@ ghost use Rattle.types.specs.declared.register.BlockCount.{BlockCount};
 ghost use Rattle.types.specs.Bits.{bits};
 ghost use Rattle.types.specs.Leaf.{countOf};
 ghost use Rattle.types.specs.Sd.{wideOf};
+ghost use Rattle.tape.specs.Layout.{rowsIn};
 ghost use Rattle.tape.specs.Plan.{give};
 ghost use Rattle.tape.specs.Run.{at, Gave};
 ghost use Rattle.init.specs.Initialise.{powerUp, tryPowerUp, waitPowerUp, highCapacity, classOf, same, noCard, cardOf, noBlocks, counted, select, publish, identify};
@@ -20,6 +21,7 @@ use tape::progress;
 use tape::progress::Pace;
 use tape::progress::Progress;
 use tape::progress::Word;
+use tape::rows::Row;
 use types::card::Card;
 use types::card::CardCapacity;
 use types::error::Error;
@@ -72,8 +74,8 @@ pub fn condition(version2: bool) -> u32
 }
 
 // One ACMD41: the card's OCR.
-fn power_up(p: Progress, script: &[u32], rows: &mut [u32], limit: u32, version2: bool) -> Word
-    ensures { λ r. ⌜ Gave (now (script .entry)) ℕ 0 (powerUp limit version2) (at p (now (rows .entry))) (r .word) (at (r .progress) (now (rows .exit))) ⌝ }
+fn power_up(p: Progress, script: &[u32], rows: &mut [u64], limit: u32, version2: bool) -> Word
+    ensures { λ r. ⌜ Gave (now (script .entry)) ℕ 0 (powerUp limit version2) (at p (rowsIn (now (rows .entry)))) (r .word) (at (r .progress) (rowsIn (now (rows .exit)))) ⌝ }
 {
     let asked = condition(version2);
     let told = command::app_command(p, script, rows, limit, 0);
@@ -91,11 +93,11 @@ fn power_up(p: Progress, script: &[u32], rows: &mut [u32], limit: u32, version2:
 fn try_power_up(
     p: Progress,
     script: &[u32],
-    rows: &mut [u32],
+    rows: &mut [u64],
     settings: Settings,
     version2: bool,
 ) -> Word
-    ensures { λ r. ⌜ Gave (now (script .entry)) ℕ 0 (tryPowerUp settings version2) (at p (now (rows .entry))) (r .word) (at (r .progress) (now (rows .exit))) ⌝ }
+    ensures { λ r. ⌜ Gave (now (script .entry)) ℕ 0 (tryPowerUp settings version2) (at p (rowsIn (now (rows .entry)))) (r .word) (at (r .progress) (rowsIn (now (rows .exit)))) ⌝ }
 {
     let source = settings.source;
     let answer = power_up(p, script, rows, settings.config.poll_limit, version2);
@@ -112,11 +114,11 @@ fn try_power_up(
 pub fn wait_power_up(
     p: Progress,
     script: &[u32],
-    rows: &mut [u32],
+    rows: &mut [u64],
     settings: Settings,
     version2: bool,
 ) -> Word
-    ensures { λ r. ⌜ Gave (now (script .entry)) ℕ 0 (waitPowerUp settings version2) (at p (now (rows .entry))) (r .word) (at (r .progress) (now (rows .exit))) ⌝ }
+    ensures { λ r. ⌜ Gave (now (script .entry)) ℕ 0 (waitPowerUp settings version2) (at p (rowsIn (now (rows .entry)))) (r .word) (at (r .progress) (rowsIn (now (rows .exit)))) ⌝ }
 {
     let attempts = settings.config.card_ready_attempts;
     let mut q = p;
@@ -181,7 +183,7 @@ pub fn described(ocr: u32, rca: u16, cid: [u32; 4], csd: [u32; 4], blocks: Block
 
 // Gives a record, unless the call has stopped.
 pub fn give_card(p: Progress, card: Card) -> Known
-    ensures { λ r. ⌜ ((s l : List ℕ) → Gave s Card noCard (give card) (at p l) (r .card) (at (r .progress) l)) ⌝ }
+    ensures { λ r. ⌜ ((s : List ℕ) (l : List Row) → Gave s Card noCard (give card) (at p l) (r .card) (at (r .progress) l)) ⌝ }
 {
     let pace = p.pace;
     match pace {
@@ -198,7 +200,7 @@ pub fn give_card(p: Progress, card: Card) -> Known
 
 // Gives a count, unless the call has stopped.
 fn give_count(p: Progress, count: BlockCount) -> Counted
-    ensures { λ r. ⌜ ((s l : List ℕ) → Gave s BlockCount noBlocks (give count) (at p l) (r .count) (at (r .progress) l)) ⌝ }
+    ensures { λ r. ⌜ ((s : List ℕ) (l : List Row) → Gave s BlockCount noBlocks (give count) (at p l) (r .count) (at (r .progress) l)) ⌝ }
 {
     let pace = p.pace;
     match pace {
@@ -215,7 +217,7 @@ fn give_count(p: Progress, count: BlockCount) -> Counted
 
 // The blocks that a CSD tells.
 fn count_blocks(p: Progress, csd: Wide) -> Counted
-    ensures { λ r. ⌜ ((s l : List ℕ) → Gave s BlockCount noBlocks (counted (countOf (wideOf csd))) (at p l) (r .count) (at (r .progress) l)) ⌝ }
+    ensures { λ r. ⌜ ((s : List ℕ) (l : List Row) → Gave s BlockCount noBlocks (counted (countOf (wideOf csd))) (at p l) (r .count) (at (r .progress) l)) ⌝ }
 {
     let answer = register::block_count(csd);
     match answer {
@@ -242,14 +244,14 @@ pub fn agree(ocr: u32, csd: Wide) -> bool
 fn select(
     p: Progress,
     script: &[u32],
-    rows: &mut [u32],
+    rows: &mut [u64],
     limit: u32,
     ocr: u32,
     rca: u16,
     cid: [u32; 4],
     csd: [u32; 4],
 ) -> Known
-    ensures { λ r. ⌜ Gave (now (script .entry)) Card noCard (select limit ocr rca cid csd) (at p (now (rows .entry))) (r .card) (at (r .progress) (now (rows .exit))) ⌝ }
+    ensures { λ r. ⌜ Gave (now (script .entry)) Card noCard (select limit ocr rca cid csd) (at p (rowsIn (now (rows .entry)))) (r .card) (at (r .progress) (rowsIn (now (rows .exit)))) ⌝ }
 {
     let told = words::response_value(csd);
     let sound = progress::ensure(p, agree(ocr, told), Error::UnsupportedCardType);
@@ -275,8 +277,8 @@ pub fn address(published: u32) -> u16
 }
 
 // Has the card give itself an address.
-fn publish(p: Progress, script: &[u32], rows: &mut [u32], limit: u32) -> Published
-    ensures { λ r. ⌜ Gave (now (script .entry)) ℕ 0 (publish limit) (at p (now (rows .entry))) (r .rca) (at (r .progress) (now (rows .exit))) ⌝ }
+fn publish(p: Progress, script: &[u32], rows: &mut [u64], limit: u32) -> Published
+    ensures { λ r. ⌜ Gave (now (script .entry)) ℕ 0 (publish limit) (at p (rowsIn (now (rows .entry)))) (r .rca) (at (r .progress) (rowsIn (now (rows .exit)))) ⌝ }
 {
     let answer = command::send(p, script, rows, limit, 3, 0, Response::R6);
     let word = answer.words[0];
@@ -288,8 +290,8 @@ fn publish(p: Progress, script: &[u32], rows: &mut [u32], limit: u32) -> Publish
 }
 
 // Has the card tell its CID, its address and its CSD, and selects it.
-pub fn identify(p: Progress, script: &[u32], rows: &mut [u32], limit: u32, ocr: u32) -> Known
-    ensures { λ r. ⌜ Gave (now (script .entry)) Card noCard (identify limit ocr) (at p (now (rows .entry))) (r .card) (at (r .progress) (now (rows .exit))) ⌝ }
+pub fn identify(p: Progress, script: &[u32], rows: &mut [u64], limit: u32, ocr: u32) -> Known
+    ensures { λ r. ⌜ Gave (now (script .entry)) Card noCard (identify limit ocr) (at p (rowsIn (now (rows .entry)))) (r .card) (at (r .progress) (rowsIn (now (rows .exit)))) ⌝ }
 {
     let named = command::send(p, script, rows, limit, 2, 0, Response::R2);
     let cid = named.words;

@@ -7,6 +7,7 @@ ghost use lib.Dec.{eqb, ltb};
 ghost use Rattle.types.specs.declared.clock.Clock.{Clock};
 ghost use Rattle.types.specs.Leaf.{clockOf, rateOf};
 ghost use Rattle.types.specs.Sd.{oneLine, fourLines, sdSpec};
+ghost use Rattle.tape.specs.Layout.{rowsIn};
 ghost use Rattle.tape.specs.Plan.{give};
 ghost use Rattle.tape.specs.Run.{at, Did, Gave};
 ghost use Rattle.init.specs.Initialise.{setWidth, noClock, clocked, setClock, rated, transferClock, offered, switched, takeSwitch, askSwitch, switchSpeed};
@@ -21,6 +22,7 @@ use tape::progress;
 use tape::progress::Pace;
 use tape::progress::Progress;
 use tape::progress::Word;
+use tape::rows::Row;
 use tape::steps;
 use types::card::Signalling;
 use types::clock::Clock;
@@ -86,12 +88,12 @@ pub fn width(wide: bool) -> u32
 pub fn set_width(
     p: Progress,
     script: &[u32],
-    rows: &mut [u32],
+    rows: &mut [u64],
     settings: Settings,
     rca: u16,
     scr: Scr,
 ) -> Progress
-    ensures { λ r. ⌜ Did (now (script .entry)) (setWidth settings rca (scr .0)) (at p (now (rows .entry))) (at r (now (rows .exit))) ⌝ }
+    ensures { λ r. ⌜ Did (now (script .entry)) (setWidth settings rca (scr .0)) (at p (rowsIn (now (rows .entry)))) (at r (rowsIn (now (rows .exit)))) ⌝ }
 {
     let limit = settings.config.poll_limit;
     let wide = settings.wide;
@@ -103,7 +105,7 @@ pub fn set_width(
 
 // Gives a clock, unless the call has stopped.
 fn give_clock(p: Progress, clock: Clock) -> Clocked
-    ensures { λ r. ⌜ ((s l : List ℕ) → Gave s Clock noClock (give clock) (at p l) (r .clock) (at (r .progress) l)) ⌝ }
+    ensures { λ r. ⌜ ((s : List ℕ) (l : List Row) → Gave s Clock noClock (give clock) (at p l) (r .clock) (at (r .progress) l)) ⌝ }
 {
     let pace = p.pace;
     match pace {
@@ -124,7 +126,7 @@ fn give_clock(p: Progress, clock: Clock) -> Clocked
 
 // The setting for a requested clock.
 fn find_clock(p: Progress, source: Hertz, requested: Hertz, bypass: bool) -> Clocked
-    ensures { λ r. ⌜ ((s l : List ℕ) → Gave s Clock noClock (clocked (clockOf (source .0) (requested .0) bypass)) (at p l) (r .clock) (at (r .progress) l)) ⌝ }
+    ensures { λ r. ⌜ ((s : List ℕ) (l : List Row) → Gave s Clock noClock (clocked (clockOf (source .0) (requested .0) bypass)) (at p l) (r .clock) (at (r .progress) l)) ⌝ }
 {
     let answer = clock_setting(source, requested, bypass);
     match answer {
@@ -144,11 +146,11 @@ fn find_clock(p: Progress, source: Hertz, requested: Hertz, bypass: bool) -> Clo
 fn set_clock(
     p: Progress,
     script: &[u32],
-    rows: &mut [u32],
+    rows: &mut [u64],
     settings: Settings,
     requested: Hertz,
 ) -> Progress
-    ensures { λ r. ⌜ Did (now (script .entry)) (setClock settings (requested .0)) (at p (now (rows .entry))) (at r (now (rows .exit))) ⌝ }
+    ensures { λ r. ⌜ Did (now (script .entry)) (setClock settings (requested .0)) (at p (rowsIn (now (rows .entry)))) (at r (rowsIn (now (rows .exit)))) ⌝ }
 {
     let source = settings.source;
     let limit = settings.config.poll_limit;
@@ -171,7 +173,7 @@ fn set_clock(
 
 // The rate that a TRAN_SPEED byte encodes.
 fn find_rate(p: Progress, encoded: u8) -> Word
-    ensures { λ r. ⌜ ((s l : List ℕ) → Gave s ℕ 0 (rated (rateOf encoded)) (at p l) (r .word) (at (r .progress) l)) ⌝ }
+    ensures { λ r. ⌜ ((s : List ℕ) (l : List Row) → Gave s ℕ 0 (rated (rateOf encoded)) (at p l) (r .word) (at (r .progress) l)) ⌝ }
 {
     let answer = transfer_rate(encoded);
     match answer {
@@ -187,12 +189,12 @@ fn find_rate(p: Progress, encoded: u8) -> Word
 pub fn transfer_clock(
     p: Progress,
     script: &[u32],
-    rows: &mut [u32],
+    rows: &mut [u64],
     settings: Settings,
     frequency: Hertz,
     encoded: u8,
 ) -> Progress
-    ensures { λ r. ⌜ Did (now (script .entry)) (transferClock settings (frequency .0) encoded) (at p (now (rows .entry))) (at r (now (rows .exit))) ⌝ }
+    ensures { λ r. ⌜ Did (now (script .entry)) (transferClock settings (frequency .0) encoded) (at p (rowsIn (now (rows .entry)))) (at r (rowsIn (now (rows .exit)))) ⌝ }
 {
     let slow = lesser(frequency.0, Switch::SDR12);
     let found = find_rate(p, encoded);
@@ -224,12 +226,12 @@ pub fn took(words: [u32; 16]) -> bool
 fn take_switch(
     p: Progress,
     script: &[u32],
-    rows: &mut [u32],
+    rows: &mut [u64],
     settings: Settings,
     frequency: Hertz,
     rca: u16,
 ) -> Progress
-    ensures { λ r. ⌜ Did (now (script .entry)) (takeSwitch settings (frequency .0) rca) (at p (now (rows .entry))) (at r (now (rows .exit))) ⌝ }
+    ensures { λ r. ⌜ Did (now (script .entry)) (takeSwitch settings (frequency .0) rca) (at p (rowsIn (now (rows .entry)))) (at r (rowsIn (now (rows .exit)))) ⌝ }
 {
     let source = settings.source;
     let config = settings.config;
@@ -253,12 +255,12 @@ fn take_switch(
 fn ask_switch(
     p: Progress,
     script: &[u32],
-    rows: &mut [u32],
+    rows: &mut [u64],
     settings: Settings,
     frequency: Hertz,
     rca: u16,
 ) -> Progress
-    ensures { λ r. ⌜ Did (now (script .entry)) (askSwitch settings (frequency .0) rca) (at p (now (rows .entry))) (at r (now (rows .exit))) ⌝ }
+    ensures { λ r. ⌜ Did (now (script .entry)) (askSwitch settings (frequency .0) rca) (at p (rowsIn (now (rows .entry)))) (at r (rowsIn (now (rows .exit)))) ⌝ }
 {
     let asked = Transfer {
         index: 6,
@@ -292,13 +294,13 @@ pub fn fast(frequency: Hertz, scr: Scr) -> bool
 pub fn switch_speed(
     p: Progress,
     script: &[u32],
-    rows: &mut [u32],
+    rows: &mut [u64],
     settings: Settings,
     frequency: Hertz,
     rca: u16,
     scr: Scr,
 ) -> Progress
-    ensures { λ r. ⌜ Did (now (script .entry)) (switchSpeed settings (frequency .0) rca (scr .0)) (at p (now (rows .entry))) (at r (now (rows .exit))) ⌝ }
+    ensures { λ r. ⌜ Did (now (script .entry)) (switchSpeed settings (frequency .0) rca (scr .0)) (at p (rowsIn (now (rows .entry)))) (at r (rowsIn (now (rows .exit)))) ⌝ }
 {
     if fast(frequency, scr) {
         ask_switch(p, script, rows, settings, frequency, rca)

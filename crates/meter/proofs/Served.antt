@@ -6,6 +6,7 @@ use native.Mathlib.Omega.{arith}
 use lib.ListN.{length}
 use borrow.Author.Tests.{lt-ltb, le-ltb}
 use Rattle.types.specs.declared.error.Answer.the-variants as Answered
+use Rattle.tape.specs.declared.rows.Row.{Row}
 use Rattle.host.specs.declared.host.Called.{Called}
 use Rattle.host.specs.declared.host.Made.{Made}
 use Rattle.host.specs.declared.host.Sdmmc.{Sdmmc}
@@ -19,11 +20,11 @@ use Rattle.bench.specs.Trace.{placeAfter, callsServed}
 use Rattle.meter.specs.Metered.{toldWith, Served, servedAt, servedFrom, unserved, metered}
 
 -- one call, put together from what `ask` says of it
-module _ (ws : List ℕ) (k place : ℕ) (host : Sdmmc) (l b : List ℕ) where
+module _ (ws : List ℕ) (k place : ℕ) (host : Sdmmc) (l : List Row) (b : List ℕ) where
   abbrev call : S.Call
   call = asking l (length b) ws (askedAt ws k place)
 
-  pub one-served : {called : Called} {l′ b′ : List ℕ} {told : ℕ}
+  pub one-served : {called : Called} {l′ : List Row} {b′ : List ℕ} {told : ℕ}
       → called ≡ calledOf (comes host call) → l′ ≡ comes host call .list → b′ ≡ bufferAfter call (comes host call) b
       → told ≡ toldWith (numberOf (called .answer)) (called .rows) (called .words)
       → _≡_ {A = Served} (record { host = called .host; list = l′; buffer = b′; told = told }) (servedAt ws k place host l b)
@@ -50,7 +51,7 @@ module _ {ws : List ℕ} {n : ℕ} {whole : Served} {k place : ℕ} {x : Served}
       rw none at (t .rest)
 
 -- words that are no book, and words whose calls are served
-module _ (ws l b : List ℕ) where
+module _ (ws : List ℕ) (l : List Row) (b : List ℕ) where
   pub no-book : 65535 < headingOf ws .«ready_attempts» → unserved Answered.BadBook noHost l b ≡ metered ws l b
   unfolding metered
   no-book over = rw (lt-ltb _ _ over)

@@ -6,6 +6,7 @@ use lib.Dec.{ltb}
 use lib.ListN.{length}
 use Rattle.types.specs.declared.error.Answer.{Answer}
 use Rattle.types.specs.declared.error.Answer.the-variants as Answered
+use Rattle.tape.specs.declared.rows.Row.{Row}
 use Rattle.host.specs.declared.host.Called.{Called}
 use Rattle.host.specs.declared.host.Made.{Made}
 use Rattle.host.specs.declared.host.Sdmmc.{Sdmmc}
@@ -26,12 +27,12 @@ toldOf x = toldWith (numberOf (x .answer)) (x .rows) (x .words)
 -- the host, the row list and the buffer as the last call left them, and what it came to
 pub record Served : Type 0 where
   pub host : Sdmmc
-  pub list : List ℕ
+  pub list : List Row
   pub buffer : List ℕ
   pub told : ℕ
 
 -- call k of words laid out as a book's, counted from 0, whose script starts at a place; a read fills all of the buffer
-unfoldable pub servedAt : List ℕ → ℕ → ℕ → Sdmmc → List ℕ → List ℕ → Served
+unfoldable pub servedAt : List ℕ → ℕ → ℕ → Sdmmc → List Row → List ℕ → Served
 servedAt ws k place host l b =
     let c = asking l (length b) ws (askedAt ws k place) in
     let x = comes host c in
@@ -44,15 +45,15 @@ servedFrom (suc n) ws k place x =
     servedFrom n ws (k + 1) (placeAfter ws k place) (servedAt ws k place (x .host) (x .list) (x .buffer))
 
 -- before the first call: what making the host came to
-abbrev pub unserved : Answer → Sdmmc → List ℕ → List ℕ → Served
+abbrev pub unserved : Answer → Sdmmc → List Row → List ℕ → Served
 unserved answer host l b = record { host = host; list = l; buffer = b; told = toldWith (numberOf answer) 0 0 }
 
 -- all calls on a host, none where there is no host
-abbrev pub servedOn : Made → List ℕ → List ℕ → List ℕ → Served
+abbrev pub servedOn : Made → List ℕ → List Row → List ℕ → Served
 servedOn m ws l b = servedFrom (callsServed (m .answer) (countOf ws)) ws 0 (contentsOf ws) (unserved (m .answer) (m .host) l b)
 
 -- WHAT THE CALLS COME TO, of words laid out as a book's; over 65,535 ready attempts they are no book
-unfoldable pub metered : List ℕ → List ℕ → List ℕ → Served
+unfoldable pub metered : List ℕ → List Row → List ℕ → Served
 metered ws l b =
     cond (ltb 65535 (headingOf ws .«ready_attempts»)) (unserved Answered.BadBook noHost l b)
     (servedOn (made (settingsIn (headingOf ws))) ws l b)

@@ -2,6 +2,7 @@
 // a book's limits. A slice goes over as a pointer and a length.
 ghost use mathlib.Core.Path.{_≡_};
 ghost use lib.ListN.{length};
+ghost use Rattle.tape.specs.Layout.{rowsIn};
 ghost use Rattle.text.specs.Ink.{Laid};
 ghost use Rattle.host.specs.Calls.{calledOf, statusCame};
 ghost use Rattle.calls.specs.Serve.{comes};
@@ -39,9 +40,9 @@ fn told(number: u8, rows: usize, words: usize) -> u64
 }
 
 // A status call, one answer at a time: told as any other.
-fn feed_status(host: Sdmmc, script: &[u32], rows: &mut [u32]) -> Called
-    ensures answered { λ r. ⌜ r ≡ calledOf (statusCame host (now (script .entry)) (now (rows .entry))) ⌝ }
-    ensures listed { λ r. ⌜ now (rows .exit) ≡ statusCame host (now (script .entry)) (now (rows .entry)) .list ⌝ }
+fn feed_status(host: Sdmmc, script: &[u32], rows: &mut [u64]) -> Called
+    ensures answered { λ r. ⌜ r ≡ calledOf (statusCame host (now (script .entry)) (rowsIn (now (rows .entry)))) ⌝ }
+    ensures listed { λ r. ⌜ rowsIn (now (rows .exit)) ≡ statusCame host (now (script .entry)) (rowsIn (now (rows .entry))) .list ⌝ }
 {
     let read = read_sd_status(host, script, rows);
     let answer = read.answer;
@@ -59,12 +60,12 @@ fn feed_call(
     host: Sdmmc,
     words: &[u32],
     asked: Asked,
-    rows: &mut [u32],
+    rows: &mut [u64],
     buffer: &mut [u8],
 ) -> Called
-    ensures answered { λ r. ⌜ r ≡ calledOf (comes host (asking (now (rows .entry)) (length (now (buffer .entry))) (now (words .entry)) asked)) ⌝ }
-    ensures listed { λ r. ⌜ now (rows .exit) ≡ comes host (asking (now (rows .entry)) (length (now (buffer .entry))) (now (words .entry)) asked) .list ⌝ }
-    ensures filled { λ r. ⌜ now (buffer .exit) ≡ bufferAfter (asking (now (rows .entry)) (length (now (buffer .entry))) (now (words .entry)) asked) (comes host (asking (now (rows .entry)) (length (now (buffer .entry))) (now (words .entry)) asked)) (now (buffer .entry)) ⌝ }
+    ensures answered { λ r. ⌜ r ≡ calledOf (comes host (asking (rowsIn (now (rows .entry))) (length (now (buffer .entry))) (now (words .entry)) asked)) ⌝ }
+    ensures listed { λ r. ⌜ rowsIn (now (rows .exit)) ≡ comes host (asking (rowsIn (now (rows .entry))) (length (now (buffer .entry))) (now (words .entry)) asked) .list ⌝ }
+    ensures filled { λ r. ⌜ now (buffer .exit) ≡ bufferAfter (asking (rowsIn (now (rows .entry))) (length (now (buffer .entry))) (now (words .entry)) asked) (comes host (asking (rowsIn (now (rows .entry))) (length (now (buffer .entry))) (now (words .entry)) asked)) (now (buffer .entry)) ⌝ }
 {
     let kind = asked.kind;
     let a = asked.a;
@@ -86,12 +87,12 @@ fn ask(
     host: Sdmmc,
     words: &[u32],
     asked: Asked,
-    rows: &mut [u32],
+    rows: &mut [u64],
     buffer: &mut [u8],
 ) -> Called
-    ensures answered { λ r. ⌜ r ≡ calledOf (comes host (asking (now (rows .entry)) (length (now (buffer .entry))) (now (words .entry)) asked)) ⌝ }
-    ensures listed { λ r. ⌜ now (rows .exit) ≡ comes host (asking (now (rows .entry)) (length (now (buffer .entry))) (now (words .entry)) asked) .list ⌝ }
-    ensures filled { λ r. ⌜ now (buffer .exit) ≡ bufferAfter (asking (now (rows .entry)) (length (now (buffer .entry))) (now (words .entry)) asked) (comes host (asking (now (rows .entry)) (length (now (buffer .entry))) (now (words .entry)) asked)) (now (buffer .entry)) ⌝ }
+    ensures answered { λ r. ⌜ r ≡ calledOf (comes host (asking (rowsIn (now (rows .entry))) (length (now (buffer .entry))) (now (words .entry)) asked)) ⌝ }
+    ensures listed { λ r. ⌜ rowsIn (now (rows .exit)) ≡ comes host (asking (rowsIn (now (rows .entry))) (length (now (buffer .entry))) (now (words .entry)) asked) .list ⌝ }
+    ensures filled { λ r. ⌜ now (buffer .exit) ≡ bufferAfter (asking (rowsIn (now (rows .entry))) (length (now (buffer .entry))) (now (words .entry)) asked) (comes host (asking (rowsIn (now (rows .entry))) (length (now (buffer .entry))) (now (words .entry)) asked)) (now (buffer .entry)) ⌝ }
 {
     if stepped {
         return feed_call(host, words, asked, rows, buffer);
@@ -106,10 +107,10 @@ fn serve_call(
     words: &[u32],
     k: u32,
     place: usize,
-    rows: &mut [u32],
+    rows: &mut [u64],
     buffer: &mut [u8],
 ) -> Turn
-    ensures served { λ r. ⌜ record { host = r .host; list = now (rows .exit); buffer = now (buffer .exit); told = r .told } ≡ servedAt (now (words .entry)) k place host (now (rows .entry)) (now (buffer .entry)) ⌝ }
+    ensures served { λ r. ⌜ record { host = r .host; list = rowsIn (now (rows .exit)); buffer = now (buffer .exit); told = r .told } ≡ servedAt (now (words .entry)) k place host (rowsIn (now (rows .entry))) (now (buffer .entry)) ⌝ }
     ensures passed { λ r. ⌜ r .place ≡ placeAfter (now (words .entry)) k place ⌝ }
 {
     let asked = layout::call_at(words, k, place);
@@ -131,12 +132,12 @@ fn serve_calls(
     words: &[u32],
     calls: u32,
     before: u64,
-    rows: &mut [u32],
+    rows: &mut [u64],
     buffer: &mut [u8],
 ) -> u64
-    ensures told { λ r. ⌜ r ≡ servedFrom calls (now (words .entry)) 0 (contentsOf (now (words .entry))) (record { host = host; list = now (rows .entry); buffer = now (buffer .entry); told = before }) .told ⌝ }
-    ensures listed { λ r. ⌜ now (rows .exit) ≡ servedFrom calls (now (words .entry)) 0 (contentsOf (now (words .entry))) (record { host = host; list = now (rows .entry); buffer = now (buffer .entry); told = before }) .list ⌝ }
-    ensures filled { λ r. ⌜ now (buffer .exit) ≡ servedFrom calls (now (words .entry)) 0 (contentsOf (now (words .entry))) (record { host = host; list = now (rows .entry); buffer = now (buffer .entry); told = before }) .buffer ⌝ }
+    ensures told { λ r. ⌜ r ≡ servedFrom calls (now (words .entry)) 0 (contentsOf (now (words .entry))) (record { host = host; list = rowsIn (now (rows .entry)); buffer = now (buffer .entry); told = before }) .told ⌝ }
+    ensures listed { λ r. ⌜ rowsIn (now (rows .exit)) ≡ servedFrom calls (now (words .entry)) 0 (contentsOf (now (words .entry))) (record { host = host; list = rowsIn (now (rows .entry)); buffer = now (buffer .entry); told = before }) .list ⌝ }
+    ensures filled { λ r. ⌜ now (buffer .exit) ≡ servedFrom calls (now (words .entry)) 0 (contentsOf (now (words .entry))) (record { host = host; list = rowsIn (now (rows .entry)); buffer = now (buffer .entry); told = before }) .buffer ⌝ }
 {
     let mut turn = Turn {
         host: host,
@@ -154,10 +155,10 @@ fn serve_calls(
 
 // Makes the host of words that are laid out as a book's, however many, and serves their calls in the lent list and buffer;
 // a read fills all of the buffer. Gives what the last call came to, or the host where there is none.
-fn serve_list(stepped: bool, words: &[u32], rows: &mut [u32], buffer: &mut [u8]) -> u64
-    ensures told { λ r. ⌜ r ≡ metered (now (words .entry)) (now (rows .entry)) (now (buffer .entry)) .told ⌝ }
-    ensures listed { λ r. ⌜ now (rows .exit) ≡ metered (now (words .entry)) (now (rows .entry)) (now (buffer .entry)) .list ⌝ }
-    ensures filled { λ r. ⌜ now (buffer .exit) ≡ metered (now (words .entry)) (now (rows .entry)) (now (buffer .entry)) .buffer ⌝ }
+fn serve_list(stepped: bool, words: &[u32], rows: &mut [u64], buffer: &mut [u8]) -> u64
+    ensures told { λ r. ⌜ r ≡ metered (now (words .entry)) (rowsIn (now (rows .entry))) (now (buffer .entry)) .told ⌝ }
+    ensures listed { λ r. ⌜ rowsIn (now (rows .exit)) ≡ metered (now (words .entry)) (rowsIn (now (rows .entry))) (now (buffer .entry)) .list ⌝ }
+    ensures filled { λ r. ⌜ now (buffer .exit) ≡ metered (now (words .entry)) (rowsIn (now (rows .entry))) (now (buffer .entry)) .buffer ⌝ }
 {
     let heading = layout::head(words);
     if heading.ready_attempts > 65535 {
@@ -181,20 +182,20 @@ fn serve_list(stepped: bool, words: &[u32], rows: &mut [u32], buffer: &mut [u8])
 
 // The calls of a list, on the script.
 #[no_mangle]
-pub extern "C" fn boresacu_meter_calls(words: &[u32], rows: &mut [u32], buffer: &mut [u8]) -> u64
-    ensures told { λ r. ⌜ r ≡ metered (now (words .entry)) (now (rows .entry)) (now (buffer .entry)) .told ⌝ }
-    ensures listed { λ r. ⌜ now (rows .exit) ≡ metered (now (words .entry)) (now (rows .entry)) (now (buffer .entry)) .list ⌝ }
-    ensures filled { λ r. ⌜ now (buffer .exit) ≡ metered (now (words .entry)) (now (rows .entry)) (now (buffer .entry)) .buffer ⌝ }
+pub extern "C" fn boresacu_meter_calls(words: &[u32], rows: &mut [u64], buffer: &mut [u8]) -> u64
+    ensures told { λ r. ⌜ r ≡ metered (now (words .entry)) (rowsIn (now (rows .entry))) (now (buffer .entry)) .told ⌝ }
+    ensures listed { λ r. ⌜ rowsIn (now (rows .exit)) ≡ metered (now (words .entry)) (rowsIn (now (rows .entry))) (now (buffer .entry)) .list ⌝ }
+    ensures filled { λ r. ⌜ now (buffer .exit) ≡ metered (now (words .entry)) (rowsIn (now (rows .entry))) (now (buffer .entry)) .buffer ⌝ }
 {
     serve_list(false, words, rows, buffer)
 }
 
 // The calls of a list, one answer at a time.
 #[no_mangle]
-pub extern "C" fn boresacu_meter_steps(words: &[u32], rows: &mut [u32], buffer: &mut [u8]) -> u64
-    ensures told { λ r. ⌜ r ≡ metered (now (words .entry)) (now (rows .entry)) (now (buffer .entry)) .told ⌝ }
-    ensures listed { λ r. ⌜ now (rows .exit) ≡ metered (now (words .entry)) (now (rows .entry)) (now (buffer .entry)) .list ⌝ }
-    ensures filled { λ r. ⌜ now (buffer .exit) ≡ metered (now (words .entry)) (now (rows .entry)) (now (buffer .entry)) .buffer ⌝ }
+pub extern "C" fn boresacu_meter_steps(words: &[u32], rows: &mut [u64], buffer: &mut [u8]) -> u64
+    ensures told { λ r. ⌜ r ≡ metered (now (words .entry)) (rowsIn (now (rows .entry))) (now (buffer .entry)) .told ⌝ }
+    ensures listed { λ r. ⌜ rowsIn (now (rows .exit)) ≡ metered (now (words .entry)) (rowsIn (now (rows .entry))) (now (buffer .entry)) .list ⌝ }
+    ensures filled { λ r. ⌜ now (buffer .exit) ≡ metered (now (words .entry)) (rowsIn (now (rows .entry))) (now (buffer .entry)) .buffer ⌝ }
 {
     serve_list(true, words, rows, buffer)
 }

@@ -13,6 +13,7 @@ use Rattle.types.specs.Words.{sdStatusOf}
 use Rattle.tape.specs.declared.progress.Halt.the-variants.{Refused, ScriptEnded, TraceFull}
 use Rattle.tape.specs.declared.progress.Pace.{Pace}
 use Rattle.tape.specs.declared.progress.Pace.the-variants.{Going, Stopped}
+use Rattle.tape.specs.declared.rows.Row.{Row}
 use Rattle.tape.specs.Plan.{Nothing, Cause, failed, ended, Plan}
 use Rattle.tape.specs.Run.{State, at, haltOf, run, runFrom}
 use Rattle.refusals.proofs.Guards.{guard-refused}
@@ -56,7 +57,7 @@ module _ (host : Sdmmc) (transfer : Plan (List ℕ)) (next : State → List ℕ 
       let x = runFrom s [] transfer w in
       ends-accepted host (dropped host (x .state)) (next (x .state) (x .value)) (x .value) (x .state) (x .state .progress .pace) r .1
 
-  module _ (plan : Plan Nothing) (l : List ℕ) where
+  module _ (plan : Plan Nothing) (l : List Row) where
     -- only a call whose approach went through is accepted
     served-accepted : served host plan transfer next s l .answer ≡ Answered.Accepted → run s (tt {0}) plan 0 0 (host .line) l .state .progress .pace ≡ Going
     unfolding served approached ends
@@ -91,7 +92,7 @@ module _ (host : Sdmmc) (transfer : Plan (List ℕ)) (next : State → List ℕ 
     unfolding served approached
     goes-on g = rw g
 
-module _ (host : Sdmmc) (index blocks address : ℕ) (s l : List ℕ) (known : host .known ≡ true) (place : addressOf (host .card .«card_type») (host .card .«block_count» .0) index blocks ≡ Address.Address address) where
+module _ (host : Sdmmc) (index blocks address : ℕ) (s : List ℕ) (l : List Row) (known : host .known ≡ true) (place : addressOf (host .card .«card_type») (host .card .«block_count» .0) index blocks ≡ Address.Address address) where
   -- where the ready wait of a read has come
   abbrev pub readWait : State
   readWait = run s (tt {0}) (waitReady (sourceOf (host .settings)) (host .settings .config) (host .card .rca)) 0 0 (host .line) l .state
@@ -147,7 +148,7 @@ module _ (host : Sdmmc) (index blocks address : ℕ) (s l : List ℕ) (known : h
       (data-refused host (sourceOf (host .settings)) (host .settings .config) (readTransfer address blocks) (host .card .rca) (readNext host) s readWait e
       (rw (read-data g) at r))
 
-module _ (host : Sdmmc) (s l : List ℕ) (known : host .known ≡ true) where
+module _ (host : Sdmmc) (s : List ℕ) (l : List Row) (known : host .known ≡ true) where
   -- where CMD55 of a status call has come
   abbrev pub status55 : State
   status55 = run s (tt {0}) (appCommand (limitOf (host .settings)) (host .card .rca)) 0 0 (host .line) l .state

@@ -15,8 +15,8 @@ use Rattle.types.specs.declared.error.Answer.the-variants as Answered
 use Rattle.types.specs.declared.error.Error.the-variants as E
 use Rattle.types.specs.Leaf.{clockOf}
 use Rattle.tape.specs.declared.progress.Line.{Line}
+use Rattle.tape.specs.declared.rows.Row.{Row}
 use Rattle.tape.specs.Plan.{Plan, fail}
-use Rattle.tape.specs.Rows.{roomOf}
 use Rattle.tape.specs.Run.{After, run}
 use Rattle.tape.proofs.Ends.{EndsThere, ends-there}
 use Rattle.tape.proofs.Room.{Written, free, run-fits, run-full}
@@ -31,24 +31,24 @@ use Rattle.refusals.specs.Whole.{initAt, initWhole, readWhole, statusWho
 use Rattle.refusals.proofs.Whole.{wouldWrite, ended-pace, unclocked, read-walk, status-walk, steps-ran, read-ran, status-ran}
 
 -- a reading finds no word, and there is room for the rows before it
-pub record RunsOut (l : List ℕ) (c : Reach) : Type 0 where
+pub record RunsOut (l : List Row) (c : Reach) : Type 0 where
   pub short : c .short ≡ true
-  pub reached : length (c .rows) ≤ roomOf l
+  pub reached : length (c .rows) ≤ length l
 
 -- of a call that would write so many rows, given endless room: those that close it are counted
-pub record Ended (s l : List ℕ) (c : Reach) (would : ℕ) (x : Came) : Type 0 where
-  pub answer : RunsOut l c → x .answer ≡ cond (ltb (roomOf l) would) Answered.TraceFull Answered.ScriptEnded
+pub record Ended (s : List ℕ) (l : List Row) (c : Reach) (would : ℕ) (x : Came) : Type 0 where
+  pub answer : RunsOut l c → x .answer ≡ cond (ltb (length l) would) Answered.TraceFull Answered.ScriptEnded
   pub words : RunsOut l c → x .words ≡ length s
   pub nowhere : x .answer ≡ Answered.ScriptEnded → RunsOut l c
 
 -- so at 21 every word of the script was used
-pub all-used : {s l : List ℕ} {c : Reach} {would : ℕ} {x : Came} → Ended s l c would x → x .answer ≡ Answered.ScriptEnded → x .words ≡ length s
+pub all-used : {s : List ℕ} {l : List Row} {c : Reach} {would : ℕ} {x : Came} → Ended s l c would x → x .answer ≡ Answered.ScriptEnded → x .words ≡ length s
 all-used e r = e .words (e .nowhere r)
 
 full-not-21 : Answered.TraceFull ≡ Answered.ScriptEnded → ⊥
 full-not-21 e = let z : _≡_ {A = ℕ} 0 1 = cc in omega arith
 
-module _ (rule : Rule) {A : Type 0} (d : A) (p : Plan A) (h : Line) (s l : List ℕ) (x : Came) (ran : Ran x (run s d p 0 0 h l)) where
+module _ (rule : Rule) {A : Type 0} (d : A) (p : Plan A) (h : Line) (s : List ℕ) (l : List Row) (x : Came) (ran : Ran x (run s d p 0 0 h l)) where
   c : Reach
   c = reach s p 0 h
 
@@ -56,47 +56,47 @@ module _ (rule : Rule) {A : Type 0} (d : A) (p : Plan A) (h : Line) (s l : List 
   would = wouldWrite s d p h
 
   -- with room for all its rows
-  fits-ended : Closed A (length s) c (free s d p 0 h) → EndsThere A c (free s d p 0 h) → length (c .rows) ≤ would → would ≤ roomOf l → Ended s l c would x
+  fits-ended : Closed A (length s) c (free s d p 0 h) → EndsThere A c (free s d p 0 h) → length (c .rows) ≤ would → would ≤ length l → Ended s l c would x
   unfolding c would
   fits-ended closed there more fits =
       let all = run-fits s d p 0 0 h l (omega (arith, fits)) in
       let told : x .answer ≡ answerOf (free s d p 0 h .pace) = ran .answer ∙ ap (λ (y : After A). answerOf (y .state .progress .pace)) all in
       record {
-        answer = λ out. rw (le-ltb (roomOf l) (wouldWrite s d p h) fits) (told ∙ ap answerOf (there .here (out .short)));
+        answer = λ out. rw (le-ltb (length l) (wouldWrite s d p h) fits) (told ∙ ap answerOf (there .here (out .short)));
         words = λ out. ran .words ∙ ap (λ (y : After A). y .state .progress .used) all ∙ closed .all (out .short);
         nowhere = λ r.
             record { short = there .only (ended-pace (free s d p 0 h .pace) (sym told ∙ r)); reached = omega (arith, more, fits) };
       }
 
   -- and without: a row that finds none after the words have run out is a closing row
-  full-ended : Closed A (length s) c (free s d p 0 h) → roomOf l < would → Ended s l c would x
+  full-ended : Closed A (length s) c (free s d p 0 h) → length l < would → Ended s l c would x
   unfolding c would
   full-ended closed over =
       let w : Written = record { row = record { register = 0; value = 0 }; used = 0; line = h } in
       let rows = free s d p 0 h .rows in
-      let some = run-full s d w p 0 0 h l (roomOf l) (omega arith) over in
+      let some = run-full s d w p 0 0 h l (length l) (omega arith) over in
       let told : x .answer ≡ Answered.TraceFull = ran .answer ∙ ap (λ (y : After A). answerOf (y .state .progress .pace)) some in
-      let long : roomOf l < length (reach s p 0 h .rows ++ closed .closing) = rw (closed .rows) at over in
+      let long : length l < length (reach s p 0 h .rows ++ closed .closing) = rw (closed .rows) at over in
       record {
-        answer = λ out. rw (lt-ltb (roomOf l) (wouldWrite s d p h) over) told;
+        answer = λ out. rw (lt-ltb (length l) (wouldWrite s d p h) over) told;
         words = λ out.
             ran .words ∙ ap (λ (y : After A). y .state .progress .used) some
-            ∙ ap (λ (xs : List Written). getD xs (roomOf l) w .used) (closed .rows)
-            ∙ late-row (length s) (reach s p 0 h .rows) (closed .closing) w (roomOf l) (closed .late) (out .reached) long;
+            ∙ ap (λ (xs : List Written). getD xs (length l) w .used) (closed .rows)
+            ∙ late-row (length s) (reach s p 0 h .rows) (closed .closing) w (length l) (closed .late) (out .reached) long;
         nowhere = λ r. absurd (full-not-21 (sym told ∙ r));
       }
 
   ended-at : obeys rule false p → rule .holds h → Ended s l (reach s p 0 h) (wouldWrite s d p h) x
   unfolding c would
-  ended-at b i = by (decLe (wouldWrite s d p h) (roomOf l)) (at-its-end s d p 0 h (omega arith))
+  ended-at b i = by (decLe (wouldWrite s d p h) (length l)) (at-its-end s d p 0 h (omega arith))
     where
-      by : Dec (wouldWrite s d p h ≤ roomOf l) → Closed A (length s) (reach s p 0 h) (free s d p 0 h) → Ended s l (reach s p 0 h) (wouldWrite s d p h) x
+      by : Dec (wouldWrite s d p h ≤ length l) → Closed A (length s) (reach s p 0 h) (free s d p 0 h) → Ended s l (reach s p 0 h) (wouldWrite s d p h) x
       by (yes fits) closed =
           let more : length (reach s p 0 h .rows) ≤ wouldWrite s d p h = rw (closed .rows) (omega (arith, length-append (reach s p 0 h .rows) (closed .closing))) in
           fits-ended closed (ends-there rule s d p 0 h b i) more fits
       by (no over) closed = full-ended closed (omega arith)
 
-module _ (host : Sdmmc) (s l : List ℕ) where
+module _ (host : Sdmmc) (s : List ℕ) (l : List Row) where
   pub read-ended : (index bytes : ℕ)
       → Ended s l (reach s (readWhole host index bytes) 0 (host .line)) (wouldWrite s [] (readWhole host index bytes) (host .line)) (readCame host index bytes s l)
   read-ended index bytes =

@@ -7,7 +7,7 @@ use mathlib.Core.Path.{_≡_, refl, ap, sym, _∙_}
 use native.Mathlib.Omega.{arith}
 use native.Mathlib.Decide.{decLe}
 use lib.Dec.{ltb}
-use lib.ListN.{length, getD, take, drop}
+use lib.ListN.{length, getD, take, drop, set}
 use borrow.Author.Tests.{le-ltb, lt-ltb}
 use Rattle.tape.specs.declared.progress.Halt.the-variants.{Refused, ScriptEnded, TraceFull}
 use Rattle.tape.specs.declared.progress.Line.{Line}
@@ -17,30 +17,30 @@ use Rattle.tape.specs.declared.rows.Row.{Row}
 use Rattle.tape.proofs.Laws.{run-handle}
 use Rattle.tape.specs.Plan.{Nothing, Cause, failed, ended, Plan, give, refuse, read, write, look, hold, handle, _then_, refusing, guard}
 use Rattle.tape.proofs.Room.{isFull, free, full-exactly, laid-between, run-fits}
-use Rattle.tape.specs.Rows.{ARG, CLKCR, CMD, DCTRL, DCTRL2, DLEN, DTIMER, ICR, MASK, POWER, placeOf, rowAt, roomOf, wordsOf}
+use Rattle.tape.specs.Rows.{ARG, CLKCR, CMD, DCTRL, DCTRL2, DLEN, DTIMER, ICR, MASK, POWER}
 use Rattle.tape.specs.Run.{State, at, After, after, noted, haltOf, run, runFrom, nextAt}
 use Rattle.tape.specs.Steps.{row, resetController}
 
-abbrev rowOf : ℕ → ℕ → Row
-rowOf register value = record { register = register; value = value }
+abbrev rowTo : ℕ → ℕ → Row
+rowTo register value = record { register = register; value = value }
 
 -- 'Reset rows, in order: MASK, DCTRL2, DCTRL, CMD, POWER, CLKCR, ARG, DTIMER, DLEN, all 0, then ICR 0x00c007ff'
 abbrev pub resetRows : List Row
 resetRows =
-    rowOf MASK 0 ∷ rowOf DCTRL2 0 ∷ rowOf DCTRL 0 ∷ rowOf CMD 0 ∷ rowOf POWER 0 ∷ rowOf CLKCR 0 ∷ rowOf ARG 0 ∷ rowOf DTIMER 0
-    ∷ rowOf DLEN 0 ∷ rowOf ICR 0x00c0_07ff ∷ []
+    rowTo MASK 0 ∷ rowTo DCTRL2 0 ∷ rowTo DCTRL 0 ∷ rowTo CMD 0 ∷ rowTo POWER 0 ∷ rowTo CLKCR 0 ∷ rowTo ARG 0 ∷ rowTo DTIMER 0
+    ∷ rowTo DLEN 0 ∷ rowTo ICR 0x00c0_07ff ∷ []
 
 -- CLKCR reads 0 after them; clock, signalling and gate stand
 abbrev pub clkcrCleared : Line → Line
 clkcrCleared h = record { clkcr = 0; gated = h .gated; clock = h .clock; signalling = h .signalling }
 
 -- the reset rows in a list of which n rows are written
-abbrev pub resetLaid : List ℕ → ℕ → List ℕ
-resetLaid l n = take (placeOf n) l ++ wordsOf resetRows ++ drop (placeOf (n + 10)) l
+abbrev pub resetLaid : List Row → ℕ → List Row
+resetLaid l n = take n l ++ resetRows ++ drop (n + 10) l
 
 -- w′ is w and then the ten reset rows, all of them; no word is used, and it goes or has stopped as before
 pub record ThenReset (w w′ : State) : Type 0 where
-  pub room : w .progress .rows + 10 ≤ roomOf (w .list)
+  pub room : w .progress .rows + 10 ≤ length (w .list)
   pub pace : w′ .progress .pace ≡ w .progress .pace
   pub used : w′ .progress .used ≡ w .progress .used
   pub rows : w′ .progress .rows ≡ w .progress .rows + 10
@@ -48,8 +48,8 @@ pub record ThenReset (w w′ : State) : Type 0 where
   pub list : w′ .list ≡ resetLaid (w .list) (w .progress .rows)
 
 -- what the reset rows come to: all ten, or no room for them
-data Reset (s : List ℕ) (u n : ℕ) (h : Line) (l : List ℕ) : Type 0 where
-  whole : n + 10 ≤ roomOf l → run s (tt {0}) resetController u n h l ≡ after tt Going u (n + 10) (clkcrCleared h) (resetLaid l n) → Reset s u n h l
+data Reset (s : List ℕ) (u n : ℕ) (h : Line) (l : List Row) : Type 0 where
+  whole : n + 10 ≤ length l → run s (tt {0}) resetController u n h l ≡ after tt Going u (n + 10) (clkcrCleared h) (resetLaid l n) → Reset s u n h l
   full : run s (tt {0}) resetController u n h l .state .progress .pace ≡ Stopped TraceFull → Reset s u n h l
 
 is-full : (q : Pace) → isFull q ≡ true → q ≡ Stopped TraceFull
@@ -58,19 +58,19 @@ is-full (Stopped (Refused x)) e = let z : _≡_ {A = ℕ} 0 1 = cc in absurd (om
 is-full (Stopped ScriptEnded) e = let z : _≡_ {A = ℕ} 0 1 = cc in absurd (omega arith)
 is-full (Stopped TraceFull) e = refl
 
-reset : (s : List ℕ) (u n : ℕ) (h : Line) (l : List ℕ) → Reset s u n h l
+reset : (s : List ℕ) (u n : ℕ) (h : Line) (l : List Row) → Reset s u n h l
 unfolding resetController row handle run free noted
-reset s u n h l = by (decLe (n + 10) (roomOf l)) (decLe n (roomOf l))
+reset s u n h l = by (decLe (n + 10) (length l)) (decLe n (length l))
   where
-    by : Dec (n + 10 ≤ roomOf l) → Dec (n ≤ roomOf l) → Reset s u n h l
+    by : Dec (n + 10 ≤ length l) → Dec (n ≤ length l) → Reset s u n h l
     by (yes fits) before =
         let x = free s (tt {0}) resetController u h in
         whole fits
         (run-fits s (tt {0}) resetController u n h l fits
-        ∙ ap (λ (k : List ℕ). after (tt {0}) Going u (n + 10) (clkcrCleared h) k) (laid-between l n (x .rows) fits))
+        ∙ ap (λ (k : List Row). after (tt {0}) Going u (n + 10) (clkcrCleared h) k) (laid-between l n (x .rows) fits))
     by (no over) (yes before) =
-        full (is-full _ (full-exactly s (tt {0}) resetController u n h l before ∙ lt-ltb (roomOf l) (n + 10) (omega arith)))
-    by (no over) (no before) = full (rw (le-ltb n (roomOf l) (omega arith)))
+        full (is-full _ (full-exactly s (tt {0}) resetController u n h l before ∙ lt-ltb (length l) (n + 10) (omega arith)))
+    by (no over) (no before) = full (rw (le-ltb n (length l) (omega arith)))
 
 -- a cause is not that it goes on, nor want of room; and two that stop a call alike are one
 not-going : (e : Cause) → Going ≡ Stopped (haltOf e) → ⊥
@@ -111,7 +111,7 @@ module _ (s : List ℕ) {A : Type 0} (d : A) where
       law : runFrom s d (refusing resetController x) w ≡ on (runFrom s (tt {0}) resetController w)
       law = run-handle s (tt {0}) d (λ _. refuse x) refuse resetController u n (w .progress .line) (w .list)
 
-      all : (y : After Nothing) → n + 10 ≤ roomOf (w .list) → y ≡ after tt Going u (n + 10) (clkcrCleared (w .progress .line)) (resetLaid (w .list) n)
+      all : (y : After Nothing) → n + 10 ≤ length (w .list) → y ≡ after tt Going u (n + 10) (clkcrCleared (w .progress .line)) (resetLaid (w .list) n)
           → on y .state .progress .pace ≡ Stopped (haltOf e) → Guarded e w (on y .state)
       all y fits same r =
           let r′ = rw same at r in
@@ -131,7 +131,7 @@ module _ (s : List ℕ) {A : Type 0} (d : A) where
       by (full f) r = short (runFrom s (tt {0}) resetController w) f r
 
   -- THE LAW of the guard: where a guarded plan is refused, the plan was, for the same cause, and the reset rows followed
-  pub guard-refused : (p : Plan A) (u n : ℕ) (h : Line) (l : List ℕ) (e : Cause)
+  pub guard-refused : (p : Plan A) (u n : ℕ) (h : Line) (l : List Row) (e : Cause)
       → run s d (guard resetController p) u n h l .state .progress .pace ≡ Stopped (haltOf e)
       → Guarded e (run s d p u n h l .state) (run s d (guard resetController p) u n h l .state)
   unfolding run nextAt
@@ -163,7 +163,7 @@ same-by f g true x x′ y y′ e e′ = e
 same-by f g false x x′ y y′ e e′ = e′
 
 -- what a plan gives where it stops is no part of where it stops
-same-state : (s : List ℕ) {A : Type 0} (d d′ : A) (p : Plan A) (u n : ℕ) (h : Line) (l : List ℕ) → run s d p u n h l .state ≡ run s d′ p u n h l .state
+same-state : (s : List ℕ) {A : Type 0} (d d′ : A) (p : Plan A) (u n : ℕ) (h : Line) (l : List Row) → run s d p u n h l .state ≡ run s d′ p u n h l .state
 unfolding run
 same-state s d d′ (give a) u n h l = refl
 same-state s d d′ (refuse c) u n h l = refl
@@ -171,7 +171,7 @@ same-state s {A} d d′ (read r k z) u n h l =
     same-by {X = After A} {Y = After A} (λ x. x .state) (λ x. x .state) (ltb u (length s)) _ _ _ _ (same-state s d d′ (k (getD s u 0)) (u + 1) n h l)
     (same-state s d d′ z u n h l)
 same-state s {A} d d′ (write r p) u n h l =
-    same-by {X = After A} {Y = After A} (λ x. x .state) (λ x. x .state) (ltb n (roomOf l)) _ _ _ _ (same-state s d d′ p u (n + 1) (noted r h) (rowAt l n r)) refl
+    same-by {X = After A} {Y = After A} (λ x. x .state) (λ x. x .state) (ltb n (length l)) _ _ _ _ (same-state s d d′ p u (n + 1) (noted r h) (set l n r)) refl
 same-state s d d′ (look k) u n h l = same-state s d d′ (k h) u n h l
 same-state s d d′ (hold h′ p) u n h l = same-state s d d′ p u n h′ l
 
@@ -208,7 +208,7 @@ module _ (s : List ℕ) {B : Type 0} (d′ : B) (q : Plan B) (w′ : State) (x :
 
 -- What a plan gives, where it comes to its end.
 abbrev pub Yields : List ℕ → {A : Type 0} → (A → Type 0) → Plan A → Type 0
-Yields s {A} P p = (d : A) (u n : ℕ) (h : Line) (l : List ℕ) → run s d p u n h l .state .progress .pace ≡ Going → P (run s d p u n h l .value)
+Yields s {A} P p = (d : A) (u n : ℕ) (h : Line) (l : List Row) → run s d p u n h l .state .progress .pace ≡ Going → P (run s d p u n h l .value)
 
 module _ (s : List ℕ) {A : Type 0} (P : A → Type 0) where
   pub yields-give : (a : A) → P a → Yields s P (give a)

@@ -17,6 +17,7 @@ use Rattle.types.specs.declared.error.Error.the-variants as E
 use Rattle.types.specs.Leaf.{clockOf}
 use Rattle.types.specs.Sd.{sdSpec, tranSpeed, wideOf}
 use Rattle.tape.specs.declared.progress.Pace.the-variants.{Going, Stopped}
+use Rattle.tape.specs.declared.rows.Row.{Row}
 use Rattle.tape.specs.Plan.{Nothing, Cause, Plan, refuse, guard, ensure}
 use Rattle.tape.specs.Run.{State, at, After, haltOf, run, runFrom}
 use Rattle.tape.specs.Steps.{resetController}
@@ -61,7 +62,7 @@ init-zero s set c frequency =
     (λ _. yields-give s StatusZero (withScr card scr) none)))))
     (yields-refuse s StatusZero)))
 
-pub found-zero : (s : List ℕ) (set : Settings) (c : Clock) (frequency : ℕ) (l : List ℕ)
+pub found-zero : (s : List ℕ) (set : Settings) (c : Clock) (frequency : ℕ) (l : List Row)
     → run s noCard (initialise set c frequency) 0 0 (freshLine (c .frequency)) l .state .progress .pace ≡ Going
     → StatusZero (run s noCard (initialise set c frequency) 0 0 (freshLine (c .frequency)) l .value)
 unfolding initialise
@@ -80,7 +81,7 @@ identification-clock source from2 upTo = by (clockOf source 400_000 false) refl
 
 -- Line 3. 'Any of 1 to 20 after that in initialisation: reset rows, no record.'
 
-module _ (host : Sdmmc) (frequency : ℕ) (s l : List ℕ) (some : 1 ≤ frequency) (most : frequency ≤ 50_000_000) (c : Clock) (set : clockOf (sourceOf (host .settings)) 400_000 false ≡ Clocked.Set c) where
+module _ (host : Sdmmc) (frequency : ℕ) (s : List ℕ) (l : List Row) (some : 1 ≤ frequency) (most : frequency ≤ 50_000_000) (c : Clock) (set : clockOf (sourceOf (host .settings)) 400_000 false ≡ Clocked.Set c) where
   -- the steps of it, before a refusal's reset rows
   abbrev pub initSteps : State
   initSteps = run s noCard (initCard (host .settings) c frequency) 0 0 (freshLine (c .frequency)) l .state

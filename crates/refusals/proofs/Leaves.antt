@@ -2,7 +2,7 @@
 use Prim.Native.Nat.{ℕ, _+_, _*_, _-_, _/_, _%_, _≤_, min}
 use mathlib.Core.Bool.{false, _||_}
 use mathlib.Core.List.{List, []}
-use mathlib.Core.Path.{_≡_, refl, ap, sym, _∙_}
+use mathlib.Core.Path.{_≡_, refl, ap, sym, subst, _∙_}
 use native.Mathlib.Omega.{arith}
 use lib.Dec.{eqb, ltb}
 use lib.ListN.{length, drop}
@@ -19,10 +19,12 @@ use Rattle.types.specs.Words.{bytesOf}
 use Rattle.tape.specs.declared.progress.Halt.the-variants.{Refused, ScriptEnded, TraceFull}
 use Rattle.tape.specs.declared.progress.Pace.{Pace}
 use Rattle.tape.specs.declared.progress.Pace.the-variants.{Going, Stopped}
+use Rattle.tape.specs.declared.rows.Row.{Row}
+use Rattle.tape.specs.Layout.{rowsIn}
 use Rattle.tape.specs.Plan.{Nothing, Plan}
 use Rattle.tape.specs.Run.{State, at, run, runFrom}
 use Rattle.tape.proofs.Laws.{by-cases, from-going}
-use Rattle.tape.proofs.Room.{Kept, keeps}
+use Rattle.tape.proofs.Room.{Kept, WordsKept, keeps, words-kept}
 use Rattle.tape.proofs.Words.{within-script}
 use Rattle.host.proofs.Ran.{begun}
 use Rattle.bus.specs.Command.{appCommand}
@@ -36,17 +38,21 @@ use Rattle.host.specs.declared.host.Sdmmc.{Sdmmc}
 
 -- Line 6, as request P3 changes it: '22: rows so far, host as before' (21 is in lines 3 to 5), and what follows the table: 'The block buffer is written only when the whole
 -- call is accepted. ... List words past those rows keep their contents.' Of every call, whatever its argument. (`Kept`, of
--- the tape: the list is as long as it was, the rows are no more than there is room for, and the words past them stand.) The
+-- the tape: the list is as long as it was, the rows are no more than there is room for, and those past them stand.) The
 -- settings are those that the host was made with, so that its clock of identification is set (`identification-clock`). No call
 -- uses more words than its script has.
-pub record Leaves (host : Sdmmc) (s l : List ℕ) (x : Came) : Type 0 where
+pub record Leaves (host : Sdmmc) (s : List ℕ) (l : List Row) (x : Came) : Type 0 where
   pub full : x .answer ≡ Answered.TraceFull → x .host ≡ host
   pub taken : (x .answer ≡ Answered.Accepted → ⊥) → x .taken ≡ []
   pub words : x .words ≤ length s
   pub rows : Kept 0 l (x .rows) (x .list)
   pub settings : x .host .settings ≡ host .settings
 
-untouched-leaves : (host : Sdmmc) (e : Error) (s l : List ℕ) → Leaves host s l (untouched host e l)
+-- so of the words of the list that it was lent
+pub words-left : {host : Sdmmc} {s ws ws′ : List ℕ} {x : Came} → Leaves host s (rowsIn ws) x → rowsIn ws′ ≡ x .list → WordsKept 0 ws (x .rows) ws′
+words-left {ws = ws} {x = x} left e = words-kept (subst (Kept 0 (rowsIn ws) (x .rows)) (sym e) (left .rows))
+
+untouched-leaves : (host : Sdmmc) (e : Error) (s : List ℕ) (l : List Row) → Leaves host s l (untouched host e l)
 untouched-leaves host e s l =
     record {
       full = λ r. refl;
@@ -56,7 +62,7 @@ untouched-leaves host e s l =
       settings = refl;
     }
 
-ends-leaves : (host refused accepted : Sdmmc) (words s l : List ℕ) (q : Pace) (w : State) → refused .settings ≡ host .settings → accepted .settings ≡ host .settings
+ends-leaves : (host refused accepted : Sdmmc) (words s : List ℕ) (l : List Row) (q : Pace) (w : State) → refused .settings ≡ host .settings → accepted .settings ≡ host .settings
     → w .progress .used ≤ length s → Kept 0 l (w .progress .rows) (w .list) → Leaves host s l (ends host refused accepted words q w)
 unfolding ends
 ends-leaves host refused accepted words s l Going w sr sa u k =
@@ -96,9 +102,9 @@ going-kept : (s : List ℕ) {A : Type 0} (d : A) (p : Plan A) (w : State) → w 
 going-kept s d p w g = keeps (from-going {s = s} {d = d} {p = p} {w = w} {v = runFrom s d p w .value} {w′ = runFrom s d p w .state} g refl)
 
 -- and then another
-kept-on : {l : List ℕ} {n : ℕ} {l₁ : List ℕ} {n₂ : ℕ} {l₂ : List ℕ} → Kept 0 l n l₁ → Kept n l₁ n₂ l₂ → Kept 0 l n₂ l₂
+kept-on : {l : List Row} {n : ℕ} {l₁ : List Row} {n₂ : ℕ} {l₂ : List Row} → Kept 0 l n l₁ → Kept n l₁ n₂ l₂ → Kept 0 l n₂ l₂
 kept-on {l} {n} {l₁} {n₂} {l₂} a b =
-    let more : 2 * n + (2 * n₂ - 2 * n) ≡ 2 * n₂ = omega (arith, b .more) in
+    let more : n + (n₂ - n) ≡ n₂ = omega (arith, b .more) in
     record {
       more = omega arith;
       within = λ h. rw (a .long) at (b .within (rw (a .long) (a .within h)));
@@ -106,10 +112,10 @@ kept-on {l} {n} {l₁} {n₂} {l₂} a b =
       before = refl;
       past =
           b .past
-          ∙ rw more at (sym (drop-drop (2 * n₂ - 2 * n) (2 * n) l₁) ∙ ap (drop (2 * n₂ - 2 * n)) (a .past) ∙ drop-drop (2 * n₂ - 2 * n) (2 * n) l);
+          ∙ rw more at (sym (drop-drop (n₂ - n) n l₁) ∙ ap (drop (n₂ - n)) (a .past) ∙ drop-drop (n₂ - n) n l);
     }
 
-served-leaves : (host : Sdmmc) (plan : Plan Nothing) (transfer : Plan (List ℕ)) (next : State → List ℕ → Sdmmc) (s l : List ℕ)
+served-leaves : (host : Sdmmc) (plan : Plan Nothing) (transfer : Plan (List ℕ)) (next : State → List ℕ → Sdmmc) (s : List ℕ) (l : List Row)
     → ((w : State) (ws : List ℕ) → next w ws .settings ≡ host .settings) → Leaves host s l (served host plan transfer next s l)
 unfolding served approached transferred
 served-leaves host plan transfer next s l same = by (w .progress .pace) refl
@@ -130,7 +136,7 @@ served-leaves host plan transfer next s l same = by (w .progress .pace) refl
         (going-within s [] transfer w g used) (kept-on start (going-kept s [] transfer w g))
     by (Stopped h) g = ends-leaves host (kept host w) host [] s l (Stopped h) w refl refl used start
 
-pub initialise-leaves : (host : Sdmmc) (frequency : ℕ) (s l : List ℕ) → Leaves host s l (initialised host frequency s l)
+pub initialise-leaves : (host : Sdmmc) (frequency : ℕ) (s : List ℕ) (l : List Row) → Leaves host s l (initialised host frequency s l)
 unfolding initialised initFrom
 initialise-leaves host frequency s l =
     by-cases (Leaves host s l) (eqb frequency 0 || ltb 50_000_000 frequency) _ _ (untouched-leaves host E.BadClock s l)
@@ -144,7 +150,7 @@ initialise-leaves host frequency s l =
         (going-within s noCard (initialise (host .settings) c frequency) (at (begun (freshLine (c .frequency))) l) refl (omega arith))
         (going-kept s noCard (initialise (host .settings) c frequency) (at (begun (freshLine (c .frequency))) l) refl)
 
-pub read-leaves : (host : Sdmmc) (index bytes : ℕ) (s l : List ℕ) → Leaves host s l (readCame host index bytes s l)
+pub read-leaves : (host : Sdmmc) (index bytes : ℕ) (s : List ℕ) (l : List Row) → Leaves host s l (readCame host index bytes s l)
 unfolding readCame readKnown readFrom
 read-leaves host index bytes s l =
     by-cases (Leaves host s l) (host .known) _ _
@@ -158,7 +164,7 @@ read-leaves host index bytes s l =
     by (Address.Address a) =
         served-leaves host (waitReady (sourceOf (host .settings)) (host .settings .config) (host .card .rca)) (readPlan host a (bytes / 512)) (readNext host) s l (λ w ws. refl)
 
-pub status-leaves : (host : Sdmmc) (s l : List ℕ) → Leaves host s l (statusCame host s l)
+pub status-leaves : (host : Sdmmc) (s : List ℕ) (l : List Row) → Leaves host s l (statusCame host s l)
 unfolding statusCame
 status-leaves host s l =
     by-cases (Leaves host s l) (host .known) _ _

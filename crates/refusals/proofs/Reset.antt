@@ -4,7 +4,7 @@ use mathlib.Core.Bool.{false}
 use mathlib.Core.List.{List, [], _++_, append-assoc}
 use mathlib.Core.Path.{_≡_, refl, ap, _∙_}
 use native.Mathlib.Omega.{arith}
-use lib.ListN.{take, drop}
+use lib.ListN.{length, take, drop}
 use lib.Seq.{take-at, drop-at, length-take-le}
 use Rattle.types.specs.declared.error.Answer.the-variants as Answered
 use Rattle.tape.specs.declared.progress.Halt.the-variants.{Refused, ScriptEnded, TraceFull}
@@ -13,7 +13,7 @@ use Rattle.tape.specs.declared.progress.Pace.the-variants.{Going, Stopped}
 use Rattle.tape.specs.Plan.{Cause, failed, ended}
 use Rattle.tape.specs.Run.{State, haltOf}
 use Rattle.tape.specs.declared.progress.Line.{Line}
-use Rattle.tape.specs.Rows.{placeOf, roomOf, wordsOf}
+use Rattle.tape.specs.declared.rows.Row.{Row}
 use Rattle.refusals.proofs.Guards.{Guarded, clkcrCleared, resetLaid, resetRows}
 use Rattle.init.specs.Initialise.{noCard}
 use Rattle.host.specs.Calls.{Came, came, dropped, ends, hostOf}
@@ -50,23 +50,21 @@ pub record ResetAfter (e : Cause) (host : Sdmmc) (w : State) (x : Came) : Type 0
   pub answer : x .answer ≡ answerFor e
   pub words : x .words ≡ w .progress .used
   pub rows : x .rows ≡ w .progress .rows + 10
-  pub room : w .progress .rows + 10 ≤ roomOf (w .list)
+  pub room : w .progress .rows + 10 ≤ length (w .list)
   pub list : x .list ≡ resetLaid (w .list) (w .progress .rows)
   pub taken : x .taken ≡ []
   pub next : x .host ≡ hostOf (host .settings) (clkcrCleared (w .progress .line)) false noCard
 
 -- so the last ten of the rows that it wrote are the reset rows
-pub reset-last : {e : Cause} {host : Sdmmc} {w : State} {x : Came} → ResetAfter e host w x
-    → take 20 (drop (placeOf (x .rows - 10)) (x .list)) ≡ wordsOf resetRows
-unfolding wordsOf
+pub reset-last : {e : Cause} {host : Sdmmc} {w : State} {x : Came} → ResetAfter e host w x → take 10 (drop (x .rows - 10) (x .list)) ≡ resetRows
 reset-last {w = w} {x = x} r =
     let n = w .progress .rows in
     let back : x .rows - 10 ≡ n = omega (arith, r .rows) in
-    let rest = wordsOf resetRows ++ drop (2 * (n + 10)) (w .list) in
+    let past = drop (n + 10) (w .list) in
     rw (back, r .list)
-    (ap (λ (k : List ℕ). take 20 (drop (2 * n) k)) (append-assoc (take (2 * n) (w .list)) (wordsOf resetRows) (drop (2 * (n + 10)) (w .list)))
-    ∙ ap (take 20) (drop-at (take (2 * n) (w .list)) rest (2 * n) (length-take-le (2 * n) (w .list) (omega (arith, r .room))))
-    ∙ take-at (wordsOf resetRows) (drop (2 * (n + 10)) (w .list)) 20 refl)
+    (ap (λ (l : List Row). take 10 (drop n l)) (append-assoc (take n (w .list)) resetRows past)
+    ∙ ap (take 10) (drop-at (take n (w .list)) (resetRows ++ past) n (length-take-le n (w .list) (omega (arith, r .room))))
+    ∙ take-at resetRows past 10 refl)
 
 pub reset-after : {e : Cause} {host : Sdmmc} {w w′ : State} {x : Came} → Guarded e w w′ → x ≡ came (answerFor e) w′ [] (dropped host w′)
     → ResetAfter e host w x

@@ -22,6 +22,7 @@ use Rattle.types.specs.Settings.{madeOf}
 use Rattle.tape.specs.declared.progress.Halt.the-variants.{Refused}
 use Rattle.tape.specs.Run.{at}
 use Rattle.tape.specs.declared.progress.Line.{Line}
+use Rattle.tape.specs.declared.rows.Row.{Row}
 use Rattle.refusals.proofs.Guards.{first}
 use Rattle.init.specs.declared.settings.Settings.{Settings}
 use Rattle.init.specs.Initialise.{sourceOf, noCard}
@@ -111,7 +112,7 @@ making-accepted set z from2 upTo =
 -- Line 2. '16 at a read or status; 19, 20 at a read; 17 for an asked frequency of 0 or over 50,000,000: host as before, no
 -- row, no word used.' That is `untouched`: no word, no row, the list, no data words, the host.
 
-module _ (host : Sdmmc) (s l : List ℕ) where
+module _ (host : Sdmmc) (s : List ℕ) (l : List Row) where
   -- 16
   pub read-16 : (index bytes : ℕ) → host .known ≡ false → readCame host index bytes s l ≡ untouched host E.NoCard l
   unfolding readCame

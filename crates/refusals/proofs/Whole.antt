@@ -29,8 +29,8 @@ use Rattle.tape.specs.declared.progress.Halt.the-variants.{Refused, ScriptEnded
 use Rattle.tape.specs.declared.progress.Line.{Line}
 use Rattle.tape.specs.declared.progress.Pace.{Pace}
 use Rattle.tape.specs.declared.progress.Pace.the-variants.{Going, Stopped}
+use Rattle.tape.specs.declared.rows.Row.{Row}
 use Rattle.tape.specs.Plan.{Nothing, Plan, refuse, fail, _then_}
-use Rattle.tape.specs.Rows.{roomOf}
 use Rattle.tape.specs.Run.{State, After, run, runFrom, nextAt}
 use Rattle.tape.proofs.Laws.{by-cases, from-going, run-handle}
 use Rattle.tape.proofs.Room.{free, isFull, run-fits, run-full, full-exactly}
@@ -63,7 +63,7 @@ ends-ran {A} v host refused accepted words w = by (w .progress .pace) refl
     by (Stopped TraceFull) g = record { answer = rw g; words = refl; rows = refl; list = refl }
 
 -- a call that is refused before its first step
-untouched-ran : {A : Type 0} (d : A) (host : Sdmmc) (e : Error) (s l : List ℕ) → Ran (untouched host e l) (run s d (fail e) 0 0 (host .line) l)
+untouched-ran : {A : Type 0} (d : A) (host : Sdmmc) (e : Error) (s : List ℕ) (l : List Row) → Ran (untouched host e l) (run s d (fail e) 0 0 (host .line) l)
 unfolding run
 untouched-ran d host e s l = record { answer = refl; words = refl; rows = refl; list = refl }
 
@@ -72,7 +72,7 @@ as-run : {A : Type 0} {x : Came} {y z : After A} → z ≡ y → Ran x y → Ran
 as-run e ran = rw e ran
 
 -- two plans, one after the other
-served-ran : (host : Sdmmc) (approach : Plan Nothing) (transfer : Plan (List ℕ)) (next : State → List ℕ → Sdmmc) (s l : List ℕ)
+served-ran : (host : Sdmmc) (approach : Plan Nothing) (transfer : Plan (List ℕ)) (next : State → List ℕ → Sdmmc) (s : List ℕ) (l : List Row)
     → Ran (served host approach transfer next s l) (run s [] (approach then λ _. transfer) 0 0 (host .line) l)
 unfolding served approached transferred nextAt run ends
 served-ran host approach transfer next s l =
@@ -91,7 +91,7 @@ both : {X Y : Type 0} (P : X → Y → Type 0) (b : Bool) {x x′ : X} {y y′ :
 both P true e e′ = e
 both P false e e′ = e′
 
-module _ (host : Sdmmc) (s l : List ℕ) where
+module _ (host : Sdmmc) (s : List ℕ) (l : List Row) where
   abbrev does : {A : Type 0} → A → Came → Plan A → Type 0
   does d x p = Ran x (run s d p 0 0 (host .line) l)
 
@@ -129,10 +129,10 @@ module _ (host : Sdmmc) (s l : List ℕ) where
 
 -- 22, and the rows: a call that would write so many rows, given endless room, answers 22 exactly where there is room for
 -- fewer, and writes as many as there is room for.
-pub record Roomed (l : List ℕ) (would : ℕ) (x : Came) : Type 0 where
-  pub full : x .answer ≡ Answered.TraceFull → roomOf l < would
-  pub over : roomOf l < would → x .answer ≡ Answered.TraceFull
-  pub rows : x .rows ≡ min (roomOf l) would
+pub record Roomed (l : List Row) (would : ℕ) (x : Came) : Type 0 where
+  pub full : x .answer ≡ Answered.TraceFull → length l < would
+  pub over : length l < would → x .answer ≡ Answered.TraceFull
+  pub rows : x .rows ≡ min (length l) would
 
 -- the rows that a plan would write
 abbrev pub wouldWrite : {A : Type 0} → List ℕ → A → Plan A → Line → ℕ
@@ -147,36 +147,36 @@ answered-full (Stopped TraceFull) e = refl
 not-both : {b : Bool} → b ≡ true → b ≡ false → ⊥
 not-both t f = let z : _≡_ {A = ℕ} 0 1 = cc in omega arith
 
-room : {A : Type 0} (d : A) (p : Plan A) (h : Line) (s l : List ℕ) (x : Came) → Ran x (run s d p 0 0 h l) → Roomed l (wouldWrite s d p h) x
-room {A} d p h s l x ran = by (decLe (wouldWrite s d p h) (roomOf l))
+room : {A : Type 0} (d : A) (p : Plan A) (h : Line) (s : List ℕ) (l : List Row) (x : Came) → Ran x (run s d p 0 0 h l) → Roomed l (wouldWrite s d p h) x
+room {A} d p h s l x ran = by (decLe (wouldWrite s d p h) (length l))
   where
-    by : Dec (wouldWrite s d p h ≤ roomOf l) → Roomed l (wouldWrite s d p h) x
+    by : Dec (wouldWrite s d p h ≤ length l) → Roomed l (wouldWrite s d p h) x
     by (yes fits) =
         let all = run-fits s d p 0 0 h l (omega arith) in
         record {
           full = λ f.
               absurd (not-both (answered-full (run s d p 0 0 h l .state .progress .pace) (sym (ran .answer) ∙ f))
-              (full-exactly s d p 0 0 h l (omega arith) ∙ le-ltb (roomOf l) (0 + wouldWrite s d p h) (omega arith)));
+              (full-exactly s d p 0 0 h l (omega arith) ∙ le-ltb (length l) (0 + wouldWrite s d p h) (omega arith)));
           over = λ less. absurd (omega arith);
           rows = ran .rows ∙ ap (λ (y : After A). y .state .progress .rows) all ∙ omega arith;
         }
     by (no over) =
-        let some = run-full s d (record { row = record { register = 0; value = 0 }; used = 0; line = h }) p 0 0 h l (roomOf l) (omega arith) (omega arith) in
+        let some = run-full s d (record { row = record { register = 0; value = 0 }; used = 0; line = h }) p 0 0 h l (length l) (omega arith) (omega arith) in
         record {
           full = λ f. omega arith;
           over = λ less. ran .answer ∙ ap (λ (y : After A). answerOf (y .state .progress .pace)) some;
           rows = ran .rows ∙ ap (λ (y : After A). y .state .progress .rows) some ∙ omega arith;
         }
 
-pub initialise-room : (host : Sdmmc) (frequency : ℕ) (s l : List ℕ)
+pub initialise-room : (host : Sdmmc) (frequency : ℕ) (s : List ℕ) (l : List Row)
     → Roomed l (wouldWrite s noCard (initWhole host frequency) (host .line)) (initialised host frequency s l)
 initialise-room host frequency s l = room noCard (initWhole host frequency) (host .line) s l _ (initialise-ran host s l frequency)
 
-pub read-room : (host : Sdmmc) (index bytes : ℕ) (s l : List ℕ)
+pub read-room : (host : Sdmmc) (index bytes : ℕ) (s : List ℕ) (l : List Row)
     → Roomed l (wouldWrite s [] (readWhole host index bytes) (host .line)) (readCame host index bytes s l)
 read-room host index bytes s l = room [] (readWhole host index bytes) (host .line) s l _ (read-ran host s l index bytes)
 
-pub status-room : (host : Sdmmc) (s l : List ℕ) → Roomed l (wouldWrite s [] (statusWhole host) (host .line)) (statusCame host s l)
+pub status-room : (host : Sdmmc) (s : List ℕ) (l : List Row) → Roomed l (wouldWrite s [] (statusWhole host) (host .line)) (statusCame host s l)
 status-room host s l = room [] (statusWhole host) (host .line) s l _ (status-ran host s l)
 
 -- 17, from what holds along a call's plan.
@@ -240,7 +240,7 @@ module _ (host : Sdmmc) where
   status-walk =
       on-test (host .known) (on-then (app-obeys unclocked (λ e o. o) (λ r o. tt) _ _) (λ _. data-obeys unclocked (λ e o. o) (λ r o. tt) (λ r. tt) _ _ _ _)) (on-fail (λ z. omega arith))
 
-  module _ (s l : List ℕ) where
+  module _ (s : List ℕ) (l : List Row) where
     read-obeyed : (index bytes : ℕ) → Obeyed unclocked s 0 (run s [] (readWhole host index bytes) 0 0 (host .line) l)
     read-obeyed index bytes = run-obeys unclocked s [] (readWhole host index bytes) 0 0 (host .line) l (read-walk index bytes .each) tt
 
@@ -261,7 +261,7 @@ pub data Whence17 (host : Sdmmc) (frequency : ℕ) : Type 0 where
   asked : (eqb frequency 0 || ltb 50_000_000 frequency) ≡ true → Whence17 host frequency
   setting : (requested : ℕ) → clockOf (sourceOf (host .settings)) requested (host .settings .config .«allow_clock_bypass») ≡ Clocked.Refused E.BadClock → Whence17 host frequency
 
-module _ (host : Sdmmc) (from2 : 2 ≤ sourceOf (host .settings)) (c : Clock) (clocked : clockOf (sourceOf (host .settings)) 400_000 false ≡ Clocked.Set c) (frequency : ℕ) (s l : List ℕ) where
+module _ (host : Sdmmc) (from2 : 2 ≤ sourceOf (host .settings)) (c : Clock) (clocked : clockOf (sourceOf (host .settings)) 400_000 false ≡ Clocked.Set c) (frequency : ℕ) (s : List ℕ) (l : List Row) where
   -- one of allowed frequency
   abbrev pub steps : After Card
   steps = run s noCard (initialise (host .settings) c frequency) 0 0 (freshLine (c .frequency)) l
@@ -298,11 +298,11 @@ ends-exact host refused accepted words bytes (Stopped (Refused x)) w e = λ r. l
 ends-exact host refused accepted words bytes (Stopped ScriptEnded) w e = λ r. let z : _≡_ {A = ℕ} 0 1 = cc in absurd (omega arith)
 ends-exact host refused accepted words bytes (Stopped TraceFull) w e = λ r. let z : _≡_ {A = ℕ} 0 1 = cc in absurd (omega arith)
 
-untouched-exact : (host : Sdmmc) (e : Error) (l : List ℕ) (bytes : ℕ) → Exact bytes (untouched host e l)
+untouched-exact : (host : Sdmmc) (e : Error) (l : List Row) (bytes : ℕ) → Exact bytes (untouched host e l)
 unfolding Exact
 untouched-exact host e l bytes = λ r. let z : _≡_ {A = ℕ} 0 1 = cc in absurd (omega arith)
 
-module _ (host : Sdmmc) (index bytes : ℕ) (s l : List ℕ) where
+module _ (host : Sdmmc) (index bytes : ℕ) (s : List ℕ) (l : List Row) where
   from-exact : bytes % 512 ≡ 0 → (a : AddressAnswer) → Exact bytes (readFrom host (bytes / 512) a s l)
   unfolding readFrom served approached transferred
   from-exact whole (Address.Refused e) = untouched-exact host e l bytes

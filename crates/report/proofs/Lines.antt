@@ -9,13 +9,15 @@ use Rattle.text.specs.Digits.{hexOf}
 use Rattle.text.specs.Ink.{Laid}
 use Rattle.text.specs.Typed.{typed}
 use Rattle.text.proofs.Ink.{ink-nil, next-nil, and-then}
+use Rattle.tape.specs.declared.rows.Row.{Row}
+use Rattle.tape.specs.Layout.{rowOf}
 use Rattle.report.specs.Report.{rowLine, rowsText, wordsText, bytesText, blockLine, blocksText}
 
 -- the pen stands at its place, or at the end where that is past it
 pub nothing : {at place : ℕ} {buffer : List ℕ} → place ≡ min at (length buffer) → Laid at [] buffer place buffer
 nothing {at} {place} {buffer} e = record { placed = e ∙ sym (next-nil at buffer); laid = sym (ink-nil at buffer) }
 
-pub rows-none : (rows : List ℕ) → rowsText 0 rows ≡ []
+pub rows-none : (rows : List Row) → rowsText 0 rows ≡ []
 unfolding rowsText
 rows-none rows = refl
 
@@ -32,11 +34,11 @@ unfolding blocksText
 blocks-none bytes = refl
 
 module _ {at place place′ : ℕ} {before between after : List ℕ} where
-  pub row-more : (rows : List ℕ) (i : ℕ) → Laid at (rowsText i rows) before place between
-      → Laid place (rowLine (getD rows (2 * i + 0) 0) (getD rows (2 * i + 1) 0)) between place′ after
+  pub row-more : (rows : List Row) (i : ℕ) → Laid at (rowsText i rows) before place between
+      → Laid place (rowLine (getD rows i (rowOf 0) .register) (getD rows i (rowOf 0) .value)) between place′ after
       → Laid at (rowsText (i + 1) rows) before place′ after
   unfolding rowsText
-  row-more rows i p q = rw (add-one i) (and-then p (rw (add-zero (2 * i)) at q))
+  row-more rows i p q = rw (add-one i) (and-then p q)
 
   pub word-more : (words : List ℕ) (i : ℕ) → Laid at (wordsText i words) before place between
       → Laid place (typed ":" ++ hexOf 8 (getD words (i + 1) 0)) between place′ after

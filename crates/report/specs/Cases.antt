@@ -9,15 +9,16 @@ use Rattle.types.specs.declared.card.Signalling.the-variants.{SDR25}
 use Rattle.types.specs.declared.card.CardCapacity.the-variants.{SDHC}
 use Rattle.types.specs.declared.error.Answer.the-variants.{Accepted, Refused}
 use Rattle.types.specs.declared.error.Error.the-variants.{CardStatus, Timeout}
+use Rattle.tape.specs.Layout.{rowsIn}
 use Rattle.report.specs.Report.{rowsText, carriedText, wordsText, recordText, lineText, heldText, bytesText}
 
-two-rows : rowsText 2 (52 ∷ 0 ∷ 4 ∷ 256 ∷ []) ≡ typed "row 52 0\nrow 4 256\n"
-unfolding rowsText decimalIn decimalOf
+two-rows : rowsText 2 (rowsIn (0x34_0000_0000 ∷ 0x4_0000_0100 ∷ [])) ≡ typed "row 52 0\nrow 4 256\n"
+unfolding rowsText rowsIn decimalIn decimalOf
 two-rows = refl
 
 -- the list ends before the rows do
-row-cut : rowsText 2 (52 ∷ 7 ∷ 4 ∷ []) ≡ typed "row 52 7\nrow 4 0\n"
-unfolding rowsText decimalIn decimalOf
+row-cut : rowsText 2 (rowsIn (0x34_0000_0007 ∷ [])) ≡ typed "row 52 7\nrow 0 0\n"
+unfolding rowsText rowsIn decimalIn decimalOf
 row-cut = refl
 
 carries : carriedText (Refused (CardStatus 0x80000900)) ≡ typed "carried 80000900\n"

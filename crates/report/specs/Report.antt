@@ -15,6 +15,8 @@ use Rattle.types.specs.declared.card.Signalling.{Signalling}
 use Rattle.types.specs.declared.card.Signalling.the-variants.{SDR12, SDR25}
 use Rattle.types.specs.declared.error.Answer.{Answer}
 use Rattle.tape.specs.declared.progress.Line.{Line}
+use Rattle.tape.specs.declared.rows.Row.{Row}
+use Rattle.tape.specs.Layout.{rowOf}
 use Rattle.host.specs.declared.host.Sdmmc.{Sdmmc}
 
 -- row REGISTER VALUE: every row, in order, decimal
@@ -24,10 +26,10 @@ rowText register value = (typed "row " ++ decimalOf register) ++ (typed " " ++ d
 abbrev pub rowLine : ℕ → ℕ → List ℕ
 rowLine register value = rowText register value ++ typed "\n"
 
--- the first n rows of a row list, two words each; a word that is not there reads as 0
-unfoldable pub rowsText : ℕ → List ℕ → List ℕ
+-- the first n rows of a row list; one that is not there reads as 0 0
+unfoldable pub rowsText : ℕ → List Row → List ℕ
 rowsText zero rows = []
-rowsText (suc n) rows = rowsText n rows ++ rowLine (getD rows (2 * n) 0) (getD rows (2 * n + 1) 0)
+rowsText (suc n) rows = rowsText n rows ++ rowLine (getD rows n (rowOf 0) .register) (getD rows n (rowOf 0) .value)
 
 -- carried XXXXXXXX: only at answer 10, its word
 abbrev pub carriedText : Answer → List ℕ

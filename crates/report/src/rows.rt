@@ -1,12 +1,12 @@
 // The rows that a call wrote, and the word that its answer carries.
 ghost use mathlib.Core.Path.{_≡_};
 ghost use mathlib.Core.List.{_++_};
-ghost use Prim.Native.Nat.{_+_, _*_, _<_};
 ghost use lib.ListN.{getD};
 ghost use Rattle.text.specs.Digits.{decimalOf};
 ghost use Rattle.text.specs.Ink.{Laid};
+ghost use Rattle.tape.specs.Layout.{rowOf, rowsIn};
 ghost use Rattle.report.specs.Report.{rowText, rowLine, rowsText, carriedText};
-use book::layout;
+use tape::rows::Row;
 use text::pen;
 use types::error::Answer;
 
@@ -17,15 +17,14 @@ pub fn put_named(out: &mut [u8], at: usize, name: &[u8], n: u64) -> usize
     pen::put_decimal(out, place, n)
 }
 
-// Word k of row i. A row past the list is told before its place is computed, which might not fit.
-fn row_word(rows: &[u32], i: usize, k: usize) -> u32
-    requires { ⌜ k < 2 ⌝ }
-    ensures { λ r. ⌜ r ≡ getD (now (rows .entry)) (2 * i + k) 0 ⌝ }
+// Row i, of zeros where it is past the list.
+fn row_at(rows: &[u64], i: usize) -> Row
+    ensures { λ r. ⌜ r ≡ getD (rowsIn (now (rows .entry))) i (rowOf 0) ⌝ }
 {
-    if rows.len() / 2 < i {
-        return 0;
+    if rows.len() <= i {
+        return Row::of(0);
     }
-    layout::word(rows, 2 * i + k)
+    Row::of(rows[i])
 }
 
 pub fn put_row(out: &mut [u8], at: usize, register: u32, value: u32) -> usize
@@ -43,13 +42,14 @@ fn put_line(out: &mut [u8], at: usize, register: u32, value: u32) -> usize
 }
 
 // The first n rows of the list.
-pub fn put_rows(out: &mut [u8], at: usize, rows: &[u32], n: usize) -> usize
-    ensures { λ r. ⌜ Laid at (rowsText n (now (rows .entry))) (now (out .entry)) r (now (out .exit)) ⌝ }
+pub fn put_rows(out: &mut [u8], at: usize, rows: &[u64], n: usize) -> usize
+    ensures { λ r. ⌜ Laid at (rowsText n (rowsIn (now (rows .entry)))) (now (out .entry)) r (now (out .exit)) ⌝ }
 {
     let mut place = pen::least(at, out.len());
     let mut i = 0;
     while i < n {
-        place = put_line(out, place, row_word(rows, i, 0), row_word(rows, i, 1));
+        let row = row_at(rows, i);
+        place = put_line(out, place, row.register, row.value);
         i = i + 1;
     }
     place

@@ -5,7 +5,7 @@ use mathlib.Core.Bool.{Bool, true, false, cond}
 use mathlib.Core.List.{List, []}
 use native.Mathlib.Omega.{arith}
 use native.Mathlib.Nat.{le-trans}
-use lib.ListN.{length, getD}
+use lib.ListN.{length, getD, set}
 use lib.Dec.{ltb}
 use borrow.Author.Tests.{le-ltb}
 use Rattle.tape.specs.declared.progress.Halt.{Halt}
@@ -14,9 +14,9 @@ use Rattle.tape.specs.declared.progress.Line.{Line}
 use Rattle.tape.specs.declared.progress.Pace.{Pace}
 use Rattle.tape.specs.declared.progress.Pace.the-variants.{Going, Stopped}
 use Rattle.tape.specs.declared.progress.Progress.{Progress}
+use Rattle.tape.specs.declared.rows.Row.{Row}
 use Rattle.tape.specs.Plan.{Nothing, Cause, failed, ended, Plan, give, refuse, read, write, look, hold, handle, _then_}
 use Rattle.tape.specs.Plan.{refusing, guard}
-use Rattle.tape.specs.Rows.{rowAt, roomOf}
 use Rattle.tape.specs.Run.{State, at, After, stopped, noted, haltOf, keptAt, overAt, run, runFrom, doesAt, does, nextAt, next}
 use Rattle.tape.specs.Run.{Behind, Gave, Did, Settled}
 use Rattle.tape.proofs.Behind.{some-script}
@@ -32,7 +32,7 @@ by-cases P false x y e e′ = e′
 
 module _ (s : List ℕ) where
   -- THE LAW of joined plans
-  pub run-handle : {A B : Type 0} (d : A) (d′ : B) (f : A → Plan B) (g : Cause → Plan B) (p : Plan A) (u n : ℕ) (h : Line) (l : List ℕ)
+  pub run-handle : {A B : Type 0} (d : A) (d′ : B) (f : A → Plan B) (g : Cause → Plan B) (p : Plan A) (u n : ℕ) (h : Line) (l : List Row)
       → run s d′ (handle f g p) u n h l ≡ next s d′ f g (run s d p u n h l .value) (run s d p u n h l .state)
   unfolding run handle nextAt
   run-handle d d′ f g (give a) u n h l = refl
@@ -42,46 +42,46 @@ module _ (s : List ℕ) where
       by-test (λ (x : After A). next s d′ f g (x .value) (x .state)) (ltb u (length s))
       (run-handle d d′ f g (k (getD s u 0)) (u + 1) n h l) (run-handle d d′ f g z u n h l)
   run-handle {A} {B} d d′ f g (write r p) u n h l =
-      by-test (λ (x : After A). next s d′ f g (x .value) (x .state)) (ltb n (roomOf l))
-      (run-handle d d′ f g p u (n + 1) (noted r h) (rowAt l n r)) refl
+      by-test (λ (x : After A). next s d′ f g (x .value) (x .state)) (ltb n (length l))
+      (run-handle d d′ f g p u (n + 1) (noted r h) (set l n r)) refl
   run-handle d d′ f g (look k) u n h l = run-handle d d′ f g (k h) u n h l
   run-handle d d′ f g (hold h′ p) u n h l = run-handle d d′ f g p u n h′ l
 
   abbrev Kept : {A : Type 0} → A → After A → Type 0
   Kept d x = x .value ≡ keptAt d (x .value) (x .state .progress .pace)
 
-  run-kept : {A : Type 0} (d : A) (p : Plan A) (u n : ℕ) (h : Line) (l : List ℕ) → Kept d (run s d p u n h l)
+  run-kept : {A : Type 0} (d : A) (p : Plan A) (u n : ℕ) (h : Line) (l : List Row) → Kept d (run s d p u n h l)
   unfolding run keptAt
   run-kept d (give a) u n h l = refl
   run-kept d (refuse c) u n h l = refl
   run-kept d (read r k z) u n h l = by-cases (Kept d) (ltb u (length s)) _ _ (run-kept d (k (getD s u 0)) (u + 1) n h l) (run-kept d z u n h l)
   run-kept d (write r p) u n h l =
-      by-cases (Kept d) (ltb n (roomOf l)) _ _ (run-kept d p u (n + 1) (noted r h) (rowAt l n r)) refl
+      by-cases (Kept d) (ltb n (length l)) _ _ (run-kept d p u (n + 1) (noted r h) (set l n r)) refl
   run-kept d (look k) u n h l = run-kept d (k h) u n h l
   run-kept d (hold h′ p) u n h l = run-kept d p u n h′ l
 
   abbrev Grown : {A : Type 0} → ℕ → After A → Type 0
   Grown u x = u ≤ x .state .progress .used
 
-  run-grows : {A : Type 0} (d : A) (p : Plan A) (u n : ℕ) (h : Line) (l : List ℕ) → Grown u (run s d p u n h l)
+  run-grows : {A : Type 0} (d : A) (p : Plan A) (u n : ℕ) (h : Line) (l : List Row) → Grown u (run s d p u n h l)
   unfolding run
   run-grows d (give a) u n h l = omega arith
   run-grows d (refuse c) u n h l = omega arith
   run-grows d (read r k z) u n h l =
       by-cases (Grown u) (ltb u (length s)) _ _ (le-trans {m = u + 1} (omega arith) (run-grows d (k (getD s u 0)) (u + 1) n h l)) (run-grows d z u n h l)
   run-grows d (write r p) u n h l =
-      by-cases (Grown u) (ltb n (roomOf l)) _ _ (run-grows d p u (n + 1) (noted r h) (rowAt l n r)) (omega arith)
+      by-cases (Grown u) (ltb n (length l)) _ _ (run-grows d p u (n + 1) (noted r h) (set l n r)) (omega arith)
   run-grows d (look k) u n h l = run-grows d (k h) u n h l
   run-grows d (hold h′ p) u n h l = run-grows d p u n h′ l
 
 -- where no word is left none is taken
-pub run-out : (s : List ℕ) {A : Type 0} (d : A) (p : Plan A) (u n : ℕ) (h : Line) (l : List ℕ) → length s ≤ u → run s d p u n h l .state .progress .used ≡ u
+pub run-out : (s : List ℕ) {A : Type 0} (d : A) (p : Plan A) (u n : ℕ) (h : Line) (l : List Row) → length s ≤ u → run s d p u n h l .state .progress .used ≡ u
 unfolding run
 run-out s d (give a) u n h l e = refl
 run-out s d (refuse x) u n h l e = refl
 run-out s d (read r k z) u n h l e = rw (le-ltb u (length s) e) (run-out s d z u n h l e)
 run-out s {A} d (write r p) u n h l e =
-    by-cases (λ (x : After A). x .state .progress .used ≡ u) (ltb n (roomOf l)) _ _ (run-out s d p u (n + 1) (noted r h) (rowAt l n r) e) refl
+    by-cases (λ (x : After A). x .state .progress .used ≡ u) (ltb n (length l)) _ _ (run-out s d p u (n + 1) (noted r h) (set l n r) e) refl
 run-out s d (look k) u n h l e = run-out s d (k h) u n h l e
 run-out s d (hold h′ p) u n h l e = run-out s d p u n h′ l e
 
@@ -159,7 +159,7 @@ not-over (Stopped x) b e = cc
 
 -- a step that reads what lies behind the first n words says what it does on every such script
 pub read-on : {n : ℕ} {r : List ℕ} {A : Type 0} {d : A} {p : Plan A} {a b : Progress} {v : A}
-    → ((s l : List ℕ) → Behind n r s → Gave s A d p (at a l) v (at b l)) → a .used ≤ b .used
+    → ((s : List ℕ) (l : List Row) → Behind n r s → Gave s A d p (at a l) v (at b l)) → a .used ≤ b .used
 read-on {n} {r} e = some-script n r (λ s part. grows (e s [] part))
 
 -- what it gives where it stopped

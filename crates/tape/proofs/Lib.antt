@@ -1,8 +1,10 @@
 pub mod Behind
 pub mod Ends
 pub mod Laws
+pub mod Layouts
 pub mod Loops
 pub mod Lying
+pub mod Converts
 pub mod Room
 pub mod Stops
 pub mod Words

@@ -9,6 +9,7 @@ use Rattle.types.specs.declared.error.Error.the-variants.{SoftwareTimeout}
 use Rattle.tape.specs.declared.progress.Pace.{Pace}
 use Rattle.tape.specs.declared.progress.Pace.the-variants.{Going, Stopped}
 use Rattle.tape.specs.declared.progress.Progress.{Progress}
+use Rattle.tape.specs.declared.rows.Row.{Row}
 use Rattle.tape.specs.Plan.{Plan, give, fail, until}
 use Rattle.tape.specs.Run.{State, at, keptAt, overAt, run, Behind, Gave}
 use Rattle.tape.proofs.Behind.{some-script}
@@ -22,7 +23,7 @@ pub record Turned (s : List ℕ) (A : Type 0) (d : A) (body : Plan A) (enough : 
 
 -- the same, of a body that reads what lies behind the first n words
 pub turned-on : {n : ℕ} {r : List ℕ} {A : Type 0} {d : A} {body : Plan A} {enough : A → Bool} {limit i : ℕ} {a b : Progress}
-    → ((s l : List ℕ) → Behind n r s → Turned s A d body enough limit i (at a l) (at b l)) → a .used ≤ b .used
+    → ((s : List ℕ) (l : List Row) → Behind n r s → Turned s A d body enough limit i (at a l) (at b l)) → a .used ≤ b .used
 turned-on {n} {r} t = some-script n r (λ s part. t s [] part .grown)
 
 pub no-turn : {s : List ℕ} {A : Type 0} {d : A} {body : Plan A} {enough : A → Bool} {limit : ℕ} {w : State}

@@ -12,6 +12,7 @@ use borrow.Author.Tests.{lt-ltb, ltb-true}
 use Rattle.tape.specs.declared.progress.Pace.{Pace}
 use Rattle.tape.specs.declared.progress.Pace.the-variants.{Going, Stopped}
 use Rattle.tape.specs.declared.progress.Progress.{Progress}
+use Rattle.tape.specs.declared.rows.Row.{Row}
 use Rattle.tape.specs.declared.script.Reading.{Reading}
 use Rattle.tape.specs.Plan.{Plan}
 use Rattle.tape.specs.Polls.{leading}
@@ -101,7 +102,7 @@ abbrev pub on : Progress → ℕ → Progress
 on p i = record { pace = p .pace; used = p .used + i; rows = p .rows; line = p .line }
 
 -- turns of which none was enough
-module _ {s l : List ℕ} {A : Type 0} {d : A} {body : Plan A} {enough : A → Bool} {limit : ℕ} {p : Progress} (going : p .pace ≡ Going) where
+module _ {s : List ℕ} {l : List Row} {A : Type 0} {d : A} {body : Plan A} {enough : A → Bool} {limit : ℕ} {p : Progress} (going : p .pace ≡ Going) where
   pub skipped : (v : ℕ → A) (i : ℕ) → i ≤ limit
       → ((j : ℕ) → j < i → Gave s A d body (at (on p j) l) (v j) (at (on p (j + 1)) l) × (enough (v j) ≡ false))
       → Turned s A d body enough limit i (at p l) (at (on p i) l)
@@ -114,7 +115,7 @@ module _ {s l : List ℕ} {A : Type 0} {d : A} {body : Plan A} {enough : A → B
       (next-turn (skipped v i (omega arith) (λ j below. turns j (omega arith))) (omega arith) (one .0) (rw going (one .1)))
 
 -- a word that is there, read by a call that is going
-pub reads : (kind : Reading) {s l : List ℕ} (p : Progress) (i : ℕ) → p .pace ≡ Going → p .used + i < length s
+pub reads : (kind : Reading) {s : List ℕ} {l : List Row} (p : Progress) (i : ℕ) → p .pace ≡ Going → p .used + i < length s
     → Gave s ℕ 0 (word kind) (at (on p i) l) (getD s (p .used + i) 0) (at (on p (i + 1)) l)
 unfolding run word
 reads kind p i going there =
@@ -122,7 +123,7 @@ reads kind p i going there =
     from-going going (rw (lt-ltb _ _ there, further, going))
 
 -- a reading that must be enough where there is a word
-pub read-over : (kind : Reading) (enough : ℕ → Bool) {s l : List ℕ} {q : Progress} {v : ℕ} {w : State} → q .pace ≡ Going
+pub read-over : (kind : Reading) (enough : ℕ → Bool) {s : List ℕ} {l : List Row} {q : Progress} {v : ℕ} {w : State} → q .pace ≡ Going
     → (q .used < length s → enough (getD s (q .used) 0) ≡ true) → Gave s ℕ 0 (word kind) (at q l) v w
     → overAt (w .progress .pace) (enough v) ≡ true
 unfolding doesAt run word overAt
@@ -136,7 +137,7 @@ read-over kind enough {s} {l} {q} {v} {w} going is e =
     by Going g false t = rw t
 
 -- readings of one word, as many as lead
-pub read-turns : (kind : Reading) (like enough : ℕ → Bool) (limit : ℕ) {rest s l : List ℕ} {p : Progress} → p .pace ≡ Going → Behind (p .used) rest s
+pub read-turns : (kind : Reading) (like enough : ℕ → Bool) (limit : ℕ) {rest s : List ℕ} {l : List Row} {p : Progress} → p .pace ≡ Going → Behind (p .used) rest s
     → ((w : ℕ) → like w ≡ true → enough w ≡ false)
     → Turned s ℕ 0 (word kind) enough limit (leading limit like rest) (at p l) (at (on p (leading limit like rest)) l)
 read-turns kind like enough limit {rest} {s} {l} {p} going part away =

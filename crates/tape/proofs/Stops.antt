@@ -9,6 +9,7 @@ use Rattle.tape.specs.declared.progress.Halt.the-variants.{Refused, Scri
 use Rattle.tape.specs.declared.progress.Pace.{Pace}
 use Rattle.tape.specs.declared.progress.Pace.the-variants.{Going, Stopped}
 use Rattle.tape.specs.declared.progress.Progress.{Progress}
+use Rattle.tape.specs.declared.rows.Row.{Row}
 use Rattle.tape.specs.Plan.{Cause, failed, ended, refuse}
 use Rattle.tape.specs.Run.{at, haltOf, stopAt, run, Did}
 use Rattle.tape.proofs.Laws.{from-going, from-stopped}
@@ -22,7 +23,7 @@ stays {p} x g =
     ap (λ (z : Pace). record { pace = z; used = p .used; rows = p .rows; line = p .line }) (g ∙ sym (ap (λ (z : Pace). stopAt z x) g))
 
 -- a progress that stops so is what the refusal makes of it
-pub stops : {s l : List ℕ} (c : Cause) {p r : Progress} {x : Halt} → x ≡ haltOf c
+pub stops : {s : List ℕ} {l : List Row} (c : Cause) {p r : Progress} {x : Halt} → x ≡ haltOf c
     → r ≡ record { pace = stopAt (p .pace) x; used = p .used; rows = p .rows; line = p .line }
     → Did s (refuse c) (at p l) (at r l)
 unfolding run stopAt

@@ -2,15 +2,15 @@
 use Prim.Native.Nat.{ℕ, zero, suc, _+_}
 use mathlib.Core.Path.{_≡_, refl, ap}
 use mathlib.Core.List.{List}
-use lib.ListN.{length, getD}
+use lib.ListN.{length, getD, set}
 use native.Mathlib.Omega.{arith}
 use lib.Dec.{ltb}
 use Rattle.tape.specs.declared.progress.Halt.{Halt}
 use Rattle.tape.specs.declared.progress.Line.{Line}
 use Rattle.tape.specs.declared.progress.Pace.{Pace}
 use Rattle.tape.specs.declared.progress.Pace.the-variants.{Going, Stopped}
+use Rattle.tape.specs.declared.rows.Row.{Row}
 use Rattle.tape.specs.Plan.{Cause, Plan, give, refuse, read, write, look, hold, handle, _then_}
-use Rattle.tape.specs.Rows.{roomOf, rowAt}
 use Rattle.tape.specs.Run.{State, After, noted, haltOf, run, doesAt, Gave}
 use Rattle.tape.specs.Steps.{dataFrom}
 use Rattle.tape.proofs.Laws.{by-cases}
@@ -71,12 +71,12 @@ GivenBy P x = x .state .progress .pace ≡ Going → P (x .value)
 not-given : {X : Type 0} (h : Halt) → Stopped h ≡ Going → X
 not-given h e = absurd (let z : _≡_ {A = ℕ} 0 1 = cc in omega arith)
 
-run-given : (s : List ℕ) {A : Type 0} (P : A → Type 0) (d : A) (p : Plan A) (u n : ℕ) (h : Line) (l : List ℕ) → gives P p → GivenBy P (run s d p u n h l)
+run-given : (s : List ℕ) {A : Type 0} (P : A → Type 0) (d : A) (p : Plan A) (u n : ℕ) (h : Line) (l : List Row) → gives P p → GivenBy P (run s d p u n h l)
 unfolding gives run
 run-given s P d (give a) u n h l b = λ _. b
 run-given s P d (refuse c) u n h l b = not-given (haltOf c)
 run-given s P d (read r k z) u n h l b = by-cases (GivenBy P) (ltb u (length s)) _ _ (run-given s P d (k (getD s u 0)) (u + 1) n h l (b .0 (getD s u 0))) (run-given s P d z u n h l (b .1))
-run-given s P d (write r p) u n h l b = by-cases (GivenBy P) (ltb n (roomOf l)) _ _ (run-given s P d p u (n + 1) (noted r h) (rowAt l n r) b) (not-given _)
+run-given s P d (write r p) u n h l b = by-cases (GivenBy P) (ltb n (length l)) _ _ (run-given s P d p u (n + 1) (noted r h) (set l n r) b) (not-given _)
 run-given s P d (look k) u n h l b = run-given s P d (k h) u n h l (b h)
 run-given s P d (hold h′ p) u n h l b = run-given s P d p u n h′ l b
 

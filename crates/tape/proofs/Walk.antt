@@ -9,7 +9,7 @@ use native.Mathlib.Omega.{arith}
 use native.Mathlib.Decide.{decLt}
 use lib.Dec.{ltb}
 use lib.ListN.{length, getD, set}
-use lib.Seq.{lt-length-set, getD-set-same, getD-set-other}
+use lib.Seq.{getD-set-same}
 use borrow.Author.Tests.{le-ltb, lt-ltb, ltb-true}
 use Rattle.types.specs.declared.error.Error.{Error}
 use Rattle.types.specs.declared.error.Error.the-variants as E
@@ -19,7 +19,7 @@ use Rattle.tape.specs.declared.progress.Pace.the-variants.{Going, Stoppe
 use Rattle.tape.specs.declared.rows.Row.{Row}
 use Rattle.tape.specs.declared.script.Reading.{Reading}
 use Rattle.tape.specs.Plan.{Nothing, Cause, failed, ended, Plan, give, refuse, read, write, look, hold, handle, _then_, refusing, fail, ensure, until}
-use Rattle.tape.specs.Rows.{placeOf, roomOf, rowAt}
+use Rattle.tape.specs.Layout.{rowOf}
 use Rattle.tape.specs.Run.{After, noted, run}
 use Rattle.tape.specs.Steps.{word, row, dataFrom}
 use Rattle.tape.proofs.Laws.{by-cases}
@@ -64,24 +64,12 @@ pub record RowsOnly (rule : Rule) (p : Plan Nothing) : Type 0 where
   pub each : rowsOnly rule p
 
 -- the last of n rows in a list, where there is one
-abbrev pub rowIn : List ℕ → ℕ → Row
-rowIn l k = record { register = getD l (placeOf k) 0; value = getD l (placeOf k + 1) 0 }
+pub record LastRow (W : Row → Type 0) (n : ℕ) (l : List Row) : Type 0 where
+  pub last : (k : ℕ) → n ≡ k + 1 → W (getD l k (rowOf 0))
 
-pub record LastRow (W : Row → Type 0) (n : ℕ) (l : List ℕ) : Type 0 where
-  pub last : (k : ℕ) → n ≡ k + 1 → W (rowIn l k)
-
-row-there : (l : List ℕ) (n : ℕ) (r : Row) → n < roomOf l → rowIn (rowAt l n r) n ≡ r
-row-there l n r room =
-    let one = set l (placeOf n) (r .register) in
-    let register : getD (rowAt l n r) (placeOf n) 0 ≡ r .register =
-    getD-set-other one (placeOf n + 1) (placeOf n) (r .value) 0 (λ e. omega arith) ∙ getD-set-same l (placeOf n) (r .register) 0 (omega arith) in
-    let value : getD (rowAt l n r) (placeOf n + 1) 0 ≡ r .value =
-    getD-set-same one (placeOf n + 1) (r .value) 0 (lt-length-set l (placeOf n) (r .register) (omega arith)) in
-    λ i. record { register = register i; value = value i }
-
-last-written : (W : Row → Type 0) (l : List ℕ) (n : ℕ) (r : Row) → n < roomOf l → W r → LastRow W (n + 1) (rowAt l n r)
+last-written : (W : Row → Type 0) (l : List Row) (n : ℕ) (r : Row) → n < length l → W r → LastRow W (n + 1) (set l n r)
 last-written W l n r room w =
-    record { last = λ k e. let same : k ≡ n = omega arith in rw (same, row-there l n r room) w }
+    record { last = λ k e. let same : k ≡ n = omega arith in rw (same, getD-set-same l n r (rowOf 0) room) w }
 
 -- of either way, of the first where the test holds
 where-room : {X : Type 0} (P : X → Type 0) (b : Bool) (x y : X) → (b ≡ true → P x) → P y → P (cond b x y)
@@ -115,7 +103,7 @@ module _ (rule : Rule) (s : List ℕ) where
       }
 
   -- THE LAW of plans that obey
-  ran : {A : Type 0} (out : Bool) (d : A) (p : Plan A) (u n : ℕ) (h : Line) (l : List ℕ) → (out ≡ true → length s ≤ u) → obeys rule out p
+  ran : {A : Type 0} (out : Bool) (d : A) (p : Plan A) (u n : ℕ) (h : Line) (l : List Row) → (out ≡ true → length s ≤ u) → obeys rule out p
       → rule .holds h → Obeyed rule s u (run s d p u n h l)
   unfolding obeys run
   ran true d (give a) u n h l o b i = absurd b
@@ -143,18 +131,18 @@ module _ (rule : Rule) (s : List ℕ) where
           rw (lt-ltb u (length s) some) (record { line = ih .line; refused = ih .refused; ended = λ f m. ih .ended f (omega arith) })
       by (no none) ih out = rw (le-ltb u (length s) (omega arith)) (out (omega arith))
   ran out d (write r p) u n h l o b i =
-      by-cases (Obeyed rule s u) (ltb n (roomOf l)) _ _ (ran out d p u (n + 1) (noted r h) (rowAt l n r) o (b .1) (rule .noted r h i)) (unroomed u refl i)
+      by-cases (Obeyed rule s u) (ltb n (length l)) _ _ (ran out d p u (n + 1) (noted r h) (set l n r) o (b .1) (rule .noted r h i)) (unroomed u refl i)
   ran out d (look k) u n h l o b i = ran out d (k h) u n h l o (b h i) i
   ran out d (hold h′ p) u n h l o b i = ran out d p u n h′ l o (b .1) (b .0)
 
-  pub run-obeys : {A : Type 0} (d : A) (p : Plan A) (u n : ℕ) (h : Line) (l : List ℕ) → obeys rule false p → rule .holds h
+  pub run-obeys : {A : Type 0} (d : A) (p : Plan A) (u n : ℕ) (h : Line) (l : List Row) → obeys rule false p → rule .holds h
       → Obeyed rule s u (run s d p u n h l)
   run-obeys d p u n h l b i = ran false d p u n h l never b i
 
   abbrev LastOf : {A : Type 0} → After A → Type 0
   LastOf x = LastRow (rule .writes) (x .state .progress .rows) (x .state .list)
 
-  run-last : {A : Type 0} (out : Bool) (d : A) (p : Plan A) (u n : ℕ) (h : Line) (l : List ℕ) → (out ≡ true → length s ≤ u) → obeys rule out p
+  run-last : {A : Type 0} (out : Bool) (d : A) (p : Plan A) (u n : ℕ) (h : Line) (l : List Row) → (out ≡ true → length s ≤ u) → obeys rule out p
       → rule .holds h → LastRow (rule .writes) n l → LastOf (run s d p u n h l)
   unfolding obeys run
   run-last out d (give a) u n h l o b i e = e
@@ -169,13 +157,13 @@ module _ (rule : Rule) (s : List ℕ) where
       by (yes some) ih out = rw (lt-ltb u (length s) some) ih
       by (no none) ih out = rw (le-ltb u (length s) (omega arith)) (out (omega arith))
   run-last {A} out d (write r p) u n h l o b i e =
-      where-room LastOf (ltb n (roomOf l)) _ _
-      (λ t. run-last out d p u (n + 1) (noted r h) (rowAt l n r) o (b .1) (rule .noted r h i) (last-written (rule .writes) l n r (ltb-true n (roomOf l) t) (b .0))) e
+      where-room LastOf (ltb n (length l)) _ _
+      (λ t. run-last out d p u (n + 1) (noted r h) (set l n r) o (b .1) (rule .noted r h i) (last-written (rule .writes) l n r (ltb-true n (length l) t) (b .0))) e
   run-last out d (look k) u n h l o b i e = run-last out d (k h) u n h l o (b h i) i e
   run-last out d (hold h′ p) u n h l o b i e = run-last out d p u n h′ l o (b .1) (b .0) e
 
   -- so of a plan that starts with no row written
-  pub starts-last : {A : Type 0} (d : A) {p : Plan A} (h : Line) (l : List ℕ) → Obeys rule A p → rule .holds h
+  pub starts-last : {A : Type 0} (d : A) {p : Plan A} (h : Line) (l : List Row) → Obeys rule A p → rule .holds h
       → LastRow (rule .writes) (run s d p 0 0 h l .state .progress .rows) (run s d p 0 0 h l .state .list)
   starts-last d {p} h l b i = run-last false d p 0 0 h l never (b .each) i (record { last = λ k e. absurd (omega arith) })
 

@@ -7,7 +7,7 @@ use mathlib.Core.List.{List, [], _∷_, _++_}
 use native.Mathlib.Omega.{arith}
 use native.Mathlib.Nat.{suc-add, suc-mul}
 use native.Mathlib.Decide.{decLt}
-use lib.ListN.{length, getD, length-append, List·getD-append}
+use lib.ListN.{length, getD, length-append, List·getD-append, set}
 use lib.Dec.{ltb}
 use borrow.Author.Tests.{le-ltb, lt-ltb}
 use Rattle.types.specs.declared.error.Error.{Error}
@@ -15,10 +15,10 @@ use Rattle.tape.specs.declared.progress.Halt.the-variants.{Refused, Scri
 use Rattle.tape.specs.declared.progress.Line.{Line}
 use Rattle.tape.specs.declared.progress.Pace.{Pace}
 use Rattle.tape.specs.declared.progress.Pace.the-variants.{Going, Stopped}
+use Rattle.tape.specs.declared.rows.Row.{Row}
 use Rattle.tape.specs.declared.script.Reading.{Reading}
 use Rattle.tape.specs.Plan.{Cause, failed, ended, Plan, give, refuse, read, write, look, hold, handle, _then_, fail, ensure}
 use Rattle.tape.specs.Plan.{until}
-use Rattle.tape.specs.Rows.{roomOf, rowAt}
 use Rattle.tape.specs.Run.{State, After, noted, run, doesAt, Gave}
 use Rattle.tape.proofs.Laws.{by-cases, run-out}
 use Rattle.tape.specs.Steps.{word, row, dataFrom}
@@ -130,7 +130,7 @@ late-row n (x ∷ xs) ys w zero b h more = absurd (omega arith)
 late-row n (x ∷ xs) ys w (suc k) b h more = late-row n xs ys w k b (omega arith) (omega arith)
 
 -- no more words are taken than there are
-run-within : (s : List ℕ) {A : Type 0} (d : A) (p : Plan A) (u n : ℕ) (h : Line) (l : List ℕ) → u ≤ length s
+run-within : (s : List ℕ) {A : Type 0} (d : A) (p : Plan A) (u n : ℕ) (h : Line) (l : List Row) → u ≤ length s
     → run s d p u n h l .state .progress .used ≤ length s
 unfolding run
 run-within s d (give a) u n h l e = e
@@ -143,7 +143,7 @@ run-within s {A} d (read r k z) u n h l e = by (decLt u (length s)) (run-within 
     by (yes some) ih out = rw (lt-ltb u (length s) some) (ih (omega arith))
     by (no none) ih out = rw (le-ltb u (length s) (omega arith)) (out e)
 run-within s {A} d (write r p) u n h l e =
-    by-cases (λ (x : After A). x .state .progress .used ≤ length s) (ltb n (roomOf l)) _ _ (run-within s d p u (n + 1) (noted r h) (rowAt l n r) e) e
+    by-cases (λ (x : After A). x .state .progress .used ≤ length s) (ltb n (length l)) _ _ (run-within s d p u (n + 1) (noted r h) (set l n r) e) e
 run-within s d (look k) u n h l e = run-within s d (k h) u n h l e
 run-within s d (hold h′ p) u n h l e = run-within s d p u n h′ l e
 
@@ -270,7 +270,7 @@ none-taken n s u q e = record { most = omega arith; all = λ e′ h. absurd (apa
     apart : isEnded q ≡ false → isEnded q ≡ true → ⊥
     apart e e′ = let z : _≡_ {A = ℕ} 0 1 = cc in omega arith
 
-run-taken : (s : List ℕ) (n : ℕ) {A : Type 0} (d : A) (p : Plan A) (u m : ℕ) (h : Line) (l : List ℕ) → atMost n p → TakenBy n s u (run s d p u m h l)
+run-taken : (s : List ℕ) (n : ℕ) {A : Type 0} (d : A) (p : Plan A) (u m : ℕ) (h : Line) (l : List Row) → atMost n p → TakenBy n s u (run s d p u m h l)
 unfolding atMost run
 run-taken s n d (give a) u m h l b = none-taken n s u Going refl
 run-taken s n d (refuse (failed e)) u m h l b = none-taken n s u (Stopped (Refused e)) refl
@@ -285,7 +285,7 @@ run-taken s (suc n) {A} d (read r k z) u m h l b = by (decLt u (length s)) (run-
         let out = run-out s d z u m h l (omega arith) in
         rw (le-ltb u (length s) (omega arith)) (record { most = omega (arith, out); all = λ e v. omega (arith, out) })
 run-taken s n d (write r p) u m h l b =
-    by-cases (TakenBy n s u) (ltb m (roomOf l)) _ _ (run-taken s n d p u (m + 1) (noted r h) (rowAt l m r) b) (none-taken n s u (Stopped TraceFull) refl)
+    by-cases (TakenBy n s u) (ltb m (length l)) _ _ (run-taken s n d p u (m + 1) (noted r h) (set l m r) b) (none-taken n s u (Stopped TraceFull) refl)
 run-taken s n d (look k) u m h l b = run-taken s n d (k h) u m h l (b h)
 run-taken s n d (hold h′ p) u m h l b = run-taken s n d p u m h′ l b
 

@@ -1,3 +1,5 @@
+pub mod Cases
+pub mod Layout
 pub mod Plan
 pub mod Polls
 pub mod Rows

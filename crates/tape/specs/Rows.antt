@@ -1,12 +1,9 @@
--- Document 01, 'Script and rows': the rows by number, how their values are packed, and how they lie in a list.
+-- Document 01, 'Script and rows': the rows by number, and how their values are packed.
 use Prim.Native.Nat.{ℕ, _+_, _*_, _/_, _%_}
 use mathlib.Core.Path.{_≡_}
 use mathlib.Core.Bool.{Bool, true, false, cond}
-use mathlib.Core.List.{List, [], _∷_}
 use native.Mathlib.Omega.{arith}
-use lib.ListN.{length, set}
 use Rattle.types.specs.declared.clock.Clock.{Clock}
-use Rattle.tape.specs.declared.rows.Row.{Row}
 
 abbrev pub POWER : ℕ
 POWER = 1
@@ -63,18 +60,3 @@ cmdOf index wait = index + 64 * wait + 1024
 -- DCTRL = 9 + 2 if reading + 16 * block size
 abbrev pub dctrlOf : Bool → ℕ → ℕ
 dctrlOf reading size = 9 + cond reading 2 0 + 16 * size
-
--- a row is two words, register and value; a list of n words has room for n/2 rows, rounded down
-abbrev pub placeOf : ℕ → ℕ
-placeOf n = 2 * n
-
-abbrev pub rowAt : List ℕ → ℕ → Row → List ℕ
-rowAt l n r = set (set l (placeOf n) (r .register)) (placeOf n + 1) (r .value)
-
-abbrev pub roomOf : List ℕ → ℕ
-roomOf l = length l / 2
-
--- rows as they lie one after the other
-unfoldable pub wordsOf : List Row → List ℕ
-wordsOf [] = []
-wordsOf (r ∷ rs) = r .register ∷ r .value ∷ wordsOf rs

@@ -4,7 +4,7 @@ use Prim.Native.Nat.{ℕ, _+_}
 use mathlib.Core.Path.{_≡_}
 use mathlib.Core.Bool.{Bool, true, cond}
 use mathlib.Core.List.{List}
-use lib.ListN.{length, getD, drop}
+use lib.ListN.{length, getD, drop, set}
 use lib.Dec.{ltb, eqb}
 use Rattle.tape.specs.declared.progress.Halt.{Halt}
 use Rattle.tape.specs.declared.progress.Halt.the-variants.{Refused, ScriptEnded, TraceFull}
@@ -15,14 +15,14 @@ use Rattle.tape.specs.declared.progress.Progress.{Progress}
 use Rattle.tape.specs.declared.rows.Row.{Row}
 use Rattle.tape.specs.declared.script.Data.{Data}
 use Rattle.tape.specs.Plan.{Nothing, Cause, failed, ended, Plan, give, refuse, read, write, look, hold}
-use Rattle.tape.specs.Rows.{CLKCR, rowAt, roomOf}
+use Rattle.tape.specs.Rows.{CLKCR}
 
--- a call under way: its row list and its progress
+-- a call under way: its rows, written and not, and its progress
 pub record State : Type 0 where
-  pub list : List ℕ
+  pub list : List Row
   pub progress : Progress
 
-abbrev pub at : Progress → List ℕ → State
+abbrev pub at : Progress → List Row → State
 at p l = record { list = l; progress = p }
 
 -- a state, and what was given on the way to it
@@ -30,7 +30,7 @@ pub record After (A : Type 0) : Type 0 where
   pub value : A
   pub state : State
 
-abbrev pub after : {A : Type 0} → A → Pace → ℕ → ℕ → Line → List ℕ → After A
+abbrev pub after : {A : Type 0} → A → Pace → ℕ → ℕ → Line → List Row → After A
 after a q u n h l = record { value = a; state = at (record { pace = q; used = u; rows = n; line = h }) l }
 
 abbrev pub stopped : {A : Type 0} → A → Halt → State → After A
@@ -74,13 +74,13 @@ pub record Lies (from n : ℕ) (r : Data) : Type 0 where
 module _ (s : List ℕ) where
   -- a plan from a call that is going, with u words used and n rows written; it gives d where it stops. Where no word is left it
   -- goes on as it does then; where there is no room it stops as it is
-  unfoldable pub run : {A : Type 0} → A → Plan A → ℕ → ℕ → Line → List ℕ → After A
+  unfoldable pub run : {A : Type 0} → A → Plan A → ℕ → ℕ → Line → List Row → After A
   run d (give a) u n h l = after a Going u n h l
   run d (refuse c) u n h l = after d (Stopped (haltOf c)) u n h l
   run d (read r k z) u n h l =
       cond (ltb u (length s)) (run d (k (getD s u 0)) (u + 1) n h l) (run d z u n h l)
   run d (write r p) u n h l =
-      cond (ltb n (roomOf l)) (run d p u (n + 1) (noted r h) (rowAt l n r)) (after d (Stopped TraceFull) u n h l)
+      cond (ltb n (length l)) (run d p u (n + 1) (noted r h) (set l n r)) (after d (Stopped TraceFull) u n h l)
   run d (look k) u n h l = run d (k h) u n h l
   run d (hold h′ p) u n h l = run d p u n h′ l
 

@@ -131,7 +131,7 @@ impl Progress {
 
     // What the host holds from here on, unless the call has stopped.
     pub fn holding(self, line: Line) -> Progress
-        ensures { λ r. ⌜ ((s l : List ℕ) → Did s (hold line (give tt)) (at self l) (at r l)) ⌝ }
+        ensures { λ r. ⌜ ((s : List ℕ) (l : List Row) → Did s (hold line (give tt)) (at self l) (at r l)) ⌝ }
     {
         let pace = self.pace;
         let Pace::Going = pace else {
@@ -148,7 +148,7 @@ impl Progress {
 
 // Refuses, unless the call has stopped. Written out, since by way of `stop` an initialisation took half as long again.
 pub fn refuse(p: Progress, e: Error) -> Progress
-    ensures { λ r. ⌜ ((s l : List ℕ) → Did s (fail e) (at p l) (at r l)) ⌝ }
+    ensures { λ r. ⌜ ((s : List ℕ) (l : List Row) → Did s (fail e) (at p l) (at r l)) ⌝ }
 {
     let pace = p.pace;
     match pace {
@@ -159,14 +159,14 @@ pub fn refuse(p: Progress, e: Error) -> Progress
 
 // Refuses, unless this holds or the call has stopped.
 pub fn ensure(p: Progress, holds: bool, e: Error) -> Progress
-    ensures { λ r. ⌜ ((s l : List ℕ) → Did s (ensure holds e) (at p l) (at r l)) ⌝ }
+    ensures { λ r. ⌜ ((s : List ℕ) (l : List Row) → Did s (ensure holds e) (at p l) (at r l)) ⌝ }
 {
     if holds { p } else { refuse(p, e) }
 }
 
 // Gives a word, unless the call has stopped.
 pub fn give_word(p: Progress, word: u32) -> Word
-    ensures { λ r. ⌜ ((s l : List ℕ) → Gave s ℕ 0 (give word) (at p l) (r .word) (at (r .progress) l)) ⌝ }
+    ensures { λ r. ⌜ ((s : List ℕ) (l : List Row) → Gave s ℕ 0 (give word) (at p l) (r .word) (at (r .progress) l)) ⌝ }
 {
     let pace = p.pace;
     match pace {
@@ -183,7 +183,7 @@ pub fn give_word(p: Progress, word: u32) -> Word
 
 // Gives an answer of yes or no, unless the call has stopped.
 pub fn give_flag(p: Progress, flag: bool) -> Flag
-    ensures { λ r. ⌜ ((s l : List ℕ) → Gave s Bool false (give flag) (at p l) (r .flag) (at (r .progress) l)) ⌝ }
+    ensures { λ r. ⌜ ((s : List ℕ) (l : List Row) → Gave s Bool false (give flag) (at p l) (r .flag) (at (r .progress) l)) ⌝ }
 {
     let pace = p.pace;
     match pace {

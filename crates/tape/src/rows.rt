@@ -3,6 +3,7 @@ ghost use mathlib.Core.Path.{_≡_};
 ghost use mathlib.Core.List.{List};
 ghost use mathlib.Core.Bool.{cond};
 ghost use Prim.Native.Nat.{ℕ, _≤_};
+ghost use Rattle.tape.specs.Layout.{wordOf, rowOf, rowsIn};
 ghost use Rattle.tape.specs.Rows.{clkenOf, clkcrOf, cmdOf, dctrlOf};
 ghost use Rattle.tape.specs.Run.{at, Did};
 ghost use Rattle.tape.specs.Steps.{row};
@@ -39,6 +40,25 @@ impl Row {
     pub const DCTRL2: u32 = 10;
     // The spin count of a delay.
     pub const DELAY: u32 = 11;
+    // In its word the register lies above the value.
+    pub const ABOVE: u64 = 0x1_0000_0000;
+
+    // The row that lies in this word.
+    pub fn of(word: u64) -> Row
+        ensures { λ r. ⌜ r ≡ rowOf word ⌝ }
+    {
+        Row {
+            register: (word / Row::ABOVE) as u32,
+            value: (word % Row::ABOVE) as u32,
+        }
+    }
+
+    // The word of 64 bits that it lies in.
+    pub fn word(self) -> u64
+        ensures { λ r. ⌜ r ≡ wordOf self ⌝ }
+    {
+        self.register as u64 * Row::ABOVE + self.value as u64
+    }
 }
 
 // The flags that are cleared at once in the controller's status.
@@ -90,8 +110,8 @@ impl DataControl {
 }
 
 // Writes one row.
-pub fn write_row(p: Progress, rows: &mut [u32], register: u32, value: u32) -> Progress
-    ensures { λ r. ⌜ ((s : List ℕ) → Did s (row register value) (at p (now (rows .entry))) (at r (now (rows .exit)))) ⌝ }
+pub fn write_row(p: Progress, rows: &mut [u64], register: u32, value: u32) -> Progress
+    ensures { λ r. ⌜ ((s : List ℕ) → Did s (row register value) (at p (rowsIn (now (rows .entry)))) (at r (rowsIn (now (rows .exit))))) ⌝ }
 {
     let pace = p.pace;
     let line = p.line;
@@ -99,9 +119,12 @@ pub fn write_row(p: Progress, rows: &mut [u32], register: u32, value: u32) -> Pr
         return p;
     };
     let n = p.rows;
-    if n < rows.len() / 2 {
-        rows[2 * n] = register;
-        rows[2 * n + 1] = value;
+    let row = Row {
+        register: register,
+        value: value,
+    };
+    if n < rows.len() {
+        rows[n] = row.word();
         let held = line.noted(register, value);
         Progress {
             pace: Pace::Going,

@@ -13,6 +13,7 @@ use crate::progress::Halt;
 use crate::progress::Pace;
 use crate::progress::Progress;
 use crate::progress::Word;
+use crate::rows::Row;
 use reader::Found;
 
 // What a reading asks for: the controller's status, the index of the command that was answered, a response word, the
@@ -81,7 +82,7 @@ pub fn rest(script: &[u32], used: usize) -> &[u32]
 // Takes the next word of a script of which `rest` is what lies behind its first `start` words.
 pub fn read_word(p: Progress, rest: &[u32], start: usize) -> Word
     requires { ⌜ (start ≤ p .used) × (start + length (now rest) < 2 ^ 64) ⌝ }
-    ensures { λ r. ⌜ ((kind : Reading) (s l : List ℕ) → Behind start (now (rest .entry)) s → Gave s ℕ 0 (word kind) (at p l) (r .word) (at (r .progress) l)) ⌝ }
+    ensures { λ r. ⌜ ((kind : Reading) (s : List ℕ) (l : List Row) → Behind start (now (rest .entry)) s → Gave s ℕ 0 (word kind) (at p l) (r .word) (at (r .progress) l)) ⌝ }
 {
     let pace = p.pace;
     let line = p.line;
@@ -161,7 +162,7 @@ pub fn quiet(words: &[u32], limit: u32, done: u32, wrong: u32) -> usize
 // and it takes no longer for many than for one.
 pub fn take_data(p: Progress, rest: &[u32], start: usize, count: usize) -> Data
     requires { ⌜ (start ≤ p .used) × (start + length (now rest) < 2 ^ 64) ⌝ }
-    ensures took { λ r. ⌜ ((s l : List ℕ) → Behind start (now (rest .entry)) s → Gave s (List ℕ) [] (dataWords count) (at p l) (take (r .count) (drop (r .place) s)) (at (r .progress) l)) ⌝ }
+    ensures took { λ r. ⌜ ((s : List ℕ) (l : List Row) → Behind start (now (rest .entry)) s → Gave s (List ℕ) [] (dataWords count) (at p l) (take (r .count) (drop (r .place) s)) (at (r .progress) l)) ⌝ }
     ensures lie { λ r. ⌜ Lies (p .used) count r ⌝ }
 {
     let pace = p.pace;
@@ -201,7 +202,7 @@ pub fn take_data(p: Progress, rest: &[u32], start: usize, count: usize) -> Data
 
 // Gives these data words, unless the call has stopped.
 pub fn give_data(p: Progress, place: usize, count: usize) -> Data
-    ensures gave { λ r. ⌜ ((s l : List ℕ) → Gave s (List ℕ) [] (give (take count (drop place s))) (at p l) (take (r .count) (drop (r .place) s)) (at (r .progress) l)) ⌝ }
+    ensures gave { λ r. ⌜ ((s : List ℕ) (l : List Row) → Gave s (List ℕ) [] (give (take count (drop place s))) (at p l) (take (r .count) (drop (r .place) s)) (at (r .progress) l)) ⌝ }
     ensures lie { λ r. ⌜ Lies place count r ⌝ }
 {
     let pace = p.pace;

@@ -3,6 +3,7 @@ ghost use mathlib.Core.Path.{_≡_};
 ghost use mathlib.Core.List.{List};
 ghost use Prim.Native.Nat.{ℕ, _+_, _^_, _<_};
 ghost use lib.ListN.{length};
+ghost use Rattle.tape.specs.Layout.{rowsIn};
 ghost use Rattle.tape.specs.Plan.{Nothing, give, refusing};
 ghost use Rattle.tape.specs.Run.{at, Behind, Did, Settled};
 ghost use Rattle.tape.specs.Steps.{holdGated, holdClock, holdSignalling, idleMask, waitIdle, resetController, stopData, setClken};
@@ -30,7 +31,7 @@ fn idle_mask(data: bool) -> u32
 // Polls the status, at most `limit` times, until the controller is idle. `rest` is what is left of the script.
 pub fn wait_idle(p: Progress, rest: &[u32], limit: u32, data: bool) -> Progress
     requires { ⌜ p .used + length (now rest) < 2 ^ 64 ⌝ }
-    ensures { λ r. ⌜ ((s l : List ℕ) → Behind (p .used) (now (rest .entry)) s → Did s (waitIdle limit «data») (at p l) (at r l)) ⌝ }
+    ensures { λ r. ⌜ ((s : List ℕ) (l : List Row) → Behind (p .used) (now (rest .entry)) s → Did s (waitIdle limit «data») (at p l) (at r l)) ⌝ }
 {
     let pace = p.pace;
     let start = p.used;
@@ -47,8 +48,8 @@ pub fn wait_idle(p: Progress, rest: &[u32], limit: u32, data: bool) -> Progress
 }
 
 // The reset rows.
-pub fn reset_controller(p: Progress, rows: &mut [u32]) -> Progress
-    ensures { λ r. ⌜ ((s : List ℕ) → Did s resetController (at p (now (rows .entry))) (at r (now (rows .exit)))) ⌝ }
+pub fn reset_controller(p: Progress, rows: &mut [u64]) -> Progress
+    ensures { λ r. ⌜ ((s : List ℕ) → Did s resetController (at p (rowsIn (now (rows .entry)))) (at r (rowsIn (now (rows .exit))))) ⌝ }
 {
     let mask = rows::write_row(p, rows, Row::MASK, 0);
     let dctrl2 = rows::write_row(mask, rows, Row::DCTRL2, 0);
@@ -63,8 +64,8 @@ pub fn reset_controller(p: Progress, rows: &mut [u32]) -> Progress
 }
 
 // The stop rows.
-pub fn stop_data(p: Progress, rows: &mut [u32]) -> Progress
-    ensures { λ r. ⌜ ((s : List ℕ) → Did s stopData (at p (now (rows .entry))) (at r (now (rows .exit)))) ⌝ }
+pub fn stop_data(p: Progress, rows: &mut [u64]) -> Progress
+    ensures { λ r. ⌜ ((s : List ℕ) → Did s stopData (at p (rowsIn (now (rows .entry)))) (at r (rowsIn (now (rows .exit))))) ⌝ }
 {
     let mask = rows::write_row(p, rows, Row::MASK, 0);
     let dctrl = rows::write_row(mask, rows, Row::DCTRL, 0);
@@ -72,16 +73,16 @@ pub fn stop_data(p: Progress, rows: &mut [u32]) -> Progress
 }
 
 // Opens or closes the card clock: CLKCR as it was last written, on or off.
-pub fn set_clken(p: Progress, rows: &mut [u32], on: bool) -> Progress
-    ensures { λ r. ⌜ ((s : List ℕ) → Did s (setClken on) (at p (now (rows .entry))) (at r (now (rows .exit)))) ⌝ }
+pub fn set_clken(p: Progress, rows: &mut [u64], on: bool) -> Progress
+    ensures { λ r. ⌜ ((s : List ℕ) → Did s (setClken on) (at p (rowsIn (now (rows .entry)))) (at r (rowsIn (now (rows .exit))))) ⌝ }
 {
     let value = rows::with_clken(p.line.clkcr, on);
     rows::write_row(p, rows, Row::CLKCR, value)
 }
 
 // What a guard makes of a call: the reset rows, and the stop once more, unless there is no room.
-pub fn close(p: Progress, rows: &mut [u32]) -> Progress
-    ensures { λ r. ⌜ ((s : List ℕ) → Settled s Nothing Nothing tt give (refusing resetController) tt (at p (now (rows .entry))) tt (at r (now (rows .exit)))) ⌝ }
+pub fn close(p: Progress, rows: &mut [u64]) -> Progress
+    ensures { λ r. ⌜ ((s : List ℕ) → Settled s Nothing Nothing tt give (refusing resetController) tt (at p (rowsIn (now (rows .entry)))) tt (at r (rowsIn (now (rows .exit))))) ⌝ }
 {
     let pace = p.pace;
     match pace {
@@ -98,7 +99,7 @@ pub fn close(p: Progress, rows: &mut [u32]) -> Progress
 
 // The host is gated from here on, or is not: its clock runs only around a command or a data phase.
 pub fn hold_gated(p: Progress, gated: bool) -> Progress
-    ensures { λ r. ⌜ ((s l : List ℕ) → Did s (holdGated gated) (at p l) (at r l)) ⌝ }
+    ensures { λ r. ⌜ ((s : List ℕ) (l : List Row) → Did s (holdGated gated) (at p l) (at r l)) ⌝ }
 {
     let mut line = p.line;
     line.gated = gated;
@@ -107,7 +108,7 @@ pub fn hold_gated(p: Progress, gated: bool) -> Progress
 
 // The card clock's frequency from here on.
 pub fn hold_clock(p: Progress, clock: Hertz) -> Progress
-    ensures { λ r. ⌜ ((s l : List ℕ) → Did s (holdClock clock) (at p l) (at r l)) ⌝ }
+    ensures { λ r. ⌜ ((s : List ℕ) (l : List Row) → Did s (holdClock clock) (at p l) (at r l)) ⌝ }
 {
     let mut line = p.line;
     line.clock = clock;
@@ -116,7 +117,7 @@ pub fn hold_clock(p: Progress, clock: Hertz) -> Progress
 
 // The signalling from here on.
 pub fn hold_signalling(p: Progress, signalling: Signalling) -> Progress
-    ensures { λ r. ⌜ ((s l : List ℕ) → Did s (holdSignalling signalling) (at p l) (at r l)) ⌝ }
+    ensures { λ r. ⌜ ((s : List ℕ) (l : List Row) → Did s (holdSignalling signalling) (at p l) (at r l)) ⌝ }
 {
     let line = p.line;
     let clock = line.clock;

@@ -6,6 +6,8 @@ use mathlib.Core.Path.{_≡_, refl, ap, sym, _∙_}
 use native.Mathlib.Numerals.{add-one}
 use native.Mathlib.Omega.{arith}
 use lib.ListN.{length, take, replicate}
+use Rattle.tape.specs.declared.rows.Row.{Row}
+use Rattle.tape.specs.Layout.{rowsIn}
 use Rattle.text.specs.Ink.{inked, Laid}
 use Rattle.host.specs.declared.host.Called.{Called}
 use Rattle.host.specs.declared.host.Sdmmc.{Sdmmc}
@@ -33,7 +35,7 @@ use Rattle.telling.specs.Told.{Leaf, leaf, eventsOf, begun, endsOn, call
 use Rattle.telling.proofs.Lines.{as-leaf}
 
 -- a call's lines, its events and its last two lines are all of it
-module _ (number : ℕ) (host : Sdmmc) (ws : List ℕ) (asked : Asked) (bytes : ℕ) (l : List ℕ) where
+module _ (number : ℕ) (host : Sdmmc) (ws : List ℕ) (asked : Asked) (bytes : ℕ) (l : List Row) where
   pub call-out : {at : ℕ} {out out₁ out₂ out₃ : List ℕ} {begins : Sheet} {c : Called}
       → Tells (beginsText number asked) (record { at = 0; written = true }) out begins out₁
       → c ≡ calledOf (comes host (asking l bytes ws asked))
@@ -59,7 +61,7 @@ first ws room start = record { hosted = refl; placed = refl; laid = refl }
 -- and after one more
 pub one-more : (ws : List ℕ) (room : ℕ) (start : Point) (k : ℕ) (host host′ : Sdmmc) (place place′ : ℕ) (out out′ : List ℕ) → Stands ws room start k host place out
     → host′ ≡ comes host (callAt ws k place room) .host → place′ ≡ placeAfter ws k place
-    → out′ ≡ callOut (k + 1) host ws (askedAt ws k place) (bytesAt ws k place) (replicate (2 * min room 4096) 0) out → Stands ws room start (k + 1) host′ place′ out′
+    → out′ ≡ callOut (k + 1) host ws (askedAt ws k place) (bytesAt ws k place) (rowsIn (replicate (min room 4096) 0)) out → Stands ws room start (k + 1) host′ place′ out′
 unfolding afterCalls
 one-more ws room start k host host′ place place′ out out′ s h p l =
     let was : record { host = host; place = place; out = out } ≡ afterCalls ws room start k = λ i. record { host = s .hosted i; place = s .placed i; out = s .laid i } in

@@ -5,6 +5,7 @@ use mathlib.Core.List.{List}
 use mathlib.Core.Path.{_≡_, refl, ap, sym, _∙_}
 use lib.Dec.{eqb}
 use borrow.Author.Tests.{eq-eqb, ne-eqb}
+use Rattle.tape.specs.declared.rows.Row.{Row}
 use Rattle.tape.specs.Plan.{Plan}
 use Rattle.tape.specs.Run.{run}
 use Rattle.host.specs.declared.host.Sdmmc.{Sdmmc}
@@ -43,7 +44,7 @@ module _ (host : Sdmmc) (kind a bytes : ℕ) where
   unfolding planOf
   asks-status none nor = rw (ne-eqb kind 1 none, ne-eqb kind 2 nor) refl
 
-module _ (host : Sdmmc) (s l : List ℕ) (a bytes : ℕ) where
+module _ (host : Sdmmc) (s : List ℕ) (l : List Row) (a bytes : ℕ) where
   abbrev came : Plan Closing → Came
   came p = cameOf host (run s (noClosing host) p 0 0 (host .line) l)
 
@@ -55,7 +56,7 @@ module _ (host : Sdmmc) (s l : List ℕ) (a bytes : ℕ) where
   by-kind false true = sym (read-call host s l a bytes)
   by-kind false false = sym (status-call host s l)
 
-module _ (host : Sdmmc) (ws l : List ℕ) (asked : Asked) (bytes : ℕ) where
+module _ (host : Sdmmc) (ws : List ℕ) (l : List Row) (asked : Asked) (bytes : ℕ) where
   abbrev script : List ℕ
   script = callAsked ws asked .script
 

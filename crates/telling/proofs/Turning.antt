@@ -3,6 +3,7 @@ use Prim.Native.Nat.{ℕ, suc}
 use mathlib.Core.Bool.{true, false}
 use mathlib.Core.List.{List, []}
 use mathlib.Core.Path.{_≡_, refl, ap, sym, _∙_}
+use Rattle.tape.specs.declared.rows.Row.{Row}
 use Rattle.host.specs.declared.host.Called.{Called}
 use Rattle.host.specs.Calls.{calledOf}
 use Rattle.underway.specs.declared.call.Call.{Call}
@@ -15,7 +16,7 @@ use Rattle.feed.proofs.Fed.{turn-keeps, turn-fewer, turn-left, turn-closes}
 use Rattle.telling.specs.Told.{Leaf, evented, turnsOn, eventsOf}
 
 module _ (s : List ℕ) where
-  module _ (w : Way) (l : List ℕ) (p : Leaf) where
+  module _ (w : Way) (l : List Row) (p : Leaf) where
     abbrev next : Turned
     next = turnOf s w l
 
@@ -30,15 +31,15 @@ module _ (s : List ℕ) where
     turn-ends e = sym (rw e refl)
 
   -- `g` are the data words handed out so far
-  pub record Telling (w₀ : Way) (l₀ : List ℕ) (p₀ : Leaf) (f : Feeding) (l : List ℕ) (p : Leaf) : Type 0 where
+  pub record Telling (w₀ : Way) (l₀ : List Row) (p₀ : Leaf) (f : Feeding) (l : List Row) (p : Leaf) : Type 0 where
     pub g : List ℕ
     pub fed : fedFrom s (wayOf g f) l ≡ fedFrom s w₀ l₀
     pub told : eventsOf s (wayOf g f) l p ≡ eventsOf s w₀ l₀ p₀
 
-  pub starts-telling : (f : Feeding) (l : List ℕ) (p : Leaf) → Telling (wayOf [] f) l p f l p
+  pub starts-telling : (f : Feeding) (l : List Row) (p : Leaf) → Telling (wayOf [] f) l p f l p
   starts-telling f l p = record { g = []; fed = refl; told = refl }
 
-  module _ {w₀ : Way} {l₀ : List ℕ} {p₀ : Leaf} {f : Feeding} {l : List ℕ} {p : Leaf} (x : Telling w₀ l₀ p₀ f l p) (t : Turn) (l′ : List ℕ)
+  module _ {w₀ : Way} {l₀ : List Row} {p₀ : Leaf} {f : Feeding} {l : List Row} {p : Leaf} (x : Telling w₀ l₀ p₀ f l p) (t : Turn) (l′ : List Row)
       (is : (g : List ℕ) → turnedOf g t l′ ≡ turnOf s (wayOf g f) l) where
     abbrev was : turnedOf (x .g) t l′ ≡ turnOf s (wayOf (x .g) f) l
     was = is (x .g)
@@ -76,8 +77,8 @@ module _ (s : List ℕ) where
         ∙ ap calledOf (x .fed)
 
   -- a call that was begun and has had its last turn
-  module _ {call : Call} {f₀ f : Feeding} {l₀ l : List ℕ} {p₀ p : Leaf} (begun : f₀ ≡ record { call = call; used = 0; rows = 0; place = 0 })
-      (x : Telling (wayOf [] f₀) l₀ p₀ f l p) (t : Turn) (l′ : List ℕ) (is : (g : List ℕ) → turnedOf g t l′ ≡ turnOf s (wayOf g f) l)
+  module _ {call : Call} {f₀ f : Feeding} {l₀ l : List Row} {p₀ p : Leaf} (begun : f₀ ≡ record { call = call; used = 0; rows = 0; place = 0 })
+      (x : Telling (wayOf [] f₀) l₀ p₀ f l p) (t : Turn) (l′ : List Row) (is : (g : List ℕ) → turnedOf g t l′ ≡ turnOf s (wayOf g f) l)
       (off : goesOn (t .event) ≡ false) where
     pub all-called : {c : Called} → ((g : List ℕ) → c ≡ calledAt (wayOf g (t .feeding))) → c ≡ calledOf (fedFrom s (starts (under [] call)) l₀)
     all-called told = ends-called x t l′ is off told ∙ ap (λ (f : Feeding). calledOf (fedFrom s (wayOf [] f) l₀)) begun

@@ -8,6 +8,8 @@ use lib.Dec.{eqb}
 use lib.ListN.{length, replicate}
 use Rattle.types.specs.Answer.{answerTold}
 use Rattle.text.specs.Ink.{inked, next}
+use Rattle.tape.specs.declared.rows.Row.{Row}
+use Rattle.tape.specs.Layout.{rowsIn}
 use Rattle.tape.specs.Plan.{Plan}
 use Rattle.host.specs.declared.host.Called.{Called}
 use Rattle.host.specs.declared.host.Sdmmc.{Sdmmc}
@@ -57,14 +59,14 @@ evented F.Over p = p
 
 -- after a turn, and after the turns that follow it, so many at most
 module _ (s : List ℕ) where
-  unfoldable pub turnsOn : ℕ → Way → List ℕ → Leaf → Leaf
+  unfoldable pub turnsOn : ℕ → Way → List Row → Leaf → Leaf
   turnsOn zero w l p = p
   turnsOn (suc k) w l p =
       let t = turnOf s w l in
       cond (goesOn (t .event)) (turnsOn k (t .next) (t .list) (evented (t .event) p)) (evented (t .event) p)
 
   -- ALL THE EVENTS OF A CALL: of its readings and rows, which are turns that others follow, and of its last turn
-  abbrev pub eventsOf : Way → List ℕ → Leaf → Leaf
+  abbrev pub eventsOf : Way → List Row → Leaf → Leaf
   eventsOf w l p = turnsOn (suc (nextSpan s (w .call .ahead) (w .used))) w l p
 
 -- a call of a book at its start
@@ -79,7 +81,7 @@ abbrev pub endsOn : ℕ → Called → Leaf → Leaf
 endsOn number c p = lined (stateText (c .host)) (lined (callLine number (answerTold (c .answer) .number) (c .words) (c .rows)) p)
 
 -- ALL OF A CALL, in the buffer from its start on
-abbrev pub callOut : ℕ → Sdmmc → List ℕ → Asked → ℕ → List ℕ → List ℕ → List ℕ
+abbrev pub callOut : ℕ → Sdmmc → List ℕ → Asked → ℕ → List Row → List ℕ → List ℕ
 callOut number host ws asked bytes l out =
     endsOn number (calledOf (comes host (asking l bytes ws asked)))
     (eventsOf (callAsked ws asked .script) (starts (begun host asked bytes)) l (lined (beginsText number asked) (leaf 0 out)))
@@ -90,7 +92,7 @@ abbrev pub stepped : List ℕ → ℕ → ℕ → Point → Point
 stepped ws room k p = record {
   host = comes (p .host) (callAt ws k (p .place) room) .host;
   place = placeAfter ws k (p .place);
-  out = callOut (k + 1) (p .host) ws (askedAt ws k (p .place)) (bytesAt ws k (p .place)) (replicate (2 * min room 4096) 0) (p .out);
+  out = callOut (k + 1) (p .host) ws (askedAt ws k (p .place)) (bytesAt ws k (p .place)) (rowsIn (replicate (min room 4096) 0)) (p .out);
 }
 
 -- after the first so many calls

@@ -4,6 +4,7 @@ ghost use mathlib.Core.List.{List, []};
 ghost use mathlib.Core.Bool.{false};
 ghost use Prim.Native.Nat.{ℕ, _+_, _*_, _≤_, _<_, min};
 ghost use lib.ListN.{length, take, replicate};
+ghost use Rattle.tape.specs.Layout.{rowsIn};
 ghost use Rattle.text.specs.Ink.{inked};
 ghost use Rattle.host.specs.Calls.{calledOf};
 ghost use Rattle.calls.specs.Serve.{comes};
@@ -90,11 +91,11 @@ fn ended(feeding: Feeding, sheet: Sheet) -> Told
 }
 
 // Takes a call's turns until none follows, and tells each as it comes. The call goes its way whatever becomes of the text.
-fn take_turns(call: Call, script: &[u32], rows: &mut [u32], sheet: Sheet, out: &mut [u8]) -> Told
+fn take_turns(call: Call, script: &[u32], rows: &mut [u64], sheet: Sheet, out: &mut [u8]) -> Told
     requires { ⌜ Fits sheet (now out) ⌝ }
-    ensures answered { λ r. ⌜ r .called ≡ calledOf (fedFrom (now (script .entry)) (starts (under [] call)) (now (rows .entry))) ⌝ }
+    ensures answered { λ r. ⌜ r .called ≡ calledOf (fedFrom (now (script .entry)) (starts (under [] call)) (rowsIn (now (rows .entry)))) ⌝ }
     ensures fits { λ r. ⌜ Fits (r .sheet) (now (out .exit)) ⌝ }
-    ensures told { λ r. ⌜ leaf (r .sheet .at) (now (out .exit)) ≡ eventsOf (now (script .entry)) (starts (under [] call)) (now (rows .entry)) (leaf (sheet .at) (now (out .entry))) ⌝ }
+    ensures told { λ r. ⌜ leaf (r .sheet .at) (now (out .exit)) ≡ eventsOf (now (script .entry)) (starts (under [] call)) (rowsIn (now (rows .entry))) (leaf (sheet .at) (now (out .entry))) ⌝ }
 {
     let mut feeding = Feeding::begin(call);
     let mut page = sheet;
@@ -116,14 +117,14 @@ fn tell_events(
     words: &[u32],
     asked: Asked,
     bytes: usize,
-    rows: &mut [u32],
+    rows: &mut [u64],
     sheet: Sheet,
     out: &mut [u8],
 ) -> Told
     requires { ⌜ Fits sheet (now out) ⌝ }
-    ensures answered { λ r. ⌜ r .called ≡ calledOf (comes host (asking (now (rows .entry)) bytes (now (words .entry)) asked)) ⌝ }
+    ensures answered { λ r. ⌜ r .called ≡ calledOf (comes host (asking (rowsIn (now (rows .entry))) bytes (now (words .entry)) asked)) ⌝ }
     ensures fits { λ r. ⌜ Fits (r .sheet) (now (out .exit)) ⌝ }
-    ensures told { λ r. ⌜ leaf (r .sheet .at) (now (out .exit)) ≡ eventsOf (callAsked (now (words .entry)) asked .script) (starts (begun host asked bytes)) (now (rows .entry)) (leaf (sheet .at) (now (out .entry))) ⌝ }
+    ensures told { λ r. ⌜ leaf (r .sheet .at) (now (out .exit)) ≡ eventsOf (callAsked (now (words .entry)) asked .script) (starts (begun host asked bytes)) (rowsIn (now (rows .entry))) (leaf (sheet .at) (now (out .entry))) ⌝ }
 {
     let at = asked.script_at;
     let len = asked.script_len;
@@ -150,13 +151,13 @@ fn tell_exact(
     asked: Asked,
     number: u32,
     bytes: usize,
-    rows: &mut [u32],
+    rows: &mut [u64],
     out: &mut [u8],
 ) -> Place
     requires { ⌜ 512 ≤ length (now out) ⌝ }
-    ensures served { λ r. ⌜ r .host ≡ comes host (asking (now (rows .entry)) bytes (now (words .entry)) asked) .host ⌝ }
+    ensures served { λ r. ⌜ r .host ≡ comes host (asking (rowsIn (now (rows .entry))) bytes (now (words .entry)) asked) .host ⌝ }
     ensures passed { λ r. ⌜ r .«script_at» ≡ min (asked .«script_at» + asked .«script_len») (length (now (words .entry))) ⌝ }
-    ensures told { λ r. ⌜ now (out .exit) ≡ callOut number host (now (words .entry)) asked bytes (now (rows .entry)) (now (out .entry)) ⌝ }
+    ensures told { λ r. ⌜ now (out .exit) ≡ callOut number host (now (words .entry)) asked bytes (rowsIn (now (rows .entry))) (now (out .entry)) ⌝ }
 {
     let blank = Sheet {
         at: 0,
@@ -181,16 +182,16 @@ fn tell_in(
     k: u16,
     script_at: usize,
     room: usize,
-    list: &mut [u32],
+    list: &mut [u64],
     out: &mut [u8],
 ) -> Place
-    requires { ⌜ (8192 ≤ length (now list)) × (512 ≤ length (now out)) ⌝ }
-    ensures served { λ r. ⌜ r .host ≡ comes host (asking (take (2 * min room 4096) (now (list .entry))) (bytesAt (now (words .entry)) k «script_at») (now (words .entry)) (askedAt (now (words .entry)) k «script_at»)) .host ⌝ }
+    requires { ⌜ (4096 ≤ length (now list)) × (512 ≤ length (now out)) ⌝ }
+    ensures served { λ r. ⌜ r .host ≡ comes host (asking (rowsIn (take (min room 4096) (now (list .entry)))) (bytesAt (now (words .entry)) k «script_at») (now (words .entry)) (askedAt (now (words .entry)) k «script_at»)) .host ⌝ }
     ensures passed { λ r. ⌜ r .«script_at» ≡ placeAfter (now (words .entry)) k «script_at» ⌝ }
-    ensures told { λ r. ⌜ now (out .exit) ≡ callOut (k + 1) host (now (words .entry)) (askedAt (now (words .entry)) k «script_at») (bytesAt (now (words .entry)) k «script_at») (take (2 * min room 4096) (now (list .entry))) (now (out .entry)) ⌝ }
+    ensures told { λ r. ⌜ now (out .exit) ≡ callOut (k + 1) host (now (words .entry)) (askedAt (now (words .entry)) k «script_at») (bytesAt (now (words .entry)) k «script_at») (rowsIn (take (min room 4096) (now (list .entry)))) (now (out .entry)) ⌝ }
 {
     let asked = layout::call_at(words, k as u32, script_at);
-    let rows = 2 * pen::least(room, 4096);
+    let rows = pen::least(room, 4096);
     let bytes = 512 * pen::least(asked.b as usize, 16);
     tell_exact(
         host,
@@ -215,9 +216,9 @@ fn tell_call(
     requires { ⌜ 512 ≤ length (now out) ⌝ }
     ensures served { λ r. ⌜ r .host ≡ comes host (callAt (now (words .entry)) k «script_at» room) .host ⌝ }
     ensures passed { λ r. ⌜ r .«script_at» ≡ placeAfter (now (words .entry)) k «script_at» ⌝ }
-    ensures told { λ r. ⌜ now (out .exit) ≡ callOut (k + 1) host (now (words .entry)) (askedAt (now (words .entry)) k «script_at») (bytesAt (now (words .entry)) k «script_at») (replicate (2 * min room 4096) 0) (now (out .entry)) ⌝ }
+    ensures told { λ r. ⌜ now (out .exit) ≡ callOut (k + 1) host (now (words .entry)) (askedAt (now (words .entry)) k «script_at») (bytesAt (now (words .entry)) k «script_at») (rowsIn (replicate (min room 4096) 0)) (now (out .entry)) ⌝ }
 {
-    let mut list = [0u32; 8192];
+    let mut list = [0u64; 4096];
     tell_in(host, words, k, script_at, room, &mut list, out)
 }
 

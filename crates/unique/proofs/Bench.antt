@@ -17,6 +17,7 @@ use Rattle.bench.proofs.serve
 use Rattle.bench.proofs.trace
 use Rattle.unique.specs.Unique.{Unique}
 use Rattle.unique.proofs.Determined.{determined}
+use Rattle.unique.proofs.Steps.{by-words}
 
 -- what opening a file comes to, but for the place where the next text goes
 opening : Opened → List ℕ → ℕ → Opening
@@ -38,10 +39,10 @@ print-print-book : Unique print.print_book.Kinds.ps print.print_book.Kinds.r pri
 print-print-book = determined _ λ _ _ _ p i. (p .laid i, p .placed i)
 
 serve-ask : Unique serve.ask.Kinds.ps serve.ask.Kinds.r serve.ask.Reads.Learnt
-serve-ask = determined _ λ _ _ _ p i. (p .1 .0 i, (p .1 .1 i, p .0 i))
+serve-ask = determined _ λ _ _ _ p. by-words (p .1 .0) (λ i. (p .1 .1 i, p .0 i))
 
 serve-ask-in : Unique serve.ask_in.Kinds.ps serve.ask_in.Kinds.r serve.ask_in.Reads.Learnt
-serve-ask-in = determined _ λ _ _ _ p i. (p .1 .0 i, (p .1 .1 i, p .0 i))
+serve-ask-in = determined _ λ _ _ _ p. by-words (p .1 .0) (λ i. (p .1 .1 i, p .0 i))
 
 serve-settings : Unique serve.settings.Kinds.ps serve.settings.Kinds.r serve.settings.Reads.Learnt
 serve-settings = determined _ λ _ _ _ p. p

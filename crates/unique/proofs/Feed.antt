@@ -1,11 +1,14 @@
 -- A line for each public function of `feed`.
 use Prim.Native.Nat.{ℕ}
 use mathlib.Core.List.{List, []}
+use mathlib.Core.Path.{ap}
+use Rattle.tape.specs.Layout.{rowsIn}
 use Rattle.feed.specs.Turns.{Turned, turnedOf}
 use Rattle.feed.proofs.feed
 use Rattle.feed.proofs.turn
 use Rattle.unique.specs.Unique.{Unique, UniqueIn}
 use Rattle.unique.proofs.Determined.{determined, part-determined}
+use Rattle.unique.proofs.Steps.{by-words}
 
 turn-event-goes-on : Unique turn.Event.goes_on.Kinds.ps turn.Event.goes_on.Kinds.r turn.Event.goes_on.Reads.Learnt
 turn-event-goes-on = determined _ λ _ _ _ p. p
@@ -17,20 +20,20 @@ turn-feeding-called : Unique turn.Feeding.called.Kinds.ps turn.Feeding.called.Ki
 turn-feeding-called = determined _ λ _ _ _ p. p []
 
 feed-feed : Unique feed.feed.Kinds.ps feed.feed.Kinds.r feed.feed.Reads.Learnt
-feed-feed = determined _ λ _ _ _ p i. (p .1 .0 i, record { called = p .0 i; place = p .1 .1 i })
+feed-feed = determined _ λ _ _ _ p. by-words (p .1 .0) (λ i. record { called = p .0 i; place = p .1 .1 i })
 
 feed-init-card : Unique feed.init_card.Kinds.ps feed.init_card.Kinds.r feed.init_card.Reads.Learnt
-feed-init-card = determined _ λ _ _ _ p i. (p .1 i, p .0 i)
+feed-init-card = determined _ λ _ _ _ p. by-words (p .1) (p .0)
 
 feed-read-sd-status : Unique feed.read_sd_status.Kinds.ps feed.read_sd_status.Kinds.r feed.read_sd_status.Reads.Learnt
-feed-read-sd-status = determined _ λ _ _ _ p i. (p .1 i, p .0 i)
+feed-read-sd-status = determined _ λ _ _ _ p. by-words (p .1) (p .0)
 
 feed-read-blocks : Unique feed.read_blocks.Kinds.ps feed.read_blocks.Kinds.r feed.read_blocks.Reads.Learnt
-feed-read-blocks = determined _ λ _ _ _ p i. (p .1 .0 i, (p .1 .1 i, p .0 i))
+feed-read-blocks = determined _ λ _ _ _ p. by-words (p .1 .0) (λ i. (p .1 .1 i, p .0 i))
 
 -- An exception: the call under way after a turn. What came about, what is ahead, the words taken, the rows written, the data
 -- words' place and the list are promised, and not the state.
 turn-feeding-turn : UniqueIn turn.Feeding.turn.Kinds.ps turn.Feeding.turn.Kinds.r turn.Feeding.turn.Reads.Learnt
-    {X = λ _ _. List ℕ → Turned}
-    (λ _ _ x g. turnedOf g (x .0) (x .1 .1 .1 .0))
-turn-feeding-turn = part-determined _ λ _ _ _ p i g. p g i
+    {X = λ _ _. List ℕ → List ℕ × Turned}
+    (λ _ _ x g. (x .1 .1 .1 .0, turnedOf g (x .0) (rowsIn (x .1 .1 .1 .0))))
+turn-feeding-turn = part-determined _ λ _ _ _ p i g. by-words (ap (λ (t : Turned). t .list) (p g)) (p g) i

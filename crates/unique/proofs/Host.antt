@@ -5,6 +5,7 @@ use Rattle.host.proofs.calls
 use Rattle.host.proofs.host
 use Rattle.unique.specs.Unique.{Unique, UniqueIn}
 use Rattle.unique.proofs.Determined.{determined, part-determined}
+use Rattle.unique.proofs.Steps.{by-words}
 
 blocks-fill-blocks : Unique blocks.fill_blocks.Kinds.ps blocks.fill_blocks.Kinds.r blocks.fill_blocks.Reads.Learnt
 blocks-fill-blocks = determined _ λ _ _ _ p i. (p i, tt)
@@ -16,13 +17,13 @@ calls-given-status : Unique calls.given_status.Kinds.ps calls.given_status.Kinds
 calls-given-status = determined _ λ _ _ _ p. p
 
 host-sdmmc-blocking-init-card : Unique host.Sdmmc.blocking_init_card.Kinds.ps host.Sdmmc.blocking_init_card.Kinds.r host.Sdmmc.blocking_init_card.Reads.Learnt
-host-sdmmc-blocking-init-card = determined _ λ _ _ _ p i. (p .1 i, p .0 i)
+host-sdmmc-blocking-init-card = determined _ λ _ _ _ p. by-words (p .1) (p .0)
 
 host-sdmmc-blocking-read-sd-status : Unique host.Sdmmc.blocking_read_sd_status.Kinds.ps host.Sdmmc.blocking_read_sd_status.Kinds.r host.Sdmmc.blocking_read_sd_status.Reads.Learnt
-host-sdmmc-blocking-read-sd-status = determined _ λ _ _ _ p i. (p .1 i, p .0 i)
+host-sdmmc-blocking-read-sd-status = determined _ λ _ _ _ p. by-words (p .1) (p .0)
 
 host-sdmmc-blocking-read-blocks : Unique host.Sdmmc.blocking_read_blocks.Kinds.ps host.Sdmmc.blocking_read_blocks.Kinds.r host.Sdmmc.blocking_read_blocks.Reads.Learnt
-host-sdmmc-blocking-read-blocks = determined _ λ _ _ _ p i. (p .1 .0 i, (p .1 .1 i, p .0 i))
+host-sdmmc-blocking-read-blocks = determined _ λ _ _ _ p. by-words (p .1 .0) (λ i. (p .1 .1 i, p .0 i))
 
 host-fresh-line : Unique host.fresh_line.Kinds.ps host.fresh_line.Kinds.r host.fresh_line.Reads.Learnt
 host-fresh-line = determined _ λ _ _ _ p. p

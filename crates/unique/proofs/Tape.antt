@@ -2,6 +2,7 @@
 use mathlib.Core.List.{[]}
 use mathlib.Core.Path.{ap}
 use Rattle.tape.specs.declared.script.Reading.the-variants.{Status}
+use Rattle.tape.proofs.pairs
 use Rattle.tape.proofs.progress
 use Rattle.tape.proofs.rows
 use Rattle.tape.proofs.script
@@ -43,8 +44,17 @@ progress-give-word = determined _ λ _ _ _ p i. toWord (p [] [] .same i)
 progress-give-flag : Unique progress.give_flag.Kinds.ps progress.give_flag.Kinds.r progress.give_flag.Reads.Learnt
 progress-give-flag = determined _ λ _ _ _ p i. toFlag (p [] [] .same i)
 
+pairs-convert : Unique pairs.convert.Kinds.ps pairs.convert.Kinds.r pairs.convert.Reads.Learnt
+pairs-convert = determined _ λ _ _ _ p i. (p .1 i, p .0 i)
+
+rows-row-of : Unique rows.Row.of.Kinds.ps rows.Row.of.Kinds.r rows.Row.of.Reads.Learnt
+rows-row-of = determined _ λ _ _ _ p. p
+
+rows-row-word : Unique rows.Row.word.Kinds.ps rows.Row.word.Kinds.r rows.Row.word.Reads.Learnt
+rows-row-word = determined _ λ _ _ _ p. p
+
 rows-write-row : Unique rows.write_row.Kinds.ps rows.write_row.Kinds.r rows.write_row.Reads.Learnt
-rows-write-row = determined _ λ _ _ _ p i. listed toProgress (p [] .same i)
+rows-write-row = determined _ λ _ _ _ p. listed toProgress (p [] .same)
 
 rows-with-clken : Unique rows.with_clken.Kinds.ps rows.with_clken.Kinds.r rows.with_clken.Reads.Learnt
 rows-with-clken = determined _ λ _ _ _ p. p
@@ -71,16 +81,16 @@ steps-wait-idle : Unique steps.wait_idle.Kinds.ps steps.wait_idle.Kinds.r steps.
 steps-wait-idle = determined _ λ _ _ _ p i. toProgress (on-any p i)
 
 steps-reset-controller : Unique steps.reset_controller.Kinds.ps steps.reset_controller.Kinds.r steps.reset_controller.Reads.Learnt
-steps-reset-controller = determined _ λ _ _ _ p i. listed toProgress (p [] .same i)
+steps-reset-controller = determined _ λ _ _ _ p. listed toProgress (p [] .same)
 
 steps-stop-data : Unique steps.stop_data.Kinds.ps steps.stop_data.Kinds.r steps.stop_data.Reads.Learnt
-steps-stop-data = determined _ λ _ _ _ p i. listed toProgress (p [] .same i)
+steps-stop-data = determined _ λ _ _ _ p. listed toProgress (p [] .same)
 
 steps-set-clken : Unique steps.set_clken.Kinds.ps steps.set_clken.Kinds.r steps.set_clken.Reads.Learnt
-steps-set-clken = determined _ λ _ _ _ p i. listed toProgress (p [] .same i)
+steps-set-clken = determined _ λ _ _ _ p. listed toProgress (p [] .same)
 
 steps-close : Unique steps.close.Kinds.ps steps.close.Kinds.r steps.close.Reads.Learnt
-steps-close = determined _ λ _ _ _ p i. listed toProgress (p [] .same i)
+steps-close = determined _ λ _ _ _ p. listed toProgress (p [] .same)
 
 steps-hold-gated : Unique steps.hold_gated.Kinds.ps steps.hold_gated.Kinds.r steps.hold_gated.Reads.Learnt
 steps-hold-gated = determined _ λ _ _ _ p i. toProgress (p [] [] .same i)

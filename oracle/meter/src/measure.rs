@@ -55,16 +55,15 @@ pub fn cost(call: Call, script: &[u32], times: usize) -> Cost {
     let short = proved::list(&SETTINGS, &list);
     list.extend(std::iter::repeat_n((call, script), times));
     let long = proved::list(&SETTINGS, &list);
-    let mut rows = vec![0; 2 * seen.rows.len() + 256];
+    let mut rows = vec![0; seen.rows.len() + 128];
     let mut buffer = vec![0; 512 * count];
     let told = proved::calls(&long, &mut rows, &mut buffer);
     assert_eq!((told.answer, told.words, told.rows), (0, script.len(), seen.rows.len()));
-    let pairs: Vec<(u32, u32)> = rows
-        .chunks_exact(2)
-        .map(|row| (row[0], row[1]))
-        .take(told.rows)
+    let told_rows: Vec<(u32, u32)> = rows[..told.rows]
+        .iter()
+        .map(|row| ((row >> 32) as u32, *row as u32))
         .collect();
-    assert_eq!(pairs, seen.rows, "both write the same rows");
+    assert_eq!(told_rows, seen.rows, "both write the same rows");
     assert_eq!(buffer, seen.blocks, "both read the same bytes");
     let (mut step_rows, mut step_buffer) = (vec![0; rows.len()], vec![0; buffer.len()]);
     assert_eq!(proved::steps(&long, &mut step_rows, &mut step_buffer), told);
@@ -126,11 +125,7 @@ pub fn cost(call: Call, script: &[u32], times: usize) -> Cost {
         steps: (step_whole.least - step_start.least) / times as f64,
         floor: floor.least,
     };
-    assert_eq!(
-        lean_rows[..2 * told.rows],
-        rows[..2 * told.rows],
-        "both write the same rows"
-    );
+    assert_eq!(lean_rows[..told.rows], rows[..told.rows], "both write the same rows");
     assert_eq!(step_rows, rows, "one answer at a time writes the same rows");
     assert_eq!(step_buffer, buffer, "one answer at a time reads the same bytes");
     assert!(

@@ -3,13 +3,13 @@
 use oracle_driver::{Call, Settings};
 
 /// A list of calls, each slice as its pointer and its length.
-type Serve = unsafe extern "C" fn(*const u32, usize, *mut u32, usize, *mut u8, usize) -> u64;
+type Serve = unsafe extern "C" fn(*const u32, usize, *mut u64, usize, *mut u8, usize) -> u64;
 
 extern "C" {
     fn boresacu_meter_calls(
         words: *const u32,
         words_len: usize,
-        rows: *mut u32,
+        rows: *mut u64,
         rows_len: usize,
         buffer: *mut u8,
         buffer_len: usize,
@@ -17,7 +17,7 @@ extern "C" {
     fn boresacu_meter_steps(
         words: *const u32,
         words_len: usize,
-        rows: *mut u32,
+        rows: *mut u64,
         rows_len: usize,
         buffer: *mut u8,
         buffer_len: usize,
@@ -34,17 +34,17 @@ pub struct Told {
 }
 
 /// Makes the host of a list and serves its calls, in this row list and buffer; a read fills all of the buffer.
-pub fn calls(list: &[u32], rows: &mut [u32], buffer: &mut [u8]) -> Told {
+pub fn calls(list: &[u32], rows: &mut [u64], buffer: &mut [u8]) -> Told {
     served(boresacu_meter_calls, list, rows, buffer)
 }
 
 /// The same, one answer at a time.
-pub fn steps(list: &[u32], rows: &mut [u32], buffer: &mut [u8]) -> Told {
+pub fn steps(list: &[u32], rows: &mut [u64], buffer: &mut [u8]) -> Told {
     served(boresacu_meter_steps, list, rows, buffer)
 }
 
 #[inline(always)]
-fn served(serve: Serve, list: &[u32], rows: &mut [u32], buffer: &mut [u8]) -> Told {
+fn served(serve: Serve, list: &[u32], rows: &mut [u64], buffer: &mut [u8]) -> Told {
     // SAFETY: each pointer comes with its length, and the last two slices are lent for the call alone.
     let told = unsafe {
         serve(

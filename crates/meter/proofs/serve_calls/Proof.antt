@@ -3,6 +3,7 @@ use mathlib.Core.Path.{_≡_, refl, ap}
 use native.Mathlib.Nat.{sub-zero}
 use native.Mathlib.Omega.{arith}
 use lib.ListN.{length}
+use Rattle.tape.specs.Layout.{rowsIn}
 use Rattle.book.specs.Layout.{contentsOf}
 use Rattle.meter.specs.Metered.{Served, servedFrom}
 use Rattle.meter.proofs.Served.{Serving, next-served, all-served}
@@ -12,8 +13,8 @@ use Rattle.meter.proofs.serve_calls.Tie as tie
 
 abbrev Inv-loop : tie.InvT-loop
 Inv-loop stepped words calls before rows₀ buffer₀ turn₀ k₀ rows buffer turn k =
-    Serving words calls (servedFrom calls words 0 (contentsOf words) (record { host = turn₀ .host; list = rows₀; buffer = buffer₀; told = before })) k (turn .place)
-    (record { host = turn .host; list = rows; buffer = buffer; told = turn .told })
+    Serving words calls (servedFrom calls words 0 (contentsOf words) (record { host = turn₀ .host; list = rowsIn rows₀; buffer = buffer₀; told = before })) k (turn .place)
+    (record { host = turn .host; list = rowsIn rows; buffer = buffer; told = turn .told })
     × ((length rows ≡ length rows₀) × (length buffer ≡ length buffer₀))
 
 abbrev μ-loop : tie.MeasureT-loop

@@ -2,6 +2,7 @@ use mathlib.Core.List.{[]}
 use mathlib.Core.Path.{_≡_, refl, sym, _∙_}
 use native.Mathlib.Omega.{arith}
 use lib.ListN.{length}
+use Rattle.tape.specs.Layout.{rowsIn}
 use Rattle.underway.specs.Under.{under}
 use Rattle.feed.specs.Runs.{nextSpan}
 use Rattle.feed.specs.Turns.{wayOf}
@@ -19,7 +20,7 @@ Inv-loop script rows₀ out₀ feeding₀ page₀ rows out feeding page =
     (length rows ≡ length rows₀)
     × (length out ≡ length out₀)
     × Fits page out
-    × Telling script (wayOf [] feeding₀) rows₀ (leaf (page₀ .at) out₀) feeding rows (leaf (page .at) out)
+    × Telling script (wayOf [] feeding₀) (rowsIn rows₀) (leaf (page₀ .at) out₀) feeding (rowsIn rows) (leaf (page .at) out)
 
 abbrev μ-loop : tie.MeasureT-loop
 μ-loop script rows₀ out₀ feeding₀ page₀ rows out feeding page = nextSpan script (under [] (feeding .call) .ahead) (feeding .used)

@@ -1,4 +1,5 @@
 use mathlib.Core.List.{[]}
+use Rattle.tape.specs.Layout.{rowsIn}
 use Rattle.telling.proofs.ByKind.{as-called, as-told}
 use borrow.Author.Needs.{needs}
 use Rattle.telling.proofs.tell_events.Statement.{statement}
@@ -13,8 +14,8 @@ returns c =
     let said = told .take-turns .ensures in
     let script = part .part .ensures in
     let plan = begun .begin .ensures [] in (
-      as-called (a .host) (a .words .now) (a .rows .now) (a .asked) (a .bytes) script plan (said .0),
-      (said .1 .0, as-told (a .host) (a .words .now) (a .rows .now) (a .asked) (a .bytes) script plan _ (said .1 .1)),
+      as-called (a .host) (a .words .now) (rowsIn (a .rows .now)) (a .asked) (a .bytes) script plan (said .0),
+      (said .1 .0, as-told (a .host) (a .words .now) (rowsIn (a .rows .now)) (a .asked) (a .bytes) script plan _ (said .1 .1)),
     )
 
 pub tell-events-spec : {M : Type 1} → statement M

@@ -1,4 +1,5 @@
 use mathlib.Core.Path.{ap}
+use Rattle.tape.specs.Layout.{rowsIn}
 use Rattle.host.specs.declared.host.Called.{Called}
 use Rattle.telling.proofs.Lines.{still-fits}
 use Rattle.telling.proofs.Books.{call-out}
@@ -24,7 +25,7 @@ returns c =
       ap (λ (x : Called). x .host) (said .0),
       (
         c .behind .ensures,
-        call-out (a .number) (a .host) (a .words .now) (a .asked) (a .bytes) (a .rows .now) (begins .tell-begins .ensures) (said .0) (said .1 .1)
+        call-out (a .number) (a .host) (a .words .now) (a .asked) (a .bytes) (rowsIn (a .rows .now)) (begins .tell-begins .ensures) (said .0) (said .1 .1)
             (ends .tell-end .ensures),
       ),
     )

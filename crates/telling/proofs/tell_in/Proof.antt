@@ -21,4 +21,4 @@ returns c =
     (rw (rows, blocks, asked) at (done .0), (rw asked at (done .1 .0), rw (rows, blocks, asked) at (done .1 .1)))
 
 pub tell-in-spec : {M : Type 1} → statement M
-tell-in-spec = tie.close (tie.spec (λ c κs. search needs) (λ c κs. search needs) (λ c. search needs) (λ c. search needs) (λ c κs. search needs) (λ c. search needs) (λ c. search needs) (λ c. search needs) slice-aggregate-tell-exact (λ c κs. search needs) (λ c. search needs) (λ c. search needs) returns)
+tell-in-spec = tie.close (tie.spec (λ c κs. search needs) (λ c κs. search needs) (λ c. search needs) (λ c κs. search needs) (λ c. search needs) (λ c. search needs) (λ c. search needs) slice-aggregate-tell-exact (λ c κs. search needs) (λ c. search needs) (λ c. search needs) returns)

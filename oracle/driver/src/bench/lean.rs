@@ -11,7 +11,7 @@ struct Lean {
     words: Cell<*const u32>,
     length: Cell<usize>,
     used: Cell<usize>,
-    list: Cell<*mut u32>,
+    list: Cell<*mut u64>,
     room: Cell<usize>,
     rows: Cell<usize>,
     clkcr: Cell<u32>,
@@ -32,13 +32,13 @@ thread_local! {
     };
 }
 
-/// Does something with this script and row list (two words a row) in place of the full bench.
-pub fn during<R>(script: &[u32], list: &mut [u32], act: impl FnOnce() -> R) -> R {
+/// Does something with this script and row list (a row in each word, its register above its value) in place of the full bench.
+pub fn during<R>(script: &[u32], list: &mut [u64], act: impl FnOnce() -> R) -> R {
     LEAN.with(|lean| {
         lean.words.set(script.as_ptr());
         lean.length.set(script.len());
         lean.list.set(list.as_mut_ptr());
-        lean.room.set(list.len() / 2);
+        lean.room.set(list.len());
         lean.on.set(true);
     });
     let result = act();
@@ -89,11 +89,9 @@ pub(super) fn put(register: u32, value: u32) -> Result<(), Stop> {
         if rows >= lean.room.get() {
             return Err(Stop::TraceFull);
         }
-        // SAFETY: the list is lent for as long as the bench is on, and has two words for each row of its room.
-        unsafe {
-            *lean.list.get().add(2 * rows) = register;
-            *lean.list.get().add(2 * rows + 1) = value;
-        }
+        let row = u64::from(register) << 32 | u64::from(value);
+        // SAFETY: the list is lent for as long as the bench is on, and has a word for each row of its room.
+        unsafe { *lean.list.get().add(rows) = row };
         lean.rows.set(rows + 1);
         if register as usize == CLKCR {
             lean.clkcr.set(value);

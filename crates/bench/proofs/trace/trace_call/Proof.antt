@@ -3,6 +3,7 @@ use mathlib.Core.List.{List}
 use mathlib.Core.Path.{ap, subst, _∙_}
 use native.Mathlib.Omega.{arith}
 use Prim.Native.Nat.{ℕ}
+use Rattle.tape.specs.Layout.{rowsIn}
 use Rattle.text.specs.Ink.{Laid}
 use Rattle.calls.specs.Serve as S
 use Rattle.calls.specs.Serve.{comes}
@@ -19,9 +20,9 @@ returns c =
     let ws = args .words .now in
     let k = args .k in
     let place = args .script-at in
-    let rows = 2 * min (args .room) 4096 in
+    let rows = min (args .room) 4096 in
     let bytes = bytesAt ws k place in
-    let list = part-of-zeros rows 8192 (omega arith) in
+    let list = ap rowsIn (part-of-zeros rows 4096 (omega arith)) in
     let buffer = part-of-zeros bytes 8192 (omega arith) in
     let done = c .before .before .before .before .trace-in .ensures in (
       done .0 ∙ ap (λ (x : S.Call). comes (args .host) x .host) (zeros-call ws (askedAt ws k place) rows bytes list buffer),

@@ -24,6 +24,6 @@ returns c =
 pub trace-in-spec : {M : Type 1} → statement M
 trace-in-spec =
     tie.close
-    (tie.spec (λ c κs. search needs) (λ c κs. search needs) (λ c κs. search needs) (λ c. search needs) (λ c. search needs) (λ c κs. search needs)
+    (tie.spec (λ c κs. search needs) (λ c κs. search needs) (λ c κs. search needs) (λ c. search needs) (λ c κs. search needs)
     (λ c. search needs) (λ c. search needs) (λ c. search needs) slice-aggregate-trace-exact (λ c. search needs) slice-aggregate-trace-exact-2
     (λ c κs. search needs) (λ c. search needs) (λ c. search needs) (λ c. search needs) returns)

@@ -6,6 +6,7 @@ use native.Mathlib.Omega.{arith}
 use lib.Dec.{ltb}
 use lib.ListN.{length, getD}
 use borrow.Author.Tests.{lt-ltb, le-ltb, ltb-true, ltb-false}
+use Rattle.tape.specs.declared.rows.Row.{Row}
 use Rattle.tape.specs.declared.progress.Line.{Line}
 use Rattle.tape.specs.declared.progress.Pace.{Pace}
 use Rattle.tape.specs.declared.progress.Pace.the-variants.{Going, Stopped}
@@ -20,7 +21,7 @@ use Rattle.bus.proofs.command.take_words.Statement.{statement}
 use Rattle.bus.proofs.command.take_words.Tie as tie
 
 -- Four words in one go are four words one after the other, also where fewer are left.
-module _ (s : List ℕ) (u n : ℕ) (h : Line) (l : List ℕ) where
+module _ (s : List ℕ) (u n : ℕ) (h : Line) (l : List Row) where
   four : List ℕ
   four = getD s u 0 ∷ getD s (u + 1) 0 ∷ getD s (u + 1 + 1) 0 ∷ getD s (u + 1 + 1 + 1) 0 ∷ []
 
@@ -53,7 +54,7 @@ module _ {m u : ℕ} {rest s : List ℕ} (part : Behind m rest s) (after : m ≤
       by true e = let below = ltb-true (u + 3) (length s) e in lt-ltb (u - m + 3) (length rest) (omega (arith, below, long part, after))
       by false e = let over = ltb-false (u + 3) (length s) e in le-ltb (u - m + 3) (length rest) (omega (arith, over, long part, after))
 
-  four-placed : (k n : ℕ) (h : Line) (l : List ℕ) → k ≡ u - m
+  four-placed : (k n : ℕ) (h : Line) (l : List Row) → k ≡ u - m
       → cond (ltb (k + 3) (length rest)) (getD rest k 0 ∷ getD rest (k + 1) 0 ∷ getD rest (k + 2) 0 ∷ getD rest (k + 3) 0 ∷ []) zeros
       ≡ cond (ltb (u + 1 + 1 + 1) (length s)) (four s u n h l) zeros
   unfolding four
@@ -63,7 +64,7 @@ module _ {m u : ℕ} {rest s : List ℕ} (part : Behind m rest s) (after : m ≤
       rw (e, there, sym (at-used part after), placed 1, placed 2, placed 3, three, two)
 
 -- what was taken, and what is given of it
-joined : {s l : List ℕ} {p q r : Progress} {words taken v : List ℕ}
+joined : {s : List ℕ} {l : List Row} {p q r : Progress} {words taken v : List ℕ}
     → words ≡ cond (ltb (p .used + 1 + 1 + 1) (length s)) (four s (p .used) (p .rows) (p .line) l) zeros
     → Gave s (List ℕ) [] (dataWords 4) (at p l) taken (at q l) → Gave s (List ℕ) zeros (give words) (at q l) v (at r l)
     → Gave s (List ℕ) zeros responseWords (at p l) v (at r l)

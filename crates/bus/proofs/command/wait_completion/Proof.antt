@@ -8,6 +8,7 @@ use lib.ListN.{length, getD}
 use borrow.Author.Tests.{ltb-true}
 use Rattle.types.specs.declared.error.Error.the-variants as E
 use Rattle.types.specs.Bits.{clear}
+use Rattle.tape.specs.declared.rows.Row.{Row}
 use Rattle.tape.specs.declared.progress.Pace.{Pace}
 use Rattle.tape.specs.declared.progress.Pace.the-variants.{Going, Stopped}
 use Rattle.tape.specs.declared.progress.Progress.{Progress}
@@ -34,14 +35,14 @@ second-of true b e = e
 second-of false b e = cc
 
 -- one status word that is there and shows no lateness
-polls : {s l : List ℕ} (p : Progress) (i : ℕ) → p .pace ≡ Going → p .used + i < length s → clear 0x4 (getD s (p .used + i) 0) ≡ true
+polls : {s : List ℕ} {l : List Row} (p : Progress) (i : ℕ) → p .pace ≡ Going → p .used + i < length s → clear 0x4 (getD s (p .used + i) 0) ≡ true
     → Gave s ℕ 0 pollCompletion (at (on p i) l) (getD s (p .used + i) 0) (at (on p (i + 1)) l)
 unfolding pollCompletion ensure handle run
 polls {s} {l} p i going there intime =
     bind (λ w. ensure (clear 0x4 w) E.Timeout then λ _. give w) (reads Reading.Status p i going there) (from-going going (rw (intime, going)))
 
 -- a status word that is late or completes, or is not there, ends the wait
-poll-over : (mask : ℕ) {s l : List ℕ} {q : Progress} {v : ℕ} {w : State} → q .pace ≡ Going
+poll-over : (mask : ℕ) {s : List ℕ} {l : List Row} {q : Progress} {v : ℕ} {w : State} → q .pace ≡ Going
     → (q .used < length s → (clear mask (getD s (q .used) 0) && clear 0x4 (getD s (q .used) 0)) ≡ false) → Gave s ℕ 0 pollCompletion (at q l) v w
     → overAt (w .progress .pace) (not (clear mask v)) ≡ true
 unfolding doesAt run handle word ensure pollCompletion overAt
@@ -66,7 +67,7 @@ waiting mask limit left = leading limit (λ w. clear mask w && clear 0x4 w) left
 -- from a call that is going, after the polls that found nothing done and nothing wrong
 module _ (mask limit : ℕ) {left s : List ℕ} {p q : Progress} {n : ℕ} (going : p .pace ≡ Going)
     (part : Behind (p .used) left s) (counted : n ≡ waiting mask limit left) (moved : q ≡ on p n) where
-  turns : {l : List ℕ} → Turned s ℕ 0 pollCompletion (λ w. not (clear mask w)) limit n (at p l) (at q l)
+  turns : {l : List Row} → Turned s ℕ 0 pollCompletion (λ w. not (clear mask w)) limit n (at p l) (at q l)
   turns =
       let most = leads-within (λ w. clear mask w && clear 0x4 w) limit left in
       rw (moved, counted)
@@ -81,11 +82,11 @@ module _ (mask limit : ℕ) {left s : List ℕ} {p q : Progress} {n : ℕ} (goin
       let first = leads-to (λ w. clear mask w && clear 0x4 w) limit left (omega (arith, counted, more, out-of-place part n (rw moved at there))) in
       rw (moved, at-place part n) (rw (← counted) at first)
 
-  found : {l : List ℕ} {v : ℕ} {r : Progress} → n < limit → Gave s ℕ 0 pollCompletion (at q l) v (at r l)
+  found : {l : List Row} {v : ℕ} {r : Progress} → n < limit → Gave s ℕ 0 pollCompletion (at q l) v (at r l)
       → Gave s ℕ 0 (until limit (λ w. not (clear mask w)) pollCompletion) (at p l) v (at r l)
   found more e = last-turn turns more e (poll-over mask (rw moved going) (ends more) e)
 
-  spent : {l : List ℕ} {r : Progress} → limit ≤ n → Did s (fail E.SoftwareTimeout) (at q l) (at r l)
+  spent : {l : List Row} {r : Progress} → limit ≤ n → Did s (fail E.SoftwareTimeout) (at q l) (at r l)
       → Gave s ℕ 0 (until limit (λ w. not (clear mask w)) pollCompletion) (at p l) 0 (at r l)
   spent out e = out-of-turns turns out (refusal e)
 

@@ -3,6 +3,7 @@ use mathlib.Core.Path.{sym, _∙_}
 use mathlib.Core.Bool.{Bool, false}
 use Prim.Native.Nat.{ℕ, _-_}
 use native.Mathlib.Omega.{arith}
+use Rattle.tape.specs.declared.rows.Row.{Row}
 use Rattle.bus.specs.Transfer.{dataComplete, waitData}
 use Rattle.tape.specs.Run.{at, Behind}
 use Rattle.tape.proofs.Behind.{further, long}
@@ -14,7 +15,7 @@ use Rattle.bus.proofs.poll.wait_data.Tie as tie
 
 abbrev Inv-loop : tie.InvT-loop
 Inv-loop rest limit start q₀ i₀ q i =
-    (s l : List ℕ) → Behind start rest s → Turned s Bool false dataComplete (λ done. done) limit i (at q₀ l) (at q l)
+    (s : List ℕ) (l : List Row) → Behind start rest s → Turned s Bool false dataComplete (λ done. done) limit i (at q₀ l) (at q l)
 
 abbrev μ-loop : tie.MeasureT-loop
 μ-loop rest limit start q₀ i₀ q i = limit - i

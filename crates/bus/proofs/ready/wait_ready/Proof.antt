@@ -9,6 +9,7 @@ use Rattle.bus.specs.Ready.{tryReady, waitReady}
 use Rattle.tape.specs.Run.{at}
 use Rattle.tape.proofs.Laws.{refusal, forget, not-over, still-going}
 use Rattle.tape.proofs.Loops.{Turned, no-turn, next-turn, last-turn, out-of-turns}
+use Rattle.tape.specs.Layout.{rowsIn}
 use borrow.Author.Needs.{needs}
 use Rattle.bus.proofs.ready.wait_ready.Statement.{statement}
 use Rattle.bus.proofs.ready.wait_ready.Tie as tie
@@ -16,7 +17,7 @@ use Rattle.bus.proofs.ready.wait_ready.Tie as tie
 -- after i attempts of the loop that began at p with these rows
 record Tried (script : List ℕ) (source limit rca attempts i : ℕ) (rows₀ rows : List ℕ) (p q : Progress) : Type 0 where
   room : length rows ≡ length rows₀
-  turned : Turned script Bool false (tryReady source limit rca) (λ ready. ready) attempts i (at p rows₀) (at q rows)
+  turned : Turned script Bool false (tryReady source limit rca) (λ ready. ready) attempts i (at p (rowsIn rows₀)) (at q (rowsIn rows))
 
 abbrev Inv-loop : tie.InvT-loop
 Inv-loop script rows₀ source rca attempts limit q₀ i₀ rows q i = Tried script (source .0) limit rca attempts i rows₀ rows q₀ q

@@ -1,6 +1,8 @@
 use mathlib.Core.List.{[]}
+use mathlib.Core.Path.{sym, _∙_}
 use Rattle.bus.specs.Transfer.{arm}
 use Rattle.tape.proofs.Laws.{seq}
+use Rattle.tape.proofs.Layouts.{rows-long}
 use Rattle.tape.proofs.Room.{keeps}
 use borrow.Author.Needs.{needs}
 use Rattle.bus.proofs.transfer.arm.Statement.{statement}
@@ -21,7 +23,7 @@ returns c =
     (seq (dlen .write-row3 .ensures s) (rw (dctrl2 .before .before .before .dctrl .ensures) at (dctrl .write-row4 .ensures s)))))
 
 same-length : tie.Need-same-length
-same-length c = keeps (returns c []) .long
+same-length c = sym (rows-long _) ∙ keeps (returns c []) .long ∙ rows-long _
 
 pub arm-spec : {M : Type 1} → statement M
 arm-spec =

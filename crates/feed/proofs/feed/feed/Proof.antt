@@ -1,7 +1,10 @@
 use denote.Ref.{now}
-use mathlib.Core.Path.{ap, sym, _∙_}
+use mathlib.Core.Path.{_≡_, ap, sym, _∙_}
+use lib.ListN.{length}
 use mathlib.Core.List.{[]}
 use borrow.Author.Needs.{needs}
+use Rattle.tape.specs.Layout.{rowsIn}
+use Rattle.tape.proofs.Layouts.{rows-long}
 use Rattle.host.specs.Calls.{calledOf}
 use Rattle.underway.specs.Under.{under}
 use Rattle.feed.specs.Runs.{nextSpan}
@@ -13,7 +16,7 @@ use Rattle.feed.proofs.feed.feed.Statement.{statement}
 use Rattle.feed.proofs.feed.feed.Tie as tie
 
 abbrev Inv-loop : tie.InvT-loop
-Inv-loop script rows₀ feeding₀ rows feeding = F.On script (wayOf [] feeding₀) rows₀ feeding rows
+Inv-loop script rows₀ feeding₀ rows feeding = F.On script (wayOf [] feeding₀) (rowsIn rows₀) feeding (rowsIn rows)
 
 abbrev μ-loop : tie.MeasureT-loop
 μ-loop script rows₀ feeding₀ rows feeding = nextSpan script (under [] (feeding .call) .ahead) (feeding .used)
@@ -28,15 +31,15 @@ returns c =
     let loop = there .before .before .before .before .before .loop in
     let begin = there .before .before .before .before .before .before .begin in
     let s = there .before .before .before .before .before .before .before .before .before .args .script in
-    let l = there .before .before .before .before .before .before .before .before .before .args .rows in
+    let l = rowsIn (now (there .before .before .before .before .before .before .before .before .before .args .rows)) in
     let none = F.turned-false _ (c .before .if1 .taken) in
     let x =
     F.ends-there _ (loop .inv) (turn .result) _ (turn .ensures) (sym (c .before .before .goes-on .ensures) ∙ none) _
     (λ g. ap (λ (r : Fed). r .called) (c .ended .ensures g)) in (
-      x .0 ∙ ap (λ (f : Feeding). calledOf (fedFrom (now s) (wayOf [] f) (now l))) (begin .ensures),
+      x .0 ∙ ap (λ (f : Feeding). calledOf (fedFrom (now s) (wayOf [] f) l)) (begin .ensures),
       (
-        x .1 ∙ ap (λ (f : Feeding). fedFrom (now s) (wayOf [] f) (now l) .list) (begin .ensures),
-        ap (λ (r : Fed). r .place) (c .ended .ensures []) ∙ x .2 ∙ ap (λ (f : Feeding). placeFrom (now s) (wayOf [] f) (now l)) (begin .ensures),
+        x .1 ∙ ap (λ (f : Feeding). fedFrom (now s) (wayOf [] f) l .list) (begin .ensures),
+        ap (λ (r : Fed). r .place) (c .ended .ensures []) ∙ x .2 ∙ ap (λ (f : Feeding). placeFrom (now s) (wayOf [] f) l) (begin .ensures),
       ),
     )
 
@@ -54,6 +57,13 @@ loop-again c =
     let loop = there .before .before .before .before .before .loop in
     F.goes-on _ (loop .inv) (turn .result) _ (turn .ensures) (sym (c .before .goes-on .ensures) ∙ F.turned-true _ (c .if1 .left))
 
+same-length : tie.Need-same-length Inv-loop μ-loop
+same-length c =
+    let loop = c .before .before .before .before .before .before .before .before .loop in
+    let long : length (loop .rows) ≡ length (now (c .before .before .before .before .before .before .before .before .before .before .before .before .args .rows)) =
+    sym (rows-long _) ∙ loop .inv .long ∙ rows-long _ in
+    search (needs, long)
+
 pub feed-spec : {M : Type 1} → statement M
 feed-spec =
     tie.close
@@ -65,7 +75,7 @@ feed-spec =
     (λ c κs. search needs)
     (λ c κs. search needs)
     (λ c κs. search needs)
-    (λ c. search needs)
+    same-length
     returns
     loop-less
     loop-again)

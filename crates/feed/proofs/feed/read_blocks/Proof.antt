@@ -2,6 +2,7 @@ use mathlib.Core.Path.{ap, sym, _∙_}
 use mathlib.Core.List.{List, []}
 use Prim.Native.Nat.{ℕ}
 use lib.ListN.{length, take, drop}
+use Rattle.tape.specs.Layout.{rowsIn}
 use Rattle.host.specs.Calls.{Came, calledOf, blocksFilled, readCame}
 use Rattle.host.specs.declared.host.Called.{Called}
 use Rattle.feed.specs.Runs.{countOf}
@@ -15,14 +16,19 @@ use Rattle.feed.proofs.feed.read_blocks.Tie as tie
 
 returns : tie.Need-returns
 returns c =
-    let whole = F.fed-whole _ _ _ _ _ (c .before .before .before .before .before .before .before .before .before .before .before .read-blocks .ensures []) ∙ sym (read-call _ _ _ _ _) in
-    let place = c .before .before .before .before .before .before .before .before .before .feed .ensures .1 .1 ∙ F.place-whole _ _ _ _ _ (c .before .before .before .before .before .before .before .before .before .before .before .read-blocks .ensures []) in
-    let told = c .before .before .before .before .before .before .before .before .before .feed .ensures .0 ∙ ap calledOf whole in
-    let count = c .before .before .before .before .before .count .ensures ∙ ap (λ (x : Called). countOf (x .answer) (length (now (c .before .before .before .before .before .before .before .before .before .before .before .before .before .before .before .args .buffer)))) told in
-    let words = c .before .before .before .before .part .ensures ∙ ap (λ (n : ℕ). take n (drop (c .before .before .before .before .before .before .before .before .before .feed .result .place) (now (c .before .before .before .before .before .before .before .before .before .before .before .before .before .before .before .args .script)))) count
-    ∙ ap (λ (n : ℕ). take (countOf (readCame (c .before .before .before .before .before .before .before .before .before .before .before .before .before .before .before .args .host) (c .before .before .before .before .before .before .before .before .before .before .before .before .before .before .before .args .index) (length (now (c .before .before .before .before .before .before .before .before .before .before .before .before .before .before .before .args .buffer))) (now (c .before .before .before .before .before .before .before .before .before .before .before .before .before .before .before .args .script)) (now (c .before .before .before .before .before .before .before .before .before .before .before .before .before .before .before .args .rows)) .answer) (length (now (c .before .before .before .before .before .before .before .before .before .before .before .before .before .before .before .args .buffer)))) (drop n (now (c .before .before .before .before .before .before .before .before .before .before .before .before .before .before .before .args .script)))) place
-    ∙ sym (read-took _ _ _ _ _) in
-    (told, (c .before .before .before .before .before .before .before .before .before .feed .ensures .1 .0 ∙ ap (λ (x : Came). x .list) whole, c .before .before .fill-blocks .ensures ∙ ap (λ (ws : List ℕ). blocksFilled ws (now (c .before .before .before .before .before .before .before .before .before .before .before .before .before .before .before .args .buffer))) words))
+    let fed = c .before .before .before .before .before .before .before .before .before in
+    let begun = fed .before .before in
+    let a = begun .before .before .before .before .args in
+    let s = now (a .script) in
+    let buffer = now (a .buffer) in
+    let came = readCame (a .host) (a .index) (length buffer) s (rowsIn (now (a .rows))) in
+    let whole = F.fed-whole _ _ _ _ _ (begun .read-blocks .ensures []) ∙ sym (read-call _ _ _ _ _) in
+    let place = fed .feed .ensures .1 .1 ∙ F.place-whole _ _ _ _ _ (begun .read-blocks .ensures []) in
+    let told = fed .feed .ensures .0 ∙ ap calledOf whole in
+    let count = c .before .before .before .before .before .count .ensures ∙ ap (λ (x : Called). countOf (x .answer) (length buffer)) told in
+    let words = c .before .before .before .before .part .ensures ∙ ap (λ (n : ℕ). take n (drop (fed .feed .result .place) s)) count
+    ∙ ap (λ (n : ℕ). take (countOf (came .answer) (length buffer)) (drop n s)) place ∙ sym (read-took _ _ _ _ _) in
+    (told, (fed .feed .ensures .1 .0 ∙ ap (λ (x : Came). x .list) whole, c .before .before .fill-blocks .ensures ∙ ap (λ (ws : List ℕ). blocksFilled ws buffer) words))
 
 pub read-blocks-spec : {M : Type 1} → statement M
 read-blocks-spec =

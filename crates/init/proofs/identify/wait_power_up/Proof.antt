@@ -10,6 +10,7 @@ use Rattle.tape.specs.Run.{at}
 use Rattle.init.specs.Initialise.{poweredUp, tryPowerUp, waitPowerUp}
 use Rattle.tape.proofs.Laws.{refusal}
 use Rattle.tape.proofs.Loops.{Turned, no-turn, next-turn, last-turn, out-of-turns}
+use Rattle.tape.specs.Layout.{rowsIn}
 use borrow.Author.Needs.{needs}
 use Rattle.init.proofs.identify.wait_power_up.Statement.{statement}
 use Rattle.init.proofs.identify.wait_power_up.Tie as tie
@@ -17,7 +18,7 @@ use Rattle.init.proofs.identify.wait_power_up.Tie as tie
 -- after i attempts of the loop that began at p with these rows
 record Tried (script : List ℕ) (set : Settings) (version2 : Bool) (attempts i : ℕ) (rows₀ rows : List ℕ) (p q : Progress) : Type 0 where
   room : length rows ≡ length rows₀
-  turned : Turned script ℕ 0 (tryPowerUp set version2) poweredUp attempts i (at p rows₀) (at q rows)
+  turned : Turned script ℕ 0 (tryPowerUp set version2) poweredUp attempts i (at p (rowsIn rows₀)) (at q (rowsIn rows))
 
 abbrev Inv-loop : tie.InvT-loop
 Inv-loop script rows₀ settings version2 attempts q₀ i₀ rows q i = Tried script settings version2 attempts i rows₀ rows q₀ q

@@ -2,6 +2,7 @@ use mathlib.Core.Path.{ap, _∙_}
 use Rattle.init.proofs.Sixteen.{switched-sixteen}
 use Rattle.init.specs.Initialise.{switched, takeSwitch}
 use Rattle.tape.proofs.Laws.{seq, bind, looking}
+use Rattle.tape.specs.Layout.{rowsIn}
 use borrow.Author.Needs.{needs}
 use Rattle.init.proofs.speed.take_switch.Statement.{statement}
 use Rattle.init.proofs.speed.take_switch.Tie as tie
@@ -16,7 +17,7 @@ returns c =
     let start = c .before .before .before .before .before .before .before .before .before .before .before .before .before .before .before .before .before .before .before .before .before .before in
     let taken = c .before .before .before .before .before .before .before .before .before .before .before .before .took .ensures ∙ ap switched (c .before .before .before .before .before .before .before .before .before .before .before .before .before .sixteen .ensures) ∙ switched-sixteen _ in
     bind _ (read .blocking-data .ensures .0)
-    (seq (rw taken at (c .before .before .before .before .before .before .before .before .before .before .before .ensure .ensures (start .args .script .now) (read .blocking-data .last .1 .1 .0)))
+    (seq (rw taken at (c .before .before .before .before .before .before .before .before .before .before .before .ensure .ensures (start .args .script .now) (rowsIn (read .blocking-data .last .1 .1 .0))))
     (seq (looking _ (c .before .before .before .before .before .before .before .before .clock-delay .ensures _))
     (seq (rw (c .before .before .before .before .before .lesser .ensures) at (c .before .before .before .set-clock .ensures)) (c .hold-signalling .ensures _ _))))
 

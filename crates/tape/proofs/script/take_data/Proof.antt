@@ -12,6 +12,7 @@ use borrow.Author.Tests.{le-ltb, lt-ltb}
 use Rattle.tape.specs.declared.progress.Halt.the-variants.{ScriptEnded}
 use Rattle.tape.specs.declared.progress.Line.{Line}
 use Rattle.tape.specs.declared.progress.Pace.the-variants.{Going, Stopped}
+use Rattle.tape.specs.declared.rows.Row.{Row}
 use Rattle.tape.specs.Plan.{give, refuse, handle}
 use Rattle.tape.specs.Run.{After, after, keptAt, next, nextAt, run}
 use Rattle.tape.specs.Steps.{word, dataFrom}
@@ -23,13 +24,13 @@ use Rattle.tape.proofs.script.take_data.Tie as tie
 
 -- n words one after the other, from a call that has taken u
 module _ (s : List ℕ) where
-  module _ (k n u m : ℕ) (h : Line) (l : List ℕ) (some : u < length s) where
+  module _ (k n u m : ℕ) (h : Line) (l : List Row) (some : u < length s) where
     one : run s [] (dataFrom k (suc n)) u m h l
         ≡ next s [] (λ ws. give (getD s u 0 ∷ ws)) refuse (run s [] (dataFrom (k + 1) n) (u + 1) m h l .value) (run s [] (dataFrom (k + 1) n) (u + 1) m h l .state)
     unfolding dataFrom handle run word
     one = rw (lt-ltb u (length s) some) (run-handle s [] [] (λ ws. give (getD s u 0 ∷ ws)) refuse (dataFrom (k + 1) n) (u + 1) m h l)
 
-  there : (k n u m : ℕ) (h : Line) (l : List ℕ) → n ≤ length s - u
+  there : (k n u m : ℕ) (h : Line) (l : List Row) → n ≤ length s - u
       → run s [] (dataFrom k n) u m h l ≡ after (take n (drop u s)) Going (u + n) m h l
   unfolding dataFrom run nextAt
   there k zero u m h l e = rw add-zero
@@ -40,7 +41,7 @@ module _ (s : List ℕ) where
       ∙ ap (λ (x : After (List ℕ)). next s [] (λ ws. give (getD s u 0 ∷ ws)) refuse (x .value) (x .state)) (there (k + 1) n (u + 1) m h l (omega arith))
       ∙ rw (sum, drop-cons s u 0 some, add-one)
 
-  ended : (k n u m : ℕ) (h : Line) (l : List ℕ) → length s - u < n
+  ended : (k n u m : ℕ) (h : Line) (l : List Row) → length s - u < n
       → run s [] (dataFrom k n) u m h l ≡ after [] (Stopped ScriptEnded) (u + (length s - u)) m h l
   unfolding dataFrom handle run nextAt word
   ended k zero u m h l e = absurd (omega arith)

@@ -1,7 +1,9 @@
 use Rattle.tape.specs.Steps.{resetController}
 use Rattle.tape.proofs.Laws.{seq}
+use Rattle.tape.proofs.Layouts.{rows-long}
 use Rattle.tape.proofs.Room.{keeps}
 use mathlib.Core.List.{[]}
+use mathlib.Core.Path.{sym, _∙_}
 use borrow.Author.Needs.{needs}
 use Rattle.tape.proofs.steps.reset_controller.Statement.{statement}
 use Rattle.tape.proofs.steps.reset_controller.Tie as tie
@@ -30,7 +32,7 @@ returns c =
     (seq (dtimer .write-row8 .ensures s) (seq (dlen .write-row9 .ensures s) (icr .write-row10 .ensures s)))))))))
 
 same-length : tie.Need-same-length
-same-length c = keeps (returns c []) .long
+same-length c = sym (rows-long _) ∙ keeps (returns c []) .long ∙ rows-long _
 
 pub reset-controller-spec : {M : Type 1} → statement M
 reset-controller-spec =

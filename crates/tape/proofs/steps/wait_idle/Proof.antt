@@ -8,6 +8,7 @@ use Rattle.types.specs.Bits.{clear}
 use Rattle.types.specs.declared.error.Error.the-variants.{SoftwareTimeout}
 use Rattle.tape.specs.declared.progress.Pace.the-variants.{Going}
 use Rattle.tape.specs.declared.progress.Progress.{Progress}
+use Rattle.tape.specs.declared.rows.Row.{Row}
 use Rattle.tape.specs.declared.script.Reading.the-variants.{Status}
 use Rattle.tape.specs.Plan.{fail}
 use Rattle.tape.specs.Run.{at, Behind, Did, Gave}
@@ -36,7 +37,7 @@ busy «data» limit rest = leading limit (λ w. not (clear (idleMask «data») w
 -- from a call that is going, after the polls that found the controller busy
 module _ («data» : Bool) (limit : ℕ) {rest s : List ℕ} {p q : Progress} {n : ℕ} (going : p .pace ≡ Going)
     (part : Behind (p .used) rest s) (counted : n ≡ busy «data» limit rest) (moved : q ≡ on p n) where
-  turns : {l : List ℕ} → Turned s ℕ 0 (word Status) (clear (idleMask «data»)) limit n (at p l) (at q l)
+  turns : {l : List Row} → Turned s ℕ 0 (word Status) (clear (idleMask «data»)) limit n (at p l) (at q l)
   turns = rw (moved, counted) (read-turns Status (λ w. not (clear (idleMask «data») w)) (clear (idleMask «data»)) limit going part (λ w e. away _ e))
 
   -- the next word finds it idle
@@ -45,11 +46,11 @@ module _ («data» : Bool) (limit : ℕ) {rest s : List ℕ} {p q : Progress} {n
       let first = leads-to (λ w. not (clear (idleMask «data») w)) limit rest (omega (arith, counted, more, out-of-place part n (rw moved at there))) in
       rw (moved, at-place part n) (home _ (rw (← counted) at first))
 
-  found : {v : ℕ} {l : List ℕ} {r : Progress} → n < limit → Gave s ℕ 0 (word Status) (at q l) v (at r l) → Did s (waitIdle limit «data») (at p l) (at r l)
+  found : {v : ℕ} {l : List Row} {r : Progress} → n < limit → Gave s ℕ 0 (word Status) (at q l) v (at r l) → Did s (waitIdle limit «data») (at p l) (at r l)
   unfolding waitIdle
   found more e = forget (last-turn turns more e (read-over Status (clear (idleMask «data»)) (rw moved going) (idle more) e))
 
-  spent : {l : List ℕ} {r : Progress} → limit ≤ n → Did s (fail SoftwareTimeout) (at q l) (at r l) → Did s (waitIdle limit «data») (at p l) (at r l)
+  spent : {l : List Row} {r : Progress} → limit ≤ n → Did s (fail SoftwareTimeout) (at q l) (at r l) → Did s (waitIdle limit «data») (at p l) (at r l)
   unfolding waitIdle
   spent out e = forget (out-of-turns turns out (refusal e))
 

@@ -1,4 +1,5 @@
 use mathlib.Core.Path.{refl, sym, _∙_}
+use Rattle.tape.specs.Layout.{rowsIn}
 use Rattle.feed.specs.Turns.{wayOf, turnBy, handedAt}
 use denote.Ref.{now}
 use Rattle.feed.proofs.Fed as F
@@ -15,7 +16,9 @@ returns-2 c = λ g. let asked = sym (c .before .before .before .before .before .
 
 returns-3 : tie.Need-returns-3
 unfolding turnBy handedAt
-returns-3 c = λ g. F.as-wanted (now (c .before .before .before .before .before .before .args .script)) (wayOf g (c .before .before .before .before .before .before .args .self)) (now (c .before .before .before .before .before .before .args .rows)) W.Nothing _ (sym (c .enum-told .given .1) ∙ c .before .before .wants .ensures g) refl
+returns-3 c =
+    let a = c .before .before .before .before .before .before .args in
+    λ g. F.as-wanted (now (a .script)) (wayOf g (a .self)) (rowsIn (now (a .rows))) W.Nothing _ (sym (c .enum-told .given .1) ∙ c .before .before .wants .ensures g) refl
 
 pub turn-spec : {M : Type 1} → statement M
 turn-spec =

@@ -4,6 +4,7 @@ use Prim.Native.Nat.{ℕ}
 use lib.ListN.{take, drop}
 use Rattle.tape.specs.Run.{at}
 use Rattle.tape.proofs.Laws.{kept}
+use Rattle.tape.specs.Layout.{rowsIn}
 use Rattle.host.specs.Calls.{Came, calledOf, readPlan, readNext, blocksFilled}
 use Rattle.host.proofs.Ran.{data-done, data-told, ends-taken, none-accepted, none-refused}
 use borrow.Author.Needs.{needs}
@@ -24,7 +25,7 @@ returns c =
     let read = part .before .before .before in
     let start = read .before .before .before .before .before .before .before .before .before in
     let host = start .args .self in
-    let left = at (read .blocking-data .result .progress) (read .blocking-data .last .1 .1 .0) in
+    let left = at (read .blocking-data .result .progress) (rowsIn (read .blocking-data .last .1 .1 .0)) in
     let ws = take (read .blocking-data .result .count) (drop (read .blocking-data .result .place) (start .args .script .now)) in
     let gave = rw (read .before .before .read-transfer .ensures) at (read .blocking-data .ensures .0) in
     let words : part .part .result .now ≡ ws = part .part .ensures in
@@ -39,7 +40,7 @@ returns-2 c =
     let read = part .before .before .before in
     let start = read .before .before .before .before .before .before .before .before .before in
     let host = start .args .self in
-    let left = at (read .blocking-data .result .progress) (read .blocking-data .last .1 .1 .0) in
+    let left = at (read .blocking-data .result .progress) (rowsIn (read .blocking-data .last .1 .1 .0)) in
     let ws = take (read .blocking-data .result .count) (drop (read .blocking-data .result .place) (start .args .script .now)) in
     let gave = rw (read .before .before .read-transfer .ensures) at (read .blocking-data .ensures .0) in
     let words : part .part .result .now ≡ ws = part .part .ensures in

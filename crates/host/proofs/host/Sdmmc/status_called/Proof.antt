@@ -1,5 +1,6 @@
 use Rattle.types.specs.declared.error.Error.the-variants.{NoCard}
 use mathlib.Core.Path.{ap, _∙_}
+use Rattle.tape.specs.Layout.{rowsIn}
 use Rattle.host.specs.Calls.{Came, calledOf, untouched, statusFrom, statusCame}
 use Rattle.host.proofs.Ran.{if-true, if-false}
 use borrow.Author.Needs.{needs}
@@ -10,7 +11,7 @@ returns : tie.Need-returns
 unfolding statusCame
 returns c =
     let start = c .before .before .before .before .before .before .before in
-    let known = if-true (untouched (start .args .self) NoCard (start .args .rows .now)) (c .before .before .before .before .if1 .taken) in
+    let known = if-true (untouched (start .args .self) NoCard (rowsIn (start .args .rows .now))) (c .before .before .before .before .if1 .taken) in
     (c .before .before .status-from .ensures .0 ∙ ap calledOf known, c .before .before .status-from .ensures .1 ∙ ap (λ (x : Came). x .list) known)
 
 returns-2 : tie.Need-returns-2
@@ -18,7 +19,7 @@ unfolding statusCame
 returns-2 c =
     let start = c .before .before .before .before in
     let host = start .args .self in
-    let l = start .args .rows .now in
+    let l = rowsIn (start .args .rows .now) in
     let none = if-false (statusFrom host (start .args .script .now) l) {y = untouched host NoCard l} (c .before .if1 .left) in
     (c .untouched .ensures l ∙ ap calledOf none, ap (λ (x : Came). x .list) none)
 

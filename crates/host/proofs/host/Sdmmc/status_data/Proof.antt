@@ -3,6 +3,7 @@ use mathlib.Core.Path.{_≡_, refl, ap, _∙_}
 use Prim.Native.Nat.{ℕ}
 use lib.ListN.{take, drop}
 use Rattle.types.specs.Words.{counted, sdStatusOf}
+use Rattle.tape.specs.Layout.{rowsIn}
 use Rattle.tape.specs.Run.{at}
 use Rattle.init.specs.Lent.{sixteenOf}
 use Rattle.host.specs.Calls.{calledOf, statusPlan, statusNext}
@@ -24,7 +25,7 @@ returns c =
     let read = c .before .before .before .before .before .before .before in
     let start = read .before .before .before .before .before .before .before in
     let host = start .args .self in
-    let left = at (read .blocking-data .result .progress) (read .blocking-data .last .1 .1 .0) in
+    let left = at (read .blocking-data .result .progress) (rowsIn (read .blocking-data .last .1 .1 .0)) in
     let ws = take (read .blocking-data .result .count) (drop (read .blocking-data .result .place) (start .args .script .now)) in
     data-told host (statusPlan host) (statusNext host) _ (start .pre) (read .blocking-data .ensures .0)
     (c .ends-without .ensures ws (left .list) ∙ ap calledOf (none-accepted host _ _ _ ws _ _ left (c .before .enum-told2 .given .1)))
@@ -35,7 +36,7 @@ returns-2 c =
     let read = sixteen .before .before .before .before .before .before .before in
     let start = read .before .before .before .before .before .before .before in
     let host = start .args .self in
-    let left = at (read .blocking-data .result .progress) (read .blocking-data .last .1 .1 .0) in
+    let left = at (read .blocking-data .result .progress) (rowsIn (read .blocking-data .last .1 .1 .0)) in
     let ws = take (read .blocking-data .result .count) (drop (read .blocking-data .result .place) (start .args .script .now)) in
     let words : sixteen .sixteen .result ≡ sixteenOf ws = sixteen .sixteen .ensures in
     let status = c .before .before .before .sd-status .ensures ∙ ap sdStatusOf words ∙ status-sixteen ws in
