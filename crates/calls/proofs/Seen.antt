@@ -1,6 +1,6 @@
 -- 'A call whose data phase had begun', as a caller can see it: a refused read or status call, one whose script ended among them, had
 -- begun its data phase exactly if the last rows that it wrote are the reset rows.
-use Prim.Native.Nat.{ℕ, _+_, _*_, _-_, _/_, _%_, _<_, _≤_}
+use Prim.Native.Nat.{ℕ, _+_, _*_, _-_, _/_, _%_, _≤_}
 use mathlib.Core.Bool.{Bool, true, false, cond, _&&_}
 use mathlib.Core.List.{List}
 use mathlib.Core.Path.{_≡_, refl, ap, sym, _∙_}
@@ -8,7 +8,7 @@ use native.Mathlib.Omega.{arith}
 use lib.Dec.{eqb}
 use lib.ListN.{getD, take, drop}
 use lib.Seq.{getD-take, getD-drop}
-use borrow.Author.Tests.{eqb-true, eqb-false, eq-eqb}
+use borrow.Author.Tests.{eqb-true, eqb-false}
 use Rattle.types.specs.declared.card.AddressAnswer.{AddressAnswer}
 use Rattle.types.specs.declared.card.AddressAnswer.the-variants as Address
 use Rattle.types.specs.declared.error.Error.{Error}

@@ -1,5 +1,5 @@
 -- Document 01's table of refusals: what 'reset rows, no record' says of a call (lines 3 and 5).
-use Prim.Native.Nat.{ℕ, _+_, _*_, _-_, _≤_}
+use Prim.Native.Nat.{ℕ, _+_, _-_, _≤_}
 use mathlib.Core.Bool.{false}
 use mathlib.Core.List.{List, [], _++_, append-assoc}
 use mathlib.Core.Path.{_≡_, refl, ap, _∙_}

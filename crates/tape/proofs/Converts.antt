@@ -9,12 +9,14 @@ use Rattle.tape.specs.declared.rows.Row.{Row}
 use Rattle.tape.specs.Layout.{rowOf, rowsIn, pairsOf, rowsOfPairs, pairsOver}
 use Rattle.tape.proofs.Layouts.{pair-rows-back, pairs-long, rows-long}
 
+rows-in-pairs : (n : ℕ) (l : List Row) → n ≤ length l → length (pairsOf (take n l)) ≡ 2 * n
+rows-in-pairs n l h = pairs-long (take n l) ∙ ap (λ (k : ℕ). 2 * k) (length-take-le n l h)
+
 -- It tells the rows that were asked for.
 pub told-over : (n : ℕ) (l : List Row) (t : List ℕ) → n ≤ length l → rowsOfPairs (take (2 * n) (pairsOver n l t)) ≡ take n l
 unfolding pairsOver
 told-over n l t h =
-    let long : length (pairsOf (take n l)) ≡ 2 * n = pairs-long (take n l) ∙ ap (λ (k : ℕ). 2 * k) (length-take-le n l h) in
-    ap rowsOfPairs (take-at (pairsOf (take n l)) (drop (2 * n) t) (2 * n) long) ∙ pair-rows-back (take n l)
+    ap rowsOfPairs (take-at (pairsOf (take n l)) (drop (2 * n) t) (2 * n) (rows-in-pairs n l h)) ∙ pair-rows-back (take n l)
 
 -- row by row: none at first
 pub none-over : (l : List Row) (t : List ℕ) → t ≡ pairsOver 0 l t
@@ -58,7 +60,7 @@ one-over n ws t h room =
     let a = rowOf (getD ws n 0) .register in
     let b = rowOf (getD ws n 0) .value in
     let rest = drop (suc (suc (2 * n))) t in
-    let long : length p ≡ 2 * n = pairs-long (take n l) ∙ ap (λ (k : ℕ). 2 * k) (length-take-le n l (rw (rows-long ws) (omega arith))) in
+    let long : length p ≡ 2 * n = rows-in-pairs n l (rw (rows-long ws) (omega arith)) in
     let past : suc (suc (2 * n)) ≡ 2 * (n + 1) = omega arith in
     let two : drop (2 * n) t ≡ getD t (2 * n) 0 ∷ getD t (suc (2 * n)) 0 ∷ rest =
     drop-cons t (2 * n) 0 (omega arith) ∙ ap (λ (xs : List ℕ). getD t (2 * n) 0 ∷ xs) (drop-cons t (suc (2 * n)) 0 (omega arith)) in

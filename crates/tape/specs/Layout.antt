@@ -35,6 +35,6 @@ rowsOfPairs [] = []
 unfoldable pub pairsOver : ℕ → List Row → List ℕ → List ℕ
 pairsOver n l t = pairsOf (take n l) ++ drop (2 * n) t
 
--- refused where t has fewer than two words for each of them, or the list fewer rows
+-- refused where the list has fewer rows, or t fewer than two words for each of them
 abbrev pub tooShort : ℕ → List Row → List ℕ → Bool
-tooShort n l t = ltb (length t) (2 * n) || ltb (length l) n
+tooShort n l t = ltb (length l) n || ltb (length t) (2 * n)

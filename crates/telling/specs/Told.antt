@@ -1,6 +1,6 @@
 -- What is laid on a sheet when a book is told: for each call the call as the book has it, its events in their order, its line
 -- and the state. Each line goes where the sheet has room for it.
-use Prim.Native.Nat.{ℕ, zero, suc, _+_, _*_, _≤_, min}
+use Prim.Native.Nat.{ℕ, zero, suc, _+_, _≤_, min}
 use mathlib.Core.Bool.{Bool, true, cond}
 use mathlib.Core.List.{List}
 use mathlib.Core.Path.{_≡_}

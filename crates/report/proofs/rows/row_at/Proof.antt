@@ -1,5 +1,4 @@
 use mathlib.Core.Path.{_∙_, ap, sym}
-use Prim.Native.Nat.{ℕ}
 use lib.ListN.{List·getD-map, List·getD-eq-default}
 use Rattle.tape.specs.Layout.{rowOf, rowsIn}
 use borrow.Author.Needs.{needs}

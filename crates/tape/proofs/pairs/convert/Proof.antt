@@ -12,24 +12,24 @@ use Rattle.tape.proofs.pairs.convert.Statement.{statement}
 use Rattle.tape.proofs.pairs.convert.Tie as tie
 
 module _ (n : ℕ) (ws t : List ℕ) where
-  no-words : length t / 2 < n → tooShort n (rowsIn ws) t ≡ true
-  no-words h = rw (lt-ltb (length t) (2 * n) (omega arith))
+  no-rows : length ws < n → tooShort n (rowsIn ws) t ≡ true
+  no-rows few = rw (rows-long ws, lt-ltb (length ws) n few)
 
-  no-rows : n ≤ length t / 2 → length ws < n → tooShort n (rowsIn ws) t ≡ true
-  no-rows h few = rw (le-ltb (length t) (2 * n) (omega arith), rows-long ws, lt-ltb (length ws) n few)
+  no-words : n ≤ length ws → length t / 2 < n → tooShort n (rowsIn ws) t ≡ true
+  no-words many h = rw (rows-long ws, le-ltb (length ws) n many, lt-ltb (length t) (2 * n) (omega arith))
 
-  enough : n ≤ length t / 2 → n ≤ length ws → tooShort n (rowsIn ws) t ≡ false
-  enough h many = rw (le-ltb (length t) (2 * n) (omega arith), rows-long ws, le-ltb (length ws) n many)
+  enough : n ≤ length ws → n ≤ length t / 2 → tooShort n (rowsIn ws) t ≡ false
+  enough many h = rw (rows-long ws, le-ltb (length ws) n many, le-ltb (length t) (2 * n) (omega arith))
 
 returns : tie.Need-returns
 returns c =
     let a = c .before .before .before .args in
-    rw (no-words (a .count) (a .rows .now) (a .target .now) (c .if1 .taken)) (refl, refl)
+    rw (no-rows (a .count) (a .rows .now) (a .target .now) (c .if1 .taken)) (refl, refl)
 
 returns-2 : tie.Need-returns-2
 returns-2 c =
     let a = c .before .before .before .before .args in
-    rw (no-rows (a .count) (a .rows .now) (a .target .now) (c .before .if1 .left) (c .if2 .taken)) (refl, refl)
+    rw (no-words (a .count) (a .rows .now) (a .target .now) (c .before .if1 .left) (c .if2 .taken)) (refl, refl)
 
 returns-3 : tie.Need-returns-3
 returns-3 c =

@@ -1,4 +1,3 @@
-use native.Mathlib.Omega.{arith}
 use borrow.Author.Tests.{le-ltb}
 use Rattle.tape.proofs.Layouts.{Fits, row-stored, rows-long}
 use Rattle.feed.specs.Turns.{turnBy, handedAt}
