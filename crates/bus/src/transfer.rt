@@ -170,11 +170,19 @@ pub fn blocking_data(
     match pace {
         Pace::Going => {
             let read = transfer_data(p, script, rows, source, config, transfer, rca);
-            let closed = steps::close(read.progress, rows);
-            Data {
-                progress: closed,
-                place: read.place,
-                count: read.count,
+            let after = read.progress;
+            let left = after.pace;
+            match left {
+                Pace::Going => read,
+                // A copy for the guard, so that the progress of an accepted call need not lie in memory for it.
+                Pace::Stopped(_) => {
+                    let refused = after;
+                    Data {
+                        progress: steps::close(refused, rows),
+                        place: read.place,
+                        count: read.count,
+                    }
+                }
             }
         }
         Pace::Stopped(_) => Data {

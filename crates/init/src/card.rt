@@ -149,11 +149,19 @@ pub fn initialise(
     match pace {
         Pace::Going => {
             let done = init_card(p, script, rows, settings, initial, frequency);
-            let card = done.card;
-            let closed = steps::close(done.progress, rows);
-            Known {
-                progress: closed,
-                card: card,
+            let after = done.progress;
+            let left = after.pace;
+            match left {
+                Pace::Going => done,
+                // A copy for the guard, so that the progress of an accepted call need not lie in memory for it.
+                Pace::Stopped(_) => {
+                    let card = done.card;
+                    let refused = after;
+                    Known {
+                        progress: steps::close(refused, rows),
+                        card: card,
+                    }
+                }
             }
         }
         Pace::Stopped(_) => Known {
