@@ -1,12 +1,14 @@
 /*
  * Calls the four functions of libboundary.a and holds each result to what is due.
  *
- *     test [ROUNDS [SEED]]   boundaries, every rate byte, and ROUNDS random inputs a function
+ *     test [ROUNDS [SEED]]   boundaries, every rate byte, whole ranges by field, and ROUNDS random inputs a function
  *     test lines             reads calls with their results from standard input, one a line (see lines below)
  *
  * What is due is computed here a second time, from SD's bit positions and the order of the tests, and on purpose in
  * another way than the code does: registers are read bit by bit, rates from SD's table as it is printed, and the clock's
- * divisor and frequency are quotients, where the code has no division.
+ * divisor and frequency are quotients, where the code has no division. The field of an answer 13 is looked up by all rules
+ * that the input breaks, where the code stops at the first. And over whole ranges fields are counted: how often each is due
+ * stands here as a number, which a wrong rule above would not come to.
  *
  * Exit status: 0 all agree; 1 a result differs, or some kind of answer was never met; 2 bad usage or a bad line.
  *
@@ -27,41 +29,55 @@ __extension__ typedef unsigned __int128 u128;
 
 enum function { CLOCK, COUNT, RATE, ADDRESS, FUNCTIONS };
 
-/* The kinds of answer. The run fails if one of them was never due, since then it was never tested. */
+/*
+ * The kinds of answer. The run fails if one of them was never due, since then it was never tested. At answer 13 there is a
+ * kind for each set of rules that can be broken at once: only where two are broken does their order show.
+ */
 enum kind {
     CLOCK_DIVIDED, CLOCK_BYPASSED, CLOCK_NO_SOURCE, CLOCK_NO_REQUEST, CLOCK_REQUEST_OVER, CLOCK_DIVISOR_OVER,
-    COUNT_VERSION_0, COUNT_VERSION_1, COUNT_BLOCK_LENGTH, COUNT_OTHER_VERSION,
-    RATE_GIVEN, RATE_RESERVED_BIT, RATE_OVER_255, RATE_UNIT, RATE_NO_TIME_VALUE,
+    COUNT_VERSION_0, COUNT_VERSION_1, COUNT_LENGTH, COUNT_OTHER_VERSION, COUNT_OTHER_VERSION_LENGTH,
+    /* from RATE_GIVEN on: 1 more for the value, 2 for the unit, 4 for the reserved bit */
+    RATE_GIVEN, RATE_VALUE, RATE_UNIT, RATE_UNIT_VALUE,
+    RATE_BIT, RATE_BIT_VALUE, RATE_BIT_UNIT, RATE_BIT_UNIT_VALUE,
+    RATE_OVER_255, RATE_OVER_255_BROKEN,
     ADDRESS_SDSC, ADDRESS_SDHC, ADDRESS_NO_BLOCK, ADDRESS_TOO_MANY, ADDRESS_PAST_END, ADDRESS_OVER_32_BITS,
     KINDS
 };
 
+/* The numbers of answers and fields are document 01's and 02's; check_names holds the header's names to them. */
 static const struct {
     enum function function;
     unsigned answer;
+    unsigned field;
     const char *name;
 } kinds[KINDS] = {
-    { CLOCK, 0, "divided" },
-    { CLOCK, 0, "bypassed" },
-    { CLOCK, 17, "source 0" },
-    { CLOCK, 17, "request 0" },
-    { CLOCK, 17, "request over 80,000,000 Hz" },
-    { CLOCK, 17, "divisor over 257" },
-    { COUNT, 0, "CSD version 0" },
-    { COUNT, 0, "CSD version 1" },
-    { COUNT, 13, "CSD version 0, block length not 9 to 11" },
-    { COUNT, 13, "CSD version 2 or 3" },
-    { RATE, 0, "given" },
-    { RATE, 13, "bit 7 set" },
-    { RATE, 13, "number over 255" },
-    { RATE, 13, "unit over 3" },
-    { RATE, 13, "time value 0" },
-    { ADDRESS, 0, "SDSC" },
-    { ADDRESS, 0, "SDHC" },
-    { ADDRESS, 19, "no block" },
-    { ADDRESS, 19, "over 511 blocks" },
-    { ADDRESS, 20, "past the end of the card" },
-    { ADDRESS, 20, "SDSC address over 32 bits" },
+    { CLOCK, 0, 0, "divided" },
+    { CLOCK, 0, 0, "bypassed" },
+    { CLOCK, 17, 0, "source 0" },
+    { CLOCK, 17, 0, "request 0" },
+    { CLOCK, 17, 0, "request over 80,000,000 Hz" },
+    { CLOCK, 17, 0, "divisor over 257" },
+    { COUNT, 0, 0, "CSD version 0" },
+    { COUNT, 0, 0, "CSD version 1" },
+    { COUNT, 13, 2, "CSD version 0, block length not 9 to 11" },
+    { COUNT, 13, 1, "CSD version 2 or 3, block length 9 to 11" },
+    { COUNT, 13, 1, "CSD version 2 or 3, block length not 9 to 11" },
+    { RATE, 0, 0, "given" },
+    { RATE, 13, 4, "time value 0" },
+    { RATE, 13, 3, "unit over 3" },
+    { RATE, 13, 3, "unit over 3, time value 0" },
+    { RATE, 13, 5, "bit 7 set" },
+    { RATE, 13, 5, "bit 7 set, time value 0" },
+    { RATE, 13, 5, "bit 7 set, unit over 3" },
+    { RATE, 13, 5, "bit 7 set, unit over 3, time value 0" },
+    { RATE, 13, 5, "number over 255, its low byte a rate" },
+    { RATE, 13, 5, "number over 255, its low byte none" },
+    { ADDRESS, 0, 0, "SDSC" },
+    { ADDRESS, 0, 0, "SDHC" },
+    { ADDRESS, 19, 0, "no block" },
+    { ADDRESS, 19, 0, "over 511 blocks" },
+    { ADDRESS, 20, 0, "past the end of the card" },
+    { ADDRESS, 20, 0, "SDSC address over 32 bits" },
 };
 
 struct due {
@@ -125,11 +141,12 @@ static struct due count_due(uint64_t high, uint64_t low)
 {
     u128 csd = csd_of(high, low);
     uint64_t version = field(csd, 127, 126);
+    uint64_t read_bl_len = field(csd, 83, 80);
+    int served = read_bl_len == 9 || read_bl_len == 10 || read_bl_len == 11;
     uint64_t bytes;
     if (version == 0) {
-        uint64_t read_bl_len = field(csd, 83, 80);
-        if (read_bl_len != 9 && read_bl_len != 10 && read_bl_len != 11) {
-            return refused(COUNT_BLOCK_LENGTH);
+        if (!served) {
+            return refused(COUNT_LENGTH);
         }
         bytes = field(csd, 73, 62) + 1;
         for (uint64_t i = 0; i < field(csd, 49, 47) + 2 + read_bl_len; i++) {
@@ -141,7 +158,7 @@ static struct due count_due(uint64_t high, uint64_t low)
         bytes = (field(csd, 69, 48) + 1) * 512 * 1024;
         return accepted(COUNT_VERSION_1, bytes / 512);
     }
-    return refused(COUNT_OTHER_VERSION);
+    return refused(served ? COUNT_OTHER_VERSION : COUNT_OTHER_VERSION_LENGTH);
 }
 
 static struct due rate_due(uint32_t encoded)
@@ -151,17 +168,12 @@ static struct due rate_due(uint32_t encoded)
     uint64_t unit = 100000;
     uint64_t time_value = field(encoded, 6, 3);
     const char *value;
+    int broken = (time_value == 0 ? 1 : 0) + (field(encoded, 2, 2) == 1 ? 2 : 0) + (field(encoded, 7, 7) == 1 ? 4 : 0);
     if (encoded > 255) {
-        return refused(RATE_OVER_255);
+        return refused(broken == 0 ? RATE_OVER_255 : RATE_OVER_255_BROKEN);
     }
-    if (field(encoded, 7, 7) == 1) {
-        return refused(RATE_RESERVED_BIT);
-    }
-    if (field(encoded, 2, 2) == 1) {
-        return refused(RATE_UNIT);
-    }
-    if (time_value == 0) {
-        return refused(RATE_NO_TIME_VALUE);
+    if (broken != 0) {
+        return refused((enum kind)(RATE_GIVEN + broken));
     }
     for (uint64_t i = 0; i < field(encoded, 2, 0); i++) {
         unit = unit * 10;
@@ -195,6 +207,12 @@ static struct due address_due(uint32_t high_capacity, uint64_t block_count, uint
     return accepted(ADDRESS_SDSC, address);
 }
 
+/* The answer's number on top; below it the value, or at 13 the field. */
+static uint64_t packed(struct due due)
+{
+    return (uint64_t)kinds[due.kind].answer << 56 | (due.value + kinds[due.kind].field);
+}
+
 /* ---- comparing ---- */
 
 static const char *const function_names[FUNCTIONS] = { "clock", "count", "rate", "address" };
@@ -206,6 +224,8 @@ struct call {
     enum function function;
     uint64_t argument[4];
 };
+
+#define LENGTH(list) (sizeof(list) / sizeof((list)[0]))
 
 static uint64_t checked[FUNCTIONS];
 static uint64_t met[KINDS];
@@ -243,8 +263,8 @@ static struct due due_of(const struct call *call)
 
 static void show_result(const char *which, uint64_t result)
 {
-    printf("    %s 0x%016llx: answer %u, value %llu\n", which, (unsigned long long)result, boresacu_answer(result),
-           (unsigned long long)boresacu_value(result));
+    printf("    %s 0x%016llx: answer %u, field %u, value %llu\n", which, (unsigned long long)result,
+           boresacu_answer(result), boresacu_field(result), (unsigned long long)boresacu_value(result));
 }
 
 /* Holds a result to what is due, and shows the first that differs. */
@@ -273,20 +293,49 @@ static int decodes(uint64_t result, struct due due)
 {
     uint64_t clock = (uint64_t)boresacu_clock_bypass(result) << 40 | (uint64_t)boresacu_clock_divisor_field(result) << 32
         | boresacu_clock_frequency(result);
-    return boresacu_answer(result) == kinds[due.kind].answer && boresacu_value(result) == due.value
-        && (kinds[due.kind].function != CLOCK || clock == due.value);
+    return boresacu_answer(result) == kinds[due.kind].answer && boresacu_field(result) == kinds[due.kind].field
+        && boresacu_value(result) == due.value && (kinds[due.kind].function != CLOCK || clock == due.value);
 }
 
 static void check(enum function function, uint64_t a, uint64_t b, uint64_t c, uint64_t d)
 {
     struct call call = { function, { a, b, c, d } };
     struct due due = due_of(&call);
-    uint64_t result = (uint64_t)kinds[due.kind].answer << 56 | due.value;
+    uint64_t result = packed(due);
     met[due.kind]++;
     compare(&call, result);
     if (!decodes(result, due) && mismatches++ == 0) {
         printf("MISMATCH: the header's helpers\n");
         show_result("take apart", result);
+    }
+}
+
+static const struct {
+    unsigned name;
+    unsigned number;
+} names[] = {
+    { BORESACU_ACCEPTED, 0 },
+    { BORESACU_UNSUPPORTED_CARD_TYPE, 13 },
+    { BORESACU_BAD_CLOCK, 17 },
+    { BORESACU_INVALID_BUFFER_LENGTH, 19 },
+    { BORESACU_ADDRESS_OUT_OF_RANGE, 20 },
+    { BORESACU_FIELD_CSD_VERSION, 1 },
+    { BORESACU_FIELD_BLOCK_LENGTH, 2 },
+    { BORESACU_FIELD_RATE_UNIT, 3 },
+    { BORESACU_FIELD_RATE_VALUE, 4 },
+    { BORESACU_FIELD_RATE_RESERVED_BIT, 5 },
+    { BORESACU_FIELD_CSD_AND_OCR, 6 },
+    { BORESACU_FIELD_VOLTAGE, 7 },
+    { BORESACU_FIELD_APP_COMMAND, 8 },
+};
+
+/* The header's names are the documents' numbers. */
+static void check_names(void)
+{
+    for (size_t i = 0; i < LENGTH(names); i++) {
+        if (names[i].name != names[i].number && mismatches++ == 0) {
+            printf("MISMATCH: the header has a name for %u that is %u\n", names[i].number, names[i].name);
+        }
     }
 }
 
@@ -314,8 +363,6 @@ static uint64_t of_any_size(unsigned bits)
     return size == 0 ? 0 : random64() >> (64 - size);
 }
 
-#define LENGTH(list) (sizeof(list) / sizeof((list)[0]))
-
 static const uint64_t frequencies[] = {
     0, 1, 2, 3, 256, 257, 258, 399999, 400000, 400001, 12500000, 24000000, 25000000, 25000001, 50000000, 50000001,
     16711934, 16711935, 16711936, /* 257 times the second is the largest source */
@@ -336,7 +383,7 @@ static const uint64_t counts[] = {
 };
 
 /* A CSD with these fields, its other bits from the filling. */
-static void check_count(uint64_t version, uint64_t length, uint64_t size, uint64_t multiplier, u128 filling)
+static u128 csd_with(uint64_t version, uint64_t length, uint64_t size, uint64_t multiplier, u128 filling)
 {
     static const int places[4][2] = { { 127, 126 }, { 83, 80 }, { 73, 62 }, { 49, 47 } };
     static const int places_1[4][2] = { { 127, 126 }, { 83, 80 }, { 69, 48 }, { 49, 47 } };
@@ -348,10 +395,16 @@ static void check_count(uint64_t version, uint64_t length, uint64_t size, uint64
             filling = (values[i] >> (bit - place[1]) & 1) != 0 ? filling | one : filling & ~one;
         }
     }
-    check(COUNT, (uint64_t)(filling >> 64), (uint64_t)filling, 0, 0);
+    return filling;
 }
 
-static void check_boundaries(void)
+static void check_count(uint64_t version, uint64_t length, uint64_t size, uint64_t multiplier, u128 filling)
+{
+    u128 csd = csd_with(version, length, size, multiplier, filling);
+    check(COUNT, (uint64_t)(csd >> 64), (uint64_t)csd, 0, 0);
+}
+
+static void check_clocks(void)
 {
     for (size_t i = 0; i < LENGTH(frequencies); i++) {
         for (size_t j = 0; j < LENGTH(frequencies); j++) {
@@ -366,6 +419,10 @@ static void check_boundaries(void)
             check(CLOCK, (uint64_t)((int64_t)(divisor * 400000) + past), 400000, divisor % 2, 0);
         }
     }
+}
+
+static void check_counts(void)
+{
     for (int fill = 0; fill < 2; fill++) {
         u128 filling = fill == 0 ? 0 : ~(u128)0;
         for (uint64_t version = 0; version < 4; version++) {
@@ -381,13 +438,22 @@ static void check_boundaries(void)
             }
         }
     }
-    /* All 256 bytes, alone and below each bit that a byte has not; and the numbers next to them. */
+}
+
+/* All 256 bytes, alone, below each bit that a byte has not, and below all of them. */
+static void check_rates(void)
+{
     for (uint64_t encoded = 0; encoded < 256; encoded++) {
         check(RATE, encoded, 0, 0, 0);
         for (int bit = 8; bit < 32; bit++) {
             check(RATE, encoded | (uint64_t)1 << bit, 0, 0, 0);
         }
+        check(RATE, encoded | UINT64_C(0xffffff00), 0, 0, 0);
     }
+}
+
+static void check_addresses(void)
+{
     for (size_t i = 0; i < LENGTH(block_counts); i++) {
         for (size_t j = 0; j < LENGTH(indices); j++) {
             for (size_t k = 0; k < LENGTH(counts); k++) {
@@ -398,6 +464,83 @@ static void check_boundaries(void)
         }
     }
 }
+
+/* ---- fields over whole ranges ---- */
+
+/* 1 to 8, and 0 for an answer without a field. */
+enum { FIELDS = 9 };
+
+/* Checks an input, and counts the field that the archive tells of it. What is no field is not counted, and so is missed. */
+static void tally(uint64_t *told, enum function function, uint64_t a, uint64_t b)
+{
+    struct call call = { function, { a, b, 0, 0 } };
+    unsigned number = boresacu_field(made(&call));
+    if (number < FIELDS) {
+        told[number]++;
+    }
+    check(function, a, b, 0, 0);
+}
+
+/* Holds the inputs that each field was told of to the number of them that there are. */
+static void check_tally(const char *range, const uint64_t *told, const uint64_t *due)
+{
+    printf("%s, by field, 0 (none) to 8:", range);
+    for (int i = 0; i < FIELDS; i++) {
+        printf(" %llu", (unsigned long long)told[i]);
+    }
+    printf("\n");
+    for (int i = 0; i < FIELDS; i++) {
+        if (told[i] != due[i] && mismatches++ == 0) {
+            printf("MISMATCH: field %d is due %llu times\n", i, (unsigned long long)due[i]);
+        }
+    }
+}
+
+/*
+ * Half of the 256 bytes have bit 7; of the others half have a unit over 3, 64; of the 64 left the value is 0 with each of
+ * four units. Other numbers come out if the rules are in another order, or two fields exchanged.
+ */
+static void check_rate_fields(void)
+{
+    static const struct {
+        const char *range;
+        uint64_t first, last;
+        uint64_t due[FIELDS];
+    } ranges[] = {
+        { "rates 0 to 255", 0, 255, { 60, 0, 0, 64, 4, 128, 0, 0, 0 } },
+        { "rates 256 to 65,535", 256, 65535, { 0, 0, 0, 0, 0, 65280, 0, 0, 0 } },
+        { "the last 65,536 rates", 0xffff0000, 0xffffffff, { 0, 0, 0, 0, 0, 65536, 0, 0, 0 } },
+    };
+    for (size_t i = 0; i < LENGTH(ranges); i++) {
+        uint64_t told[FIELDS] = { 0 };
+        for (uint64_t encoded = ranges[i].first; encoded <= ranges[i].last; encoded++) {
+            tally(told, RATE, encoded, 0);
+        }
+        check_tally(ranges[i].range, told, ranges[i].due);
+    }
+}
+
+/*
+ * Of the 64 pairs of a CSD's structure and block length, 32 have structure 2 or 3, whatever the length; of the 16 with
+ * structure 0 three lengths are served; all 16 with structure 1 are. Four times, since the other bits make no difference.
+ */
+static void check_count_fields(void)
+{
+    static const uint64_t due[FIELDS] = { 4 * 19, 4 * 32, 4 * 13, 0, 0, 0, 0, 0, 0 };
+    static const uint64_t fillings[4] = { 0, UINT64_C(0x5555555555555555), UINT64_C(0xaaaaaaaaaaaaaaaa), UINT64_MAX };
+    uint64_t told[FIELDS] = { 0 };
+    for (size_t i = 0; i < LENGTH(fillings); i++) {
+        for (uint64_t version = 0; version < 4; version++) {
+            for (uint64_t length = 0; length < 16; length++) {
+                u128 csd = csd_with(version, length, fillings[i], fillings[i], csd_of(fillings[i], fillings[i]));
+                tally(told, COUNT, (uint64_t)(csd >> 64), (uint64_t)csd);
+            }
+        }
+    }
+    check_tally("CSDs of each structure and block length", told, due);
+}
+
+/* ---- random inputs ---- */
 
 static uint64_t random_flag(void)
 {
@@ -480,9 +623,41 @@ static int verdict(void)
     return 0;
 }
 
-static int run(uint64_t rounds, uint64_t seed)
+static void check_boundaries(void)
+{
+    check_names();
+    check_clocks();
+    check_counts();
+    check_count_fields();
+    check_rates();
+    check_rate_fields();
+    check_addresses();
+}
+
+/* Tells how often each kind of answer was due, and gives whether one never was. */
+static int show_kinds(void)
 {
     int never = 0;
+    for (int i = 0; i < KINDS; i++) {
+        if (i == 0 || kinds[i].function != kinds[i - 1].function) {
+            printf("%s: %llu calls\n", function_names[kinds[i].function], (unsigned long long)checked[kinds[i].function]);
+        }
+        printf("%12llu  answer %2u", (unsigned long long)met[i], kinds[i].answer);
+        if (kinds[i].field != 0) {
+            printf(" field %u", kinds[i].field);
+        }
+        printf("  %s\n", kinds[i].name);
+        if (met[i] == 0) {
+            printf("FAILED: no input had this answer due\n");
+            never = 1;
+        }
+    }
+    return never;
+}
+
+static int run(uint64_t rounds, uint64_t seed)
+{
+    int never;
     printf("seed %llu, %llu random inputs a function\n", (unsigned long long)seed, (unsigned long long)rounds);
     state = seed;
     check_boundaries();
@@ -492,16 +667,7 @@ static int run(uint64_t rounds, uint64_t seed)
         check_random_rate();
         check_random_address();
     }
-    for (int i = 0; i < KINDS; i++) {
-        if (i == 0 || kinds[i].function != kinds[i - 1].function) {
-            printf("%s: %llu calls\n", function_names[kinds[i].function], (unsigned long long)checked[kinds[i].function]);
-        }
-        printf("%12llu  answer %2u  %s\n", (unsigned long long)met[i], kinds[i].answer, kinds[i].name);
-        if (met[i] == 0) {
-            printf("FAILED: no input had this answer due\n");
-            never = 1;
-        }
-    }
+    never = show_kinds();
     if (verdict() != 0 || never) {
         return 1;
     }

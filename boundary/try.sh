@@ -28,9 +28,13 @@ try() { # WHAT ROUNDS COMMAND...
     began=$(date +%s)
     "$@" "$rounds" "${SEED:-1}" >"$work/report" || { cat "$work/report"; die "$what: failed"; }
     "$@" lines <"$here/boundary/cases.txt" >"$work/cases" || { cat "$work/cases"; die "$what: boundary/cases.txt: failed"; }
-    # a test that cannot fail is no test: a wrong result must be told
-    ! echo 'rate 0x32 25000001' | "$@" lines >"$work/wrong" || die "$what: a wrong result was not told"
-    grep -q '^MISMATCH: rate 0x32' "$work/wrong" || { cat "$work/wrong"; die "$what: a wrong result was not told"; }
+    # a test that cannot fail is no test: a wrong result must be told, and so must a refusal without its field, with another
+    # one, or with it in another byte
+    for wrong in '0x32 25000001' '0x34 0x0d00000000000000' '0x34 0x0d00000000000004' '0x34 0x0d00000000000300'; do
+        missed="$what: a wrong result was not told: rate $wrong"
+        ! echo "rate $wrong" | "$@" lines >"$work/wrong" || die "$missed"
+        grep -q "^MISMATCH: rate ${wrong% *}" "$work/wrong" || { cat "$work/wrong"; die "$missed"; }
+    done
     sed -e '$d' -e 's/^/    /' "$work/report"
     printf '%s: %s: %s; cases.txt: %s (%s s)\n' "$me" "$what" "$(tail -n 1 "$work/report")" \
         "$(tail -n 1 "$work/cases")" "$(($(date +%s) - began))"

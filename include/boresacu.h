@@ -9,11 +9,14 @@
  * Each returns one 64-bit result:
  *
  *     bits 63 to 56   the number of the answer: 0 accepted, or why it was refused (enum boresacu_answer_number)
- *     bits 55 to 0    the value, described at each function; 0 in every refusal
+ *     bits 55 to 0    accepted: the value, described at each function; refused with BORESACU_UNSUPPORTED_CARD_TYPE: the
+ *                     number of the field at fault (enum boresacu_field_number); 0 in every other refusal
  *
  *     uint64_t result = boresacu_transfer_rate(csd_byte);
  *     if (boresacu_answer(result) == BORESACU_ACCEPTED) {
  *         bits_per_second = (uint32_t)boresacu_value(result);
+ *     } else {
+ *         tell(boresacu_answer(result), boresacu_field(result));
  *     }
  *
  * The bodies behind these declarations are proved to do what is written here. The declarations themselves, and the
@@ -35,6 +38,22 @@ enum boresacu_answer_number {
     BORESACU_BAD_CLOCK = 17,
     BORESACU_INVALID_BUFFER_LENGTH = 19,
     BORESACU_ADDRESS_OUT_OF_RANGE = 20
+};
+
+/*
+ * What made a card unsupported, told with BORESACU_UNSUPPORTED_CARD_TYPE. The four functions give the first five. The last
+ * three come up while a card is initialised or its status read; they have names here so that firmware can hand on all
+ * eight alike.
+ */
+enum boresacu_field_number {
+    BORESACU_FIELD_CSD_VERSION = 1,       /* CSD structure, bits 127:126 of the CSD */
+    BORESACU_FIELD_BLOCK_LENGTH = 2,      /* READ_BL_LEN, bits 83:80 */
+    BORESACU_FIELD_RATE_UNIT = 3,         /* TRAN_SPEED, its bits 2:0 */
+    BORESACU_FIELD_RATE_VALUE = 4,        /* TRAN_SPEED, its bits 6:3 */
+    BORESACU_FIELD_RATE_RESERVED_BIT = 5, /* TRAN_SPEED, its bit 7 */
+    BORESACU_FIELD_CSD_AND_OCR = 6,       /* the two disagree about the card's capacity class */
+    BORESACU_FIELD_VOLTAGE = 7,           /* card and host have no voltage in common */
+    BORESACU_FIELD_APP_COMMAND = 8        /* the card did not take an application command */
 };
 
 /*
@@ -62,8 +81,9 @@ uint64_t boresacu_clock_setting(uint32_t source, uint32_t requested, uint32_t al
  *
  * Value: the number of blocks of 512 bytes, 4 to 4,294,967,296. The last does not fit 32 bits.
  *
- * Refused: BORESACU_UNSUPPORTED_CARD_TYPE for a CSD structure (bits 127:126) other than 0 and 1, and for structure 0
- * with a READ_BL_LEN (bits 83:80) other than 9, 10 and 11.
+ * Refused: BORESACU_UNSUPPORTED_CARD_TYPE for a CSD structure (bits 127:126) other than 0 and 1, with
+ * BORESACU_FIELD_CSD_VERSION, and for structure 0 with a READ_BL_LEN (bits 83:80) other than 9, 10 and 11, with
+ * BORESACU_FIELD_BLOCK_LENGTH.
  */
 uint64_t boresacu_block_count(uint64_t csd_high, uint64_t csd_low);
 
@@ -74,8 +94,12 @@ uint64_t boresacu_block_count(uint64_t csd_high, uint64_t csd_low);
  *
  * Value: bits a second, 100,000 to 800,000,000.
  *
- * Refused: BORESACU_UNSUPPORTED_CARD_TYPE where bit 7 or any bit above it is set (so for every number over 127), where
- * the unit (bits 2:0) is over 3, and where the time value (bits 6:3) is 0.
+ * Refused: BORESACU_UNSUPPORTED_CARD_TYPE, with the first of these that holds:
+ *
+ *     BORESACU_FIELD_RATE_RESERVED_BIT   bit 7 or any bit above it is set: so for every number over 127, and for one over
+ *                                        255, which is no byte, too
+ *     BORESACU_FIELD_RATE_UNIT           the unit (bits 2:0) is over 3
+ *     BORESACU_FIELD_RATE_VALUE          the time value (bits 6:3) is 0
  */
 uint64_t boresacu_transfer_rate(uint32_t encoded);
 
@@ -100,10 +124,17 @@ static inline unsigned boresacu_answer(uint64_t result)
     return (unsigned)(result >> 56);
 }
 
-/* A result's value, 0 where it was refused. */
+/* A result's value, 0 where it was refused: so that the number of a field is never taken for a count or a rate. */
 static inline uint64_t boresacu_value(uint64_t result)
 {
-    return result & UINT64_C(0x00ffffffffffffff);
+    return boresacu_answer(result) == BORESACU_ACCEPTED ? result : 0;
+}
+
+/* The field at fault where the answer is BORESACU_UNSUPPORTED_CARD_TYPE: one of enum boresacu_field_number; else 0. */
+static inline unsigned boresacu_field(uint64_t result)
+{
+    uint64_t low = result & UINT64_C(0x00ffffffffffffff);
+    return boresacu_answer(result) == BORESACU_UNSUPPORTED_CARD_TYPE ? (unsigned)low : 0;
 }
 
 /* Of boresacu_clock_setting: what to write to the register's 8-bit divisor field. */

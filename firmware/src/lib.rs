@@ -15,6 +15,36 @@ extern "C" {
 #[derive(Clone, Copy, Debug, PartialEq, Eq, PartialOrd, Ord)]
 pub struct Hertz(pub u32);
 
+/// What made a card unsupported, with the number that stands for it. The functions of this crate give the first five; the
+/// others come up in the driver, while a card is initialised or its status read.
+#[derive(Clone, Copy, Debug, PartialEq, Eq)]
+#[repr(u8)]
+pub enum Field {
+    /// The CSD's structure, its bits 127 to 126.
+    CsdVersion = 1,
+    /// READ_BL_LEN, bits 83 to 80 of the CSD.
+    BlockLength = 2,
+    /// TRAN_SPEED, its bits 2 to 0.
+    RateUnit = 3,
+    /// TRAN_SPEED, its bits 6 to 3.
+    RateValue = 4,
+    /// TRAN_SPEED, its bit 7.
+    RateReservedBit = 5,
+    /// CSD and OCR disagree about the card's capacity class.
+    CsdAndOcr = 6,
+    /// Card and host have no voltage in common.
+    Voltage = 7,
+    /// The card did not take an application command.
+    AppCommand = 8,
+}
+
+impl Field {
+    /// 1 to 8, the F of a line `answer 13 field F`.
+    pub const fn number(self) -> u8 {
+        self as u8
+    }
+}
+
 /// Why the card host refuses. The functions of this crate give `UnsupportedCardType`, `BadClock`, `InvalidBufferLength`
 /// and `AddressOutOfRange`; the others are the driver's.
 #[derive(Clone, Copy, Debug, PartialEq, Eq)]
@@ -31,7 +61,7 @@ pub enum Error {
     CardStatus(u32),
     CardLocked,
     UnsupportedCardVersion,
-    UnsupportedCardType,
+    UnsupportedCardType(Field),
     UnsupportedBusWidth,
     SignalingSwitchFailed,
     NoCard,
@@ -71,14 +101,16 @@ pub fn clock_setting(source: Hertz, requested: u32, allow_bypass: bool) -> Resul
     })
 }
 
-/// The blocks of 512 bytes of a card with this CSD register.
+/// The blocks of 512 bytes of a card with this CSD register. The version is at fault where it is neither 0 nor 1, and the
+/// block length where it is not 9, 10 or 11 in version 0.
 pub fn block_count(csd: u128) -> Result<u64, Error> {
     // SAFETY: the function is defined for every value of its arguments and touches no memory of ours.
     let result = unsafe { boresacu_block_count((csd >> 64) as u64, csd as u64) };
     accepted(result)
 }
 
-/// The bits a second that a card names in TRAN_SPEED, bits 103 to 96 of its CSD.
+/// The bits a second that a card names in TRAN_SPEED, bits 103 to 96 of its CSD. Where several of its fields are at fault
+/// one is told: the reserved bit before the unit, the unit before the value.
 pub fn transfer_rate(encoded: u8) -> Result<u32, Error> {
     // SAFETY: the function is defined for every value of its argument and touches no memory of ours.
     let result = unsafe { boresacu_transfer_rate(u32::from(encoded)) };
@@ -100,7 +132,8 @@ pub fn block_address(
     accepted(result).map(|address| address as u32)
 }
 
-/// A result's value, or why there is none. The top byte has the number of the answer, and the rest its value.
+/// A result's value, or why there is none. The top byte has the number of the answer, and the rest its value, or the field
+/// that made a card unsupported.
 fn accepted(result: u64) -> Result<u64, Error> {
     match result >> 56 {
         0 => Ok(result),
@@ -108,6 +141,21 @@ fn accepted(result: u64) -> Result<u64, Error> {
         19 => Err(Error::InvalidBufferLength),
         20 => Err(Error::AddressOutOfRange),
         // 13: the four functions give no other number
-        _ => Err(Error::UnsupportedCardType),
+        _ => Err(Error::UnsupportedCardType(field(result))),
+    }
+}
+
+/// The field in the low seven bytes of a result.
+fn field(result: u64) -> Field {
+    match result & 0xff_ffff_ffff_ffff {
+        1 => Field::CsdVersion,
+        2 => Field::BlockLength,
+        3 => Field::RateUnit,
+        4 => Field::RateValue,
+        5 => Field::RateReservedBit,
+        6 => Field::CsdAndOcr,
+        7 => Field::Voltage,
+        // 8: the four functions give no number over 5, and a wrong one is not to look like one of those
+        _ => Field::AppCommand,
     }
 }

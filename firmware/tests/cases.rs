@@ -1,8 +1,13 @@
-//! Document 01's cases K1 to K10, through the wrapper and the linked archive.
+//! Document 01's cases K1 to K10 and document 02's fields at answer 13 (P4), through the wrapper and the linked archive.
 
 use boresacu::CardCapacity::{SDHC, SDSC};
 use boresacu::Error::{AddressOutOfRange, BadClock, InvalidBufferLength, UnsupportedCardType};
+use boresacu::Field::{BlockLength, CsdVersion, RateReservedBit, RateUnit, RateValue};
 use boresacu::{block_address, block_count, clock_setting, transfer_rate, Error, Hertz};
+
+extern "C" {
+    fn boresacu_transfer_rate(encoded: u32) -> u64;
+}
 
 /// Divisor field, bypass, and frequency.
 fn clock(source: u32, requested: u32, allow_bypass: bool) -> Result<(u8, bool, u32), Error> {
@@ -58,8 +63,10 @@ fn k4_bypass() {
 fn k5_capacity_version_0() {
     assert_eq!(block_count(csd_0(9, 0, 0)), Ok(4));
     assert_eq!(block_count(csd_0(11, 4095, 7)), Ok(8_388_608));
-    assert_eq!(block_count(csd_0(8, 0, 0)), Err(UnsupportedCardType));
-    assert_eq!(block_count(csd_0(12, 0, 0)), Err(UnsupportedCardType));
+    for length in [8, 12] {
+        let refused = Err(UnsupportedCardType(BlockLength));
+        assert_eq!(block_count(csd_0(length, 0, 0)), refused);
+    }
 }
 
 #[test]
@@ -72,8 +79,8 @@ fn k6_capacity_version_1() {
 fn k7_transfer_rate() {
     assert_eq!(transfer_rate(0x32), Ok(25_000_000));
     assert_eq!(transfer_rate(0x5a), Ok(50_000_000));
-    for encoded in [0x02, 0xb2, 0x34] {
-        assert_eq!(transfer_rate(encoded), Err(UnsupportedCardType));
+    for (encoded, field) in [(0x02, RateValue), (0xb2, RateReservedBit), (0x34, RateUnit)] {
+        assert_eq!(transfer_rate(encoded), Err(UnsupportedCardType(field)));
     }
 }
 
@@ -107,5 +114,62 @@ fn k10_blocks_of_one_read() {
             block_address(card_type, 1_024, 0, 0),
             Err(InvalidBufferLength)
         );
+    }
+}
+
+/// For each unit, from 0 to 7, of a byte with these upper five bits: a rate ('.'), or which field is told: the unit ('u'),
+/// the value ('v') or the reserved bit ('b').
+fn told(upper: u8) -> &'static [u8; 8] {
+    match upper {
+        0 => b"vvvvuuuu",
+        1..=15 => b"....uuuu",
+        _ => b"bbbbbbbb",
+    }
+}
+
+#[test]
+fn every_rate_byte() {
+    let units = [10_000, 100_000, 1_000_000, 10_000_000];
+    let tenths = [
+        0, 10, 12, 13, 15, 20, 25, 30, 35, 40, 45, 50, 55, 60, 70, 80,
+    ];
+    for encoded in 0..=255 {
+        let (upper, unit) = (encoded / 8, usize::from(encoded % 8));
+        let due = match told(upper)[unit] {
+            b'u' => Err(UnsupportedCardType(RateUnit)),
+            b'v' => Err(UnsupportedCardType(RateValue)),
+            b'b' => Err(UnsupportedCardType(RateReservedBit)),
+            _ => Ok(units[unit] * tenths[usize::from(upper)]),
+        };
+        assert_eq!(transfer_rate(encoded), due, "byte {encoded:#x}");
+    }
+}
+
+/// The wrapper takes a byte and cannot hand over more, so this is the C function itself.
+#[test]
+fn rates_over_255() {
+    for bit in 8..32 {
+        for byte in 0..=255 {
+            // SAFETY: the function is defined for every value of its argument and touches no memory of ours.
+            let result = unsafe { boresacu_transfer_rate(1 << bit | byte) };
+            assert_eq!(result, 13 << 56 | 5, "byte {byte:#x} below bit {bit}");
+        }
+    }
+    // SAFETY: as above.
+    assert_eq!(unsafe { boresacu_transfer_rate(u32::MAX) }, 13 << 56 | 5);
+}
+
+#[test]
+fn every_csd_version_and_block_length() {
+    for (version, length) in (0..64).map(|n| (n / 16, n % 16)) {
+        let due = match (version, length) {
+            (0, 9..=11) | (1, _) => None,
+            (0, _) => Some(UnsupportedCardType(BlockLength)),
+            _ => Some(UnsupportedCardType(CsdVersion)),
+        };
+        for rest in [0, u128::MAX] {
+            let csd = version << 126 | length << 80 | rest & !(3 << 126 | 15 << 80);
+            assert_eq!(block_count(csd).err(), due, "CSD {csd:#034x}");
+        }
     }
 }

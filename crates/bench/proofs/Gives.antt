@@ -20,7 +20,7 @@ use Rattle.book.specs.Lines.{callLine}
 use Rattle.book.specs.declared.layout.Asked.{Asked}
 use Rattle.book.specs.Readers.{callAsked}
 use Rattle.report.specs.Report.{rowsText, carriedText, stateText, statusText, blocksText}
-use Rattle.bench.specs.Bench.{callWith, asking, bufferAfter, numberOf, whereAccepted}
+use Rattle.bench.specs.Bench.{callWith, asking, bufferAfter, whereAccepted}
 use Rattle.bench.specs.Trace.{kindText, givenText, tracedText}
 
 none : (a : Answer) → whereAccepted a [] ≡ []
@@ -50,7 +50,7 @@ module _ (number : ℕ) (host : Sdmmc) (l : List Row) (buffer ws : List ℕ) (as
 
   pub traced : {called : Called} {l′ : List Row} {buffer′ out : List ℕ} {at₁ : ℕ} {out₁ : List ℕ} {at₂ : ℕ} {out₂ : List ℕ} {at₃ : ℕ} {out₃ : List ℕ}
       → called ≡ calledOf (comes host call) → l′ ≡ comes host call .list → buffer′ ≡ bufferAfter call (comes host call) buffer
-      → Laid 0 (callLine number (numberOf (called .answer)) (called .words) (called .rows)) out at₁ out₁
+      → Laid 0 (callLine number (called .answer) (called .words) (called .rows)) out at₁ out₁
       → Laid at₁ (rowsText (called .rows) l′ ++ carriedText (called .answer) ++ stateText (called .host)) out₁ at₂ out₂
       → Laid at₂ (whereAccepted (called .answer) (kindText (asked .kind) (called .host) (length buffer / 512) buffer′)) out₂ at₃ out₃
       → Laid 0 (tracedText number host l buffer ws asked) out at₃ out₃

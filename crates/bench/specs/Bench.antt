@@ -70,7 +70,7 @@ abbrev pub numberOf : Answer → ℕ
 numberOf answer = answerTold answer .number
 
 abbrev pub cameLine : ℕ → Came → List ℕ
-cameLine k x = callLine k (numberOf (x .answer)) (x .words) (x .rows)
+cameLine k x = callLine k (x .answer) (x .words) (x .rows)
 
 -- what each call came to, a line each, numbered from k on
 unfoldable pub linesFrom : ℕ → List Came → List ℕ

@@ -36,7 +36,7 @@ fn serve_call(host: Sdmmc, words: &[u32], k: u32, place: usize, out: &mut [u8], 
     let called = serve::ask_in(host, words, asked, &mut rows, &mut buffer);
     let answer = called.answer;
     let next = called.host;
-    let place = lines::put_call(out, at, k + 1, answer.number(), called.words, called.rows);
+    let place = lines::put_call(out, at, k + 1, answer, called.words, called.rows);
     Turn {
         host: next,
         script_at: end,

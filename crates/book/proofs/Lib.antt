@@ -6,3 +6,4 @@ pub mod Written
 pub mod Both
 pub mod Opening
 pub mod Reached
+pub mod Short

@@ -2,8 +2,9 @@
 ghost use mathlib.Core.List.{_++_};
 ghost use Rattle.text.specs.Digits.{decimalOf};
 ghost use Rattle.text.specs.Ink.{Laid};
-ghost use Rattle.book.specs.Lines.{hostLine, callLine};
+ghost use Rattle.book.specs.Lines.{hostLine, answerText, callLine};
 use text::pen;
+use types::error::Answer;
 
 fn put_named(buffer: &mut [u8], at: usize, name: &[u8], n: u64) -> usize
     ensures { λ r. ⌜ Laid at (now (name .entry) ++ decimalOf n) (now (buffer .entry)) r (now (buffer .exit)) ⌝ }
@@ -20,19 +21,31 @@ pub fn put_host(buffer: &mut [u8], at: usize, answer: u8) -> usize
     pen::put_byte(buffer, place, b'\n')
 }
 
-// A call's line: its number, counted from 1, its answer's number, the words it used and the rows it wrote.
+// An answer's number, and at 13 the field that made the card unsupported.
+fn put_answer(buffer: &mut [u8], at: usize, answer: Answer) -> usize
+    ensures { λ r. ⌜ Laid at (answerText answer) (now (buffer .entry)) r (now (buffer .exit)) ⌝ }
+{
+    let number = answer.number();
+    let told = put_named(buffer, at, b" answer ", number as u64);
+    if number == 13 {
+        return put_named(buffer, told, b" field ", answer.word() as u64);
+    }
+    told
+}
+
+// A call's line: its number, counted from 1, its answer, the words it used and the rows it wrote.
 pub fn put_call(
     buffer: &mut [u8],
     at: usize,
     call: u32,
-    answer: u8,
+    answer: Answer,
     words: usize,
     rows: usize,
 ) -> usize
     ensures { λ r. ⌜ Laid at (callLine call answer words rows) (now (buffer .entry)) r (now (buffer .exit)) ⌝ }
 {
     let number = pen::put_decimal(buffer, at, call as u64);
-    let answered = put_named(buffer, number, b" answer ", answer as u64);
+    let answered = put_answer(buffer, number, answer);
     let used = put_named(buffer, answered, b" words ", words as u64);
     let written = put_named(buffer, used, b" rows ", rows as u64);
     pen::put_byte(buffer, written, b'\n')

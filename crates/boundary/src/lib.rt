@@ -1,12 +1,12 @@
 // The C boundary: clock, capacity, rate and address for firmware that stays Rust or C, on plain numbers. Each answer is one
-// number: the answer's number in the top byte, the value in the other seven, 0 where it was refused (include/boresacu.h).
+// number: the answer's number in the top byte, the value in the other seven; of a refusal the field at 13, 0 at any other
+// (include/boresacu.h).
 ghost use mathlib.Core.Path.{_≡_};
 ghost use mathlib.Core.Bool.{not};
 ghost use Prim.Native.Nat.{_+_, _*_, _^_};
 ghost use lib.Dec.{eqb};
-ghost use Rattle.types.specs.Answer.{errorTold};
 ghost use Rattle.types.specs.Leaf.{clockOf, countOf, addressOf};
-ghost use Rattle.boundary.specs.Packed.{packed, clockWord, clockValue, countWord, rateWord, rateAt, addressWord, classOf};
+ghost use Rattle.boundary.specs.Packed.{refusedWord, clockWord, clockValue, countWord, rateWord, rateAt, addressWord, classOf};
 use types::card::AddressAnswer;
 use types::card::CardCapacity;
 use types::card::block_address;
@@ -15,6 +15,7 @@ use types::clock::ClockAnswer;
 use types::clock::Hertz;
 use types::clock::clock_setting;
 use types::error::Error;
+use types::error::Field;
 use types::register::BlockCount;
 use types::register::CountAnswer;
 use types::register::RateAnswer;
@@ -23,9 +24,9 @@ use types::register::block_count;
 use types::register::transfer_rate;
 
 fn refused(error: Error) -> u64
-    ensures { λ r. ⌜ r ≡ packed (errorTold error .number) 0 ⌝ }
+    ensures { λ r. ⌜ r ≡ refusedWord error ⌝ }
 {
-    error.number() as u64 * 0x100_0000_0000_0000
+    error.number() as u64 * 0x100_0000_0000_0000 + error.word() as u64
 }
 
 fn clock_value(clock: Clock) -> u64
@@ -80,7 +81,7 @@ pub extern "C" fn boresacu_transfer_rate(encoded: u32) -> u64
     ensures { λ r. ⌜ r ≡ rateWord (rateAt encoded) ⌝ }
 {
     if encoded > 255 {
-        return refused(Error::UnsupportedCardType);
+        return refused(Error::UnsupportedCardType(Field::RateReservedBit));
     }
     let answer = transfer_rate(encoded as u8);
     match answer {

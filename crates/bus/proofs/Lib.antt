@@ -1,3 +1,4 @@
 pub mod Bounds
 pub mod Delays
+pub mod Shown
 pub mod Walks

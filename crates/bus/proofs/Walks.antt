@@ -1,5 +1,5 @@
--- Commands, ready waits and data phases hold nothing new, and are never refused with BadClock; until a reset no row of theirs is
--- the last reset row. So they obey every rule that allows the other errors, and such rows.
+-- Commands, ready waits and data phases hold nothing new, and are never refused with UnsupportedCardType or BadClock; until a
+-- reset no row of theirs is the last reset row. So they obey every rule that allows the other errors, and such rows.
 use Prim.Native.Nat.{ℕ}
 use mathlib.Core.Bool.{Bool, true, false, cond, not, _&&_, _||_}
 use mathlib.Core.List.{List, [], _∷_}
@@ -9,6 +9,7 @@ use lib.Dec.{eqb}
 use Rattle.types.specs.declared.config.Config.{Config}
 use Rattle.types.specs.declared.error.Error.{Error}
 use Rattle.types.specs.declared.error.Error.the-variants as E
+use Rattle.types.specs.declared.error.Field.the-variants.{AppCommand}
 use Rattle.types.specs.declared.status.DataAnswer.the-variants.{Failed}
 use Rattle.types.specs.Answer.{errorTold}
 use Rattle.types.specs.Bits.{clear}
@@ -29,9 +30,18 @@ use Rattle.bus.specs.Command.{formOf, issue, pollCompletion, waitComplet
 use Rattle.bus.specs.Ready.{retryDelay, readStatus, tryReady, waitReady}
 use Rattle.bus.specs.Transfer.{Polled, arm, startData, heeded, clean, pollTransfer, drained, settle, dataComplete, waitData, receive, closeGate, stopTransmission, endData, transferData, blockingData}
 
--- an error other than BadClock
+-- an error other than UnsupportedCardType and BadClock
 abbrev pub Other : Error → Type 0
-Other e = errorTold e .number ≡ 17 → ⊥
+Other e = (eqb (errorTold e .number) 13 || eqb (errorTold e .number) 17) ≡ false
+
+pub unequal : _≡_ {A = Bool} true false → ⊥
+unequal e = let z : _≡_ {A = ℕ} 1 0 = cc in omega arith
+
+pub not-13 : (e : Error) → Other e → errorTold e .number ≡ 13 → ⊥
+not-13 e o z = let no : _≡_ {A = Bool} true false = rw z at o in unequal no
+
+pub not-17 : (e : Error) → Other e → errorTold e .number ≡ 17 → ⊥
+not-17 e o z = let no : _≡_ {A = Bool} true false = rw z at o in unequal no
 
 -- a row other than the last of the reset rows
 abbrev pub Ordinary : Row → Type 0
@@ -48,39 +58,35 @@ module _ (rule : Rule) (others : (e : Error) → Other e → rule .refuses e) (r
 
   late : rule .refuses E.SoftwareTimeout
   unfolding errorTold
-  late = others E.SoftwareTimeout (λ z. omega arith)
+  late = others E.SoftwareTimeout refl
 
   timeout : rule .refuses E.Timeout
   unfolding errorTold
-  timeout = others E.Timeout (λ z. omega arith)
+  timeout = others E.Timeout refl
 
   crc : rule .refuses E.Crc
   unfolding errorTold
-  crc = others E.Crc (λ z. omega arith)
+  crc = others E.Crc refl
 
   mismatch : rule .refuses E.ResponseMismatch
   unfolding errorTold
-  mismatch = others E.ResponseMismatch (λ z. omega arith)
+  mismatch = others E.ResponseMismatch refl
 
   errors : (word : ℕ) → rule .refuses (E.CardStatus word)
   unfolding errorTold
-  errors word = others (E.CardStatus word) (λ z. omega arith)
+  errors word = others (E.CardStatus word) refl
 
   locked : rule .refuses E.CardLocked
   unfolding errorTold
-  locked = others E.CardLocked (λ z. omega arith)
+  locked = others E.CardLocked refl
 
   incomplete : rule .refuses E.IncompleteTransfer
   unfolding errorTold
-  incomplete = others E.IncompleteTransfer (λ z. omega arith)
+  incomplete = others E.IncompleteTransfer refl
 
   dma : rule .refuses E.Dma
   unfolding errorTold
-  dma = others E.Dma (λ z. omega arith)
-
-  pub unsupported : rule .refuses E.UnsupportedCardType
-  unfolding errorTold
-  unsupported = others E.UnsupportedCardType (λ z. omega arith)
+  dma = others E.Dma refl
 
   pub idle-obeys : (limit : ℕ) (transfer : Bool) → Obeys rule Nothing (waitIdle limit transfer)
   unfolding waitIdle
@@ -119,9 +125,9 @@ module _ (rule : Rule) (others : (e : Error) → Other e → rule .refuses e) (r
       (λ _. on-closing (inner-obeys limit index argument response) (λ ws. on-then (clken-obeys false) (λ _. on-give)) (clken-rows false)))
       (inner-obeys limit index argument response))
 
-  pub app-obeys : (limit rca : ℕ) → Obeys rule Nothing (appCommand limit rca)
+  pub app-obeys : rule .refuses (E.UnsupportedCardType AppCommand) → (limit rca : ℕ) → Obeys rule Nothing (appCommand limit rca)
   unfolding appCommand
-  app-obeys limit rca = on-then (command-obeys limit 55 _ _) (λ ws. on-ensure _ E.UnsupportedCardType unsupported)
+  app-obeys untaken limit rca = on-then (command-obeys limit 55 _ _) (λ ws. on-ensure _ _ untaken)
 
   pub retry-obeys : (source : ℕ) → Obeys rule Nothing (retryDelay source)
   unfolding retryDelay
@@ -153,7 +159,7 @@ module _ (rule : Rule) (others : (e : Error) → Other e → rule .refuses e) (r
 
   clean-obeys : (status : ℕ) → Obeys rule Nothing (clean status)
   unfolding clean dataOf Others errorTold
-  clean-obeys status = heeded-obeys status _ (λ z. omega arith, (λ z. omega arith, (λ z. omega arith, (λ z. omega arith, (λ z. omega arith, tt)))))
+  clean-obeys status = heeded-obeys status _ (refl, (refl, (refl, (refl, (refl, tt)))))
 
   poll-obeys : Obeys rule Polled pollTransfer
   unfolding pollTransfer

@@ -5,6 +5,7 @@ use mathlib.Core.List.{List, [], _∷_}
 use lib.Dec.{eqb}
 use lib.ListN.{getD}
 use Rattle.types.specs.declared.error.Error.the-variants as E
+use Rattle.types.specs.declared.error.Field.the-variants.{AppCommand}
 use Rattle.types.specs.Bits.{clear}
 use Rattle.tape.specs.declared.script.Reading.the-variants as Reading
 use Rattle.tape.specs.Plan.{Nothing, Plan, give, look, _then_, ensure, finally, until}
@@ -96,4 +97,4 @@ command limit index argument response =
 unfoldable pub appCommand : ℕ → ℕ → Plan Nothing
 appCommand limit rca =
     command limit 55 (rca * 2 ^ 16) R1
-    then λ ws. ensure (not (clear 0x20 (firstOf ws))) E.UnsupportedCardType
+    then λ ws. ensure (not (clear 0x20 (firstOf ws))) (E.UnsupportedCardType AppCommand)

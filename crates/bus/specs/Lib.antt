@@ -1,5 +1,6 @@
 pub mod Command
 pub mod Ready
 pub mod Clock
+pub mod Sent
 pub mod Transfer
 pub mod Cases

@@ -26,6 +26,7 @@ use tape::script;
 use tape::script::Sta;
 use tape::steps;
 use types::error::Error;
+use types::error::Field;
 use types::status::CardStatus;
 
 // The three rows of a command.
@@ -288,6 +289,6 @@ pub fn app_command(p: Progress, script: &[u32], rows: &mut [u64], limit: u32, rc
     progress::ensure(
         told.progress,
         status & CardStatus::APP_CMD != 0,
-        Error::UnsupportedCardType,
+        Error::UnsupportedCardType(Field::AppCommand),
     )
 }

@@ -83,7 +83,7 @@ module _ (host : Sdmmc) (s : List ℕ) (l : List Row) (e : Cause) where
       by : (b : Bool) → host .known ≡ b
           → Seen (passed (cond b (approach (appCommand (limitOf (host .settings)) (host .card .rca))) none) (host .line) s l) (statusCame host s l)
       by true k =
-          of-refused (starts-last approachRule s (tt {0}) (host .line) l (app-obeys approachRule (λ x o. tt) (λ row o. o) (limitOf (host .settings)) (host .card .rca)) tt)
+          of-refused (starts-last approachRule s (tt {0}) (host .line) l (app-obeys approachRule (λ x o. tt) (λ row o. o) tt (limitOf (host .settings)) (host .card .rca)) tt)
           (status-refused-in host s l k e r)
           (λ g. let same = status-early host s l k e g in (ap (λ (x : Came). x .rows) same, ap (λ (x : Came). x .list) same))
           (λ g. after-reset (status-refused-in-data host s l k e g r))

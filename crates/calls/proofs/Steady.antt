@@ -75,7 +75,7 @@ unfolding comes statusCame
 status-keeps-the-clock host s l =
     by-cases (λ (x : Came). SameLine (host .line) (x .host .line)) (host .known) _ _
     (served-steady host (appCommand (limitOf (host .settings)) (host .card .rca)) (statusPlan host) (statusNext host) s l
-    (app-obeys (lineRule (host .line)) (λ e o. tt) (λ r o. tt) _ _) (data-steady host statusTransfer) (λ w ws. refl))
+    (app-obeys (lineRule (host .line)) (λ e o. tt) (λ r o. tt) tt _ _) (data-steady host statusTransfer) (λ w ws. refl))
     unmoved
 
 pub read-keeps-the-clock : (host : Sdmmc) (index bytes : ℕ) (s : List ℕ) (l : List Row) → SameLine (host .line) (comes host (S.read index bytes s l) .host .line)

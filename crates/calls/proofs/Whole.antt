@@ -16,11 +16,12 @@ use Rattle.tape.proofs.Words.{reach}
 use Rattle.init.specs.Initialise.{sourceOf, noCard}
 use Rattle.refusals.specs.Whole.{initWhole, readWhole, statusWhole}
 use Rattle.refusals.proofs.Ended.{Ended, initialise-ended, read-ended, status-ended}
+use Rattle.refusals.proofs.Fields.{CarriesField, initialise-field, read-field, status-field}
 use Rattle.refusals.proofs.Whole.{Whence17, wouldWrite, initialise-17, read-not-17, status-not-17}
 use Rattle.host.specs.declared.host.Sdmmc.{Sdmmc}
 use Rattle.host.specs.Calls.{judgedHost, made}
 use Rattle.calls.specs.Serve.{Call, initialise, read, status, comes, serve}
-use Rattle.calls.proofs.AnyList.{Clockable, made-clockable, made-host, settings-stay}
+use Rattle.calls.proofs.AnyList.{scriptOf, Clockable, made-clockable, made-host, settings-stay}
 
 -- a host is made of a source of 2 Hz or more
 made-source : (set : Settings) → made set .answer ≡ Answered.Accepted → 2 ≤ sourceOf set
@@ -81,3 +82,10 @@ module _ (set : Settings) (ok : made set .answer ≡ Answered.Accepted) (past : 
   never-by-the-delay (initialise frequency s l) = initialise-17 host from2 (clockable .0) (clockable .1) frequency s l
   never-by-the-delay (read index bytes s l) = λ r. read-not-17 host s l index bytes E.BadClock r refl
   never-by-the-delay (status s l) = λ r. status-not-17 host s l E.BadClock r refl
+
+-- A 13 carries the field of the step that refused, whatever the call and the host.
+pub carries-field : (host : Sdmmc) (c : Call) → CarriesField (scriptOf c) (comes host c)
+unfolding comes
+carries-field host (initialise frequency s l) = initialise-field host s l frequency
+carries-field host (read index bytes s l) = read-field host s l index bytes
+carries-field host (status s l) = status-field host s l

@@ -9,9 +9,6 @@ use lib.ListN.{length, getD, take, drop, replicate, length-append, length-take, 
 use borrow.Author.Tests.{lt-ltb}
 use Rattle.types.specs.declared.error.Answer.{Answer}
 use Rattle.types.specs.declared.error.Answer.the-variants as Answered
-use Rattle.types.specs.declared.error.Error.{Error}
-use Rattle.types.specs.declared.error.Error.the-variants as E
-use Rattle.types.specs.Answer.{errorTold, answerTold}
 use Rattle.text.specs.Digits.{decimalIn, decimalOf}
 use Rattle.text.specs.Typed.{typed}
 use Rattle.tape.proofs.Laws.{by-cases}
@@ -24,7 +21,8 @@ use Rattle.calls.specs.Serve.{comes, serve}
 use Rattle.calls.proofs.AnyList.{leaves, scriptOf, listOf}
 use Rattle.book.specs.Layout as L
 use Rattle.book.specs.Layout.{wordsOf, countOf, contentsOf, callsOf, bookIn, badWords, badBook, bookOf}
-use Rattle.book.specs.Lines.{hostLine, callLine}
+use Rattle.book.specs.Lines.{hostLine, answerText, callLine}
+use Rattle.book.proofs.Short.{answer-number, answer-short}
 use Rattle.book.proofs.Causes.{good-words, or-right}
 use Rattle.bench.specs.Bench.{settingsOf, callOf, numberOf, cameLine, linesFrom, whereAccepted, bookLines, printed}
 
@@ -46,37 +44,6 @@ digits : (d n : ℕ) → n < tens d → length (decimalOf n) ≤ d + 1
 unfolding decimalOf
 digits d n h = digits-in d (suc n) n h
 
-error-number : (e : Error) → errorTold e .number ≤ 20
-unfolding errorTold
-error-number E.Timeout = omega arith
-error-number E.SoftwareTimeout = omega arith
-error-number E.Crc = omega arith
-error-number E.StBitErr = omega arith
-error-number E.Overrun = omega arith
-error-number E.Underrun = omega arith
-error-number E.Dma = omega arith
-error-number E.IncompleteTransfer = omega arith
-error-number E.ResponseMismatch = omega arith
-error-number (E.CardStatus word) = omega arith
-error-number E.CardLocked = omega arith
-error-number E.UnsupportedCardVersion = omega arith
-error-number E.UnsupportedCardType = omega arith
-error-number E.UnsupportedBusWidth = omega arith
-error-number E.SignalingSwitchFailed = omega arith
-error-number E.NoCard = omega arith
-error-number E.BadClock = omega arith
-error-number E.InvalidConfig = omega arith
-error-number E.InvalidBufferLength = omega arith
-error-number E.AddressOutOfRange = omega arith
-
-number : (a : Answer) → numberOf a < 100
-unfolding answerTold
-number Answered.Accepted = omega arith
-number (Answered.Refused e) = omega (arith, error-number e)
-number Answered.ScriptEnded = omega arith
-number Answered.TraceFull = omega arith
-number Answered.BadBook = omega arith
-
 -- A line.
 
 joined : (xs ys : List ℕ) {m n : ℕ} → length xs ≤ m → length ys ≤ n → length (xs ++ ys) ≤ m + n
@@ -86,18 +53,17 @@ host-line : (a : Answer) → length (hostLine (numberOf a)) ≤ 15
 unfolding tens
 host-line a =
     joined (typed "host answer ") (decimalOf (numberOf a) ++ typed "\n") {m = 12} (omega arith)
-    (joined (decimalOf (numberOf a)) (typed "\n") {n = 1} (digits 1 (numberOf a) (number a)) (omega arith))
+    (joined (decimalOf (numberOf a)) (typed "\n") {n = 1} (digits 1 (numberOf a) (omega (arith, answer-number a))) (omega arith))
 
-call-line : (k : ℕ) (a : Answer) (words rows : ℕ) → k ≤ 64 → words ≤ 4096 → rows ≤ 4096 → length (callLine k (numberOf a) words rows) ≤ 34
+call-line : (k : ℕ) (a : Answer) (words rows : ℕ) → k ≤ 64 → words ≤ 4096 → rows ≤ 4096 → length (callLine k a words rows) ≤ 42
 unfolding tens
 call-line k a words rows hk hw hr =
-    let answer = typed " answer " ++ decimalOf (numberOf a) in
     let used = typed " words " ++ decimalOf words in
     let wrote = typed " rows " ++ decimalOf rows in
-    joined (decimalOf k ++ answer ++ used ++ wrote) (typed "\n") {n = 1}
-    (joined (decimalOf k ++ answer ++ used) wrote
-    (joined (decimalOf k ++ answer) used
-    (joined (decimalOf k) answer (digits 1 k (omega (arith, hk))) (joined (typed " answer ") (decimalOf (numberOf a)) {m = 8} (omega arith) (digits 1 (numberOf a) (number a))))
+    joined (decimalOf k ++ answerText a ++ used ++ wrote) (typed "\n") {n = 1}
+    (joined (decimalOf k ++ answerText a ++ used) wrote
+    (joined (decimalOf k ++ answerText a) used
+    (joined (decimalOf k) (answerText a) (digits 1 k (omega (arith, hk))) (answer-short a))
     (joined (typed " words ") (decimalOf words) {m = 7} (omega arith) (digits 3 words (omega (arith, hw)))))
     (joined (typed " rows ") (decimalOf rows) {m = 6} (omega arith) (digits 3 rows (omega (arith, hr)))))
     (omega arith)
@@ -110,7 +76,7 @@ script-of c = by-cases (λ (x : S.Call). scriptOf x ≡ c .script) (eqb (c .kind
 list-of : (c : L.Call) → listOf (callOf 4096 c) ≡ rowsIn (replicate 4096 0)
 list-of c = by-cases (λ (x : S.Call). listOf x ≡ rowsIn (replicate 4096 0)) (eqb (c .kind) 1) _ _ refl (by-cases (λ (x : S.Call). listOf x ≡ rowsIn (replicate 4096 0)) (eqb (c .kind) 2) _ _ refl refl)
 
-came-line : (host : Sdmmc) (c : L.Call) (k : ℕ) → k ≤ 64 → length (c .script) ≤ 4096 → length (cameLine k (comes host (callOf 4096 c))) ≤ 34
+came-line : (host : Sdmmc) (c : L.Call) (k : ℕ) → k ≤ 64 → length (c .script) ≤ 4096 → length (cameLine k (comes host (callOf 4096 c))) ≤ 42
 came-line host c k hk hs =
     let left = leaves host (callOf 4096 c) in
     let used = rw (script-of c) at (left .words) in
@@ -124,7 +90,7 @@ data Short : List L.Call → Type 0 where
   more : (c : L.Call) (cs : List L.Call) → length (c .script) ≤ 4096 → Short cs → Short (c ∷ cs)
 
 lines : (host : Sdmmc) (k : ℕ) (cs : List L.Call) → Short cs → k + length cs ≤ 65
-    → length (linesFrom k (serve host (map (callOf 4096) cs) .came)) ≤ 34 * length cs
+    → length (linesFrom k (serve host (map (callOf 4096) cs) .came)) ≤ 42 * length cs
 unfolding serve linesFrom
 lines host k [] done h = omega arith
 lines host k (c ∷ cs) (more _ _ short rest) h =

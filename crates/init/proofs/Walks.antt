@@ -16,6 +16,8 @@ use Rattle.types.specs.declared.clock.Hertz.{Hertz}
 use Rattle.types.specs.declared.clock.ClockAnswer.the-variants as Clocked
 use Rattle.types.specs.declared.error.Error.{Error}
 use Rattle.types.specs.declared.error.Error.the-variants as E
+use Rattle.types.specs.declared.error.Field.{Field}
+use Rattle.types.specs.declared.error.Field.the-variants.{CsdVersion, BlockLength, RateUnit, RateValue, RateReservedBit}
 use Rattle.types.specs.declared.register.BlockCount.{BlockCount}
 use Rattle.types.specs.declared.register.CountAnswer.{CountAnswer}
 use Rattle.types.specs.declared.register.CountAnswer.the-variants as Counted
@@ -33,7 +35,7 @@ use Rattle.tape.specs.Steps.{holdGated, holdClock, holdSignalling, resetControl
 use Rattle.tape.proofs.Walk.{Rule, Obeys, on-handle, on-rows, on-closing, on-end, on-give, on-fail, on-then, on-look, on-hold, on-test, on-row, on-ensure, on-until}
 use Rattle.bus.specs.Clock.{configureClock, clockDelay}
 use Rattle.bus.proofs.Delays.{Fair, fair, delay-is-a-row}
-use Rattle.bus.proofs.Walks.{Other, Ordinary, unsupported, clken-obeys, command-obeys, app-obeys, retry-obeys, ready-obeys, configure-obeys, reset-rows, data-obeys}
+use Rattle.bus.proofs.Walks.{Other, not-17, Ordinary, clken-obeys, command-obeys, app-obeys, retry-obeys, ready-obeys, configure-obeys, reset-rows, data-obeys}
 use Rattle.init.specs.declared.settings.Settings.{Settings}
 use Rattle.init.specs.Initialise.{sourceOf, limitOf, version, timedOut, late, cardVersion, powerOn, beginInit, powerUp, poweredUp, tryPowerUp, waitPowerUp}
 use Rattle.init.specs.Initialise.{counted, select, publish, identify, blockLength, readScr, setWidth, clocked, setClock, rated, transferClock}
@@ -55,25 +57,31 @@ clockRule set =
     }
 
 -- the capacity and the rate are refused with UnsupportedCardType alone
-count-refused : (csd : ℕ) (e : Error) → countOf csd ≡ Counted.Refused e → e ≡ E.UnsupportedCardType
+count-refused : (csd : ℕ) (e : Error) → countOf csd ≡ Counted.Refused e → (field : Field) × (e ≡ E.UnsupportedCardType field)
 unfolding countOf
 count-refused csd e r = by (eqb (bits csd 127 126) 0) (ltb (bits csd 83 80) 9 || ltb 11 (bits csd 83 80)) (eqb (bits csd 127 126) 1) _ _ r
   where
     by : (a b c : Bool) (m n : BlockCount)
-        → cond a (cond b (Counted.Refused E.UnsupportedCardType) (Counted.Blocks m)) (cond c (Counted.Blocks n) (Counted.Refused E.UnsupportedCardType)) ≡ Counted.Refused e
-        → e ≡ E.UnsupportedCardType
-    by true true c m n r = cc
+        → cond a (cond b (Counted.Refused (E.UnsupportedCardType BlockLength)) (Counted.Blocks m)) (cond c (Counted.Blocks n) (Counted.Refused (E.UnsupportedCardType CsdVersion)))
+        ≡ Counted.Refused e
+        → (field : Field) × (e ≡ E.UnsupportedCardType field)
+    by true true c m n r = (BlockLength, cc)
     by true false c m n r = let z : _≡_ {A = ℕ} 0 1 = cc in absurd (omega arith)
     by false b true m n r = let z : _≡_ {A = ℕ} 0 1 = cc in absurd (omega arith)
-    by false b false m n r = cc
+    by false b false m n r = (CsdVersion, cc)
 
-rate-refused : (byte : ℕ) (e : Error) → rateOf byte ≡ Rated.Refused e → e ≡ E.UnsupportedCardType
+rate-refused : (byte : ℕ) (e : Error) → rateOf byte ≡ Rated.Refused e → (field : Field) × (e ≡ E.UnsupportedCardType field)
 unfolding rateOf
-rate-refused byte e r = by (bit byte 7 || ltb 3 (bits byte 2 0) || eqb (bits byte 6 3) 0) _ r
+rate-refused byte e r = by (bit byte 7) (ltb 3 (bits byte 2 0)) (eqb (bits byte 6 3) 0) _ r
   where
-    by : (a : Bool) (n : ℕ) → cond a (Rated.Refused E.UnsupportedCardType) (Rated.Rate n) ≡ Rated.Refused e → e ≡ E.UnsupportedCardType
-    by true n r = cc
-    by false n r = let z : _≡_ {A = ℕ} 0 1 = cc in absurd (omega arith)
+    by : (a b c : Bool) (n : ℕ)
+        → cond a (Rated.Refused (E.UnsupportedCardType RateReservedBit))
+        (cond b (Rated.Refused (E.UnsupportedCardType RateUnit)) (cond c (Rated.Refused (E.UnsupportedCardType RateValue)) (Rated.Rate n))) ≡ Rated.Refused e
+        → (field : Field) × (e ≡ E.UnsupportedCardType field)
+    by true b c n r = (RateReservedBit, cc)
+    by false true c n r = (RateUnit, cc)
+    by false false true n r = (RateValue, cc)
+    by false false false n r = let z : _≡_ {A = ℕ} 0 1 = cc in absurd (omega arith)
 
 module _ (set : Settings) (from2 : 2 ≤ sourceOf set) where
   rule : Rule
@@ -81,7 +89,7 @@ module _ (set : Settings) (from2 : 2 ≤ sourceOf set) where
 
   others : (e : Error) → Other e → rule .refuses e
   unfolding rule
-  others e o = λ z. absurd (o z)
+  others e o = λ z. absurd (not-17 e o z)
 
   row-any : (r : Row) → rule .writes r
   unfolding rule
@@ -92,26 +100,27 @@ module _ (set : Settings) (from2 : 2 ≤ sourceOf set) where
 
   waits : rule .refuses E.SoftwareTimeout
   unfolding errorTold
-  waits = others E.SoftwareTimeout (λ z. omega arith)
+  waits = others E.SoftwareTimeout refl
 
   oldVersion : rule .refuses E.UnsupportedCardVersion
   unfolding errorTold
-  oldVersion = others E.UnsupportedCardVersion (λ z. omega arith)
+  oldVersion = others E.UnsupportedCardVersion refl
 
   mismatch : rule .refuses E.ResponseMismatch
   unfolding errorTold
-  mismatch = others E.ResponseMismatch (λ z. omega arith)
+  mismatch = others E.ResponseMismatch refl
 
   width : rule .refuses E.UnsupportedBusWidth
   unfolding errorTold
-  width = others E.UnsupportedBusWidth (λ z. omega arith)
+  width = others E.UnsupportedBusWidth refl
 
   switching : rule .refuses E.SignalingSwitchFailed
   unfolding errorTold
-  switching = others E.SignalingSwitchFailed (λ z. omega arith)
+  switching = others E.SignalingSwitchFailed refl
 
-  kind : rule .refuses E.UnsupportedCardType
-  kind = unsupported rule others any
+  kind : (field : Field) → rule .refuses (E.UnsupportedCardType field)
+  unfolding rule errorTold
+  kind field = λ z. absurd (omega arith)
 
   delay-obeys : (clock cycles : ℕ) → Fair (sourceOf set) clock → cycles ≤ 80 → Obeys rule Nothing (clockDelay (sourceOf set) clock cycles)
   delay-obeys clock cycles f h = rw (delay-is-a-row (sourceOf set) cycles clock f h) (on-row _ _ (row-any _))
@@ -139,8 +148,8 @@ module _ (set : Settings) (from2 : 2 ≤ sourceOf set) where
   power-up-obeys version2 =
       on-until _ _ waits
       (on-then
-      (on-then (app-obeys rule others any _ 0)
-      (λ _. on-then (command-obeys rule others any _ 41 _ _) (λ ws. on-then (on-ensure _ E.UnsupportedCardType kind) (λ _. on-give))))
+      (on-then (app-obeys rule others any (kind _) _ 0)
+      (λ _. on-then (command-obeys rule others any _ 41 _ _) (λ ws. on-then (on-ensure _ _ (kind _)) (λ _. on-give))))
       (λ ocr. on-test (poweredUp ocr) on-give (on-then (retry-obeys rule others any _) (λ _. on-give))))
 
   counted-obeys : (csd : ℕ) → Obeys rule BlockCount (counted (countOf csd))
@@ -148,14 +157,14 @@ module _ (set : Settings) (from2 : 2 ≤ sourceOf set) where
     where
       by : (a : CountAnswer) → countOf csd ≡ a → Obeys rule BlockCount (counted a)
       by (Counted.Blocks n) g = on-give
-      by (Counted.Refused e) g = on-fail (rw (count-refused csd e g) kind)
+      by (Counted.Refused e) g = on-fail (let told = count-refused csd e g in rw (told .1) (kind (told .0)))
 
   rated-obeys : (byte : ℕ) → Obeys rule ℕ (rated (rateOf byte))
   rated-obeys byte = by (rateOf byte) refl
     where
       by : (a : RateAnswer) → rateOf byte ≡ a → Obeys rule ℕ (rated a)
       by (Rated.Rate n) g = on-give
-      by (Rated.Refused e) g = on-fail (rw (rate-refused byte e g) kind)
+      by (Rated.Refused e) g = on-fail (let told = rate-refused byte e g in rw (told .1) (kind (told .0)))
 
   identify-obeys : (ocr : ℕ) → Obeys rule Card (identify (limitOf set) ocr)
   unfolding identify publish select
@@ -164,7 +173,7 @@ module _ (set : Settings) (from2 : 2 ≤ sourceOf set) where
       (λ cid. on-then (on-then (command-obeys rule others any _ 3 _ _) (λ ws. on-give))
       (λ rca. on-then (on-ensure _ E.ResponseMismatch mismatch)
       (λ _. on-then (command-obeys rule others any _ 9 _ _)
-      (λ csd. on-then (on-ensure _ E.UnsupportedCardType kind)
+      (λ csd. on-then (on-ensure _ _ (kind _))
       (λ _. on-then (counted-obeys _) (λ blocks. on-then (command-obeys rule others any _ 7 _ _) (λ _. on-give)))))))
 
   block-length-obeys : (class : CardCapacity) → Obeys rule Nothing (blockLength (limitOf set) class)
@@ -177,13 +186,13 @@ module _ (set : Settings) (from2 : 2 ≤ sourceOf set) where
   scr-obeys card =
       on-then (ready-obeys rule others any _ _ _)
       (λ _. on-then (block-length-obeys (card .«card_type»))
-      (λ _. on-then (app-obeys rule others any _ _) (λ _. on-then (data-obeys rule others any row-any _ _ _ _) (λ ws. on-give))))
+      (λ _. on-then (app-obeys rule others any (kind _) _ _) (λ _. on-then (data-obeys rule others any row-any _ _ _ _) (λ ws. on-give))))
 
   width-obeys : (rca scr : ℕ) → Obeys rule Nothing (setWidth set rca scr)
   unfolding setWidth
   width-obeys rca scr =
       on-then (on-ensure _ E.UnsupportedBusWidth width)
-      (λ _. on-then (app-obeys rule others any _ _) (λ _. on-then (command-obeys rule others any _ 6 _ _) (λ _. on-give)))
+      (λ _. on-then (app-obeys rule others any (kind _) _ _) (λ _. on-then (command-obeys rule others any _ 6 _ _) (λ _. on-give)))
 
   hold-clock-obeys : (clock : Hertz) → Fair (sourceOf set) (clock .0) → Obeys rule Nothing (holdClock clock)
   unfolding holdClock rule

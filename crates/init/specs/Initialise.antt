@@ -15,6 +15,7 @@ use Rattle.types.specs.declared.clock.ClockAnswer.{ClockAnswer}
 use Rattle.types.specs.declared.clock.ClockAnswer.the-variants as Clocked
 use Rattle.types.specs.declared.error.Error.{Error}
 use Rattle.types.specs.declared.error.Error.the-variants as E
+use Rattle.types.specs.declared.error.Field.the-variants.{CsdAndOcr, Voltage}
 use Rattle.types.specs.declared.register.BlockCount.{BlockCount}
 use Rattle.types.specs.declared.register.CountAnswer.{CountAnswer}
 use Rattle.types.specs.declared.register.CountAnswer.the-variants as Counted
@@ -61,7 +62,7 @@ timedOut E.ResponseMismatch = false
 timedOut (E.CardStatus word) = false
 timedOut E.CardLocked = false
 timedOut E.UnsupportedCardVersion = false
-timedOut E.UnsupportedCardType = false
+timedOut (E.UnsupportedCardType field) = false
 timedOut E.UnsupportedBusWidth = false
 timedOut E.SignalingSwitchFailed = false
 timedOut E.NoCard = false
@@ -93,12 +94,12 @@ beginInit set initial =
     then λ _. command (limitOf set) 0 0 None
     then λ _. cardVersion (limitOf set)
 
--- ACMD41, with the high capacity bit for a card of version 2; no voltage in common gives 13
+-- ACMD41, with the high capacity bit for a card of version 2; no voltage in common gives 13, field 7
 unfoldable pub powerUp : ℕ → Bool → Plan ℕ
 powerUp limit version2 =
     appCommand limit 0
     then λ _. command limit 41 (0x0030_0000 + cond version2 0x4000_0000 0) R3
-    then λ ws. ensure (not (clear 0x0030_0000 (firstOf ws))) E.UnsupportedCardType
+    then λ ws. ensure (not (clear 0x0030_0000 (firstOf ws))) (E.UnsupportedCardType Voltage)
     then λ _. give (firstOf ws)
 
 -- bit 31: the card has powered up
@@ -158,10 +159,10 @@ abbrev pub counted : CountAnswer → Plan BlockCount
 counted (Counted.Blocks n) = give n
 counted (Counted.Refused e) = fail e
 
--- CSD and OCR disagreeing gives 13; the capacity; CMD7
+-- CSD and OCR disagreeing gives 13, field 6; the capacity; CMD7
 unfoldable pub select : ℕ → ℕ → ℕ → List ℕ → List ℕ → Plan Card
 select limit ocr rca cid csd =
-    ensure (same (highCapacity ocr) (eqb (bits (wideOf (halvesOf csd)) 127 126) 1)) E.UnsupportedCardType
+    ensure (same (highCapacity ocr) (eqb (bits (wideOf (halvesOf csd)) 127 126) 1)) (E.UnsupportedCardType CsdAndOcr)
     then λ _. counted (countOf (wideOf (halvesOf csd)))
     then λ blocks. command limit 7 (rca * 2 ^ 16) R1
     then λ _. give (cardOf ocr rca cid csd blocks)

@@ -1,2 +1,3 @@
 pub mod Initialise
+pub mod Fields
 pub mod Lent

@@ -25,6 +25,7 @@ use tape::rows::Row;
 use types::card::Card;
 use types::card::CardCapacity;
 use types::error::Error;
+use types::error::Field;
 use types::register;
 use types::register::BlockCount;
 use types::register::CountAnswer;
@@ -84,7 +85,7 @@ fn power_up(p: Progress, script: &[u32], rows: &mut [u64], limit: u32, version2:
     let good = progress::ensure(
         answer.progress,
         ocr & Ocr::VOLTAGE != 0,
-        Error::UnsupportedCardType,
+        Error::UnsupportedCardType(Field::Voltage),
     );
     progress::give_word(good, ocr)
 }
@@ -254,7 +255,11 @@ fn select(
     ensures { λ r. ⌜ Gave (now (script .entry)) Card noCard (select limit ocr rca cid csd) (at p (rowsIn (now (rows .entry)))) (r .card) (at (r .progress) (rowsIn (now (rows .exit)))) ⌝ }
 {
     let told = words::response_value(csd);
-    let sound = progress::ensure(p, agree(ocr, told), Error::UnsupportedCardType);
+    let sound = progress::ensure(
+        p,
+        agree(ocr, told),
+        Error::UnsupportedCardType(Field::CsdAndOcr),
+    );
     let counted = count_blocks(sound, told);
     let count = counted.count;
     let selected = command::send(

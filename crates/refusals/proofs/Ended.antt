@@ -28,7 +28,7 @@ use Rattle.init.proofs.Walks.{clockRule, initialise-obeys}
 use Rattle.host.specs.declared.host.Sdmmc.{Sdmmc}
 use Rattle.host.specs.Calls.{Came, untouched, freshLine, initFrom, initialised, readCame, statusCame}
 use Rattle.refusals.specs.Whole.{initAt, initWhole, readWhole, statusWhole, answerOf, Ran}
-use Rattle.refusals.proofs.Whole.{wouldWrite, ended-pace, unclocked, read-walk, status-walk, steps-ran, read-ran, status-ran}
+use Rattle.refusals.proofs.Whole.{wouldWrite, ended-pace, plain, unclocked, read-walk, status-walk, steps-ran, read-ran, status-ran}
 
 -- a reading finds no word, and there is room for the rows before it
 pub record RunsOut (l : List Row) (c : Reach) : Type 0 where
@@ -100,7 +100,7 @@ module _ (host : Sdmmc) (s : List ℕ) (l : List Row) where
   pub read-ended : (index bytes : ℕ)
       → Ended s l (reach s (readWhole host index bytes) 0 (host .line)) (wouldWrite s [] (readWhole host index bytes) (host .line)) (readCame host index bytes s l)
   read-ended index bytes =
-      ended-at unclocked [] (readWhole host index bytes) (host .line) s l (readCame host index bytes s l) (read-ran host s l index bytes)
+      ended-at plain [] (readWhole host index bytes) (host .line) s l (readCame host index bytes s l) (read-ran host s l index bytes)
       (read-walk host index bytes .each) tt
 
   pub status-ended : Ended s l (reach s (statusWhole host) 0 (host .line)) (wouldWrite s [] (statusWhole host) (host .line)) (statusCame host s l)

@@ -6,3 +6,4 @@ pub mod DataRefusals
 pub mod Ended
 pub mod Leaves
 pub mod Whole
+pub mod Fields

@@ -40,7 +40,7 @@ use Rattle.bus.specs.Command.{appCommand}
 use Rattle.bus.specs.Ready.{waitReady}
 use Rattle.bus.proofs.Bounds.{gives-words}
 use Rattle.bus.proofs.Delays.{fair}
-use Rattle.bus.proofs.Walks.{Other, app-obeys, ready-obeys, data-obeys}
+use Rattle.bus.proofs.Walks.{Other, not-13, not-17, app-obeys, ready-obeys, data-obeys}
 use Rattle.init.specs.Initialise.{sourceOf, limitOf, noCard, initialise}
 use Rattle.init.proofs.Walks.{clockRule, initialise-obeys}
 use Rattle.host.specs.declared.host.Sdmmc.{Sdmmc}
@@ -181,7 +181,7 @@ status-room host s l = room [] (statusWhole host) (host .line) s l _ (status-ran
 
 -- 17, from what holds along a call's plan.
 
-refused-pace : (q : Pace) (e : Error) → answerOf q ≡ Answered.Refused e → q ≡ Stopped (Refused e)
+pub refused-pace : (q : Pace) (e : Error) → answerOf q ≡ Answered.Refused e → q ≡ Stopped (Refused e)
 refused-pace Going e r = let z : _≡_ {A = ℕ} 0 1 = cc in absurd (omega arith)
 refused-pace (Stopped (Refused x)) e r = let same : x ≡ e = cc in rw same
 refused-pace (Stopped ScriptEnded) e r = let z : _≡_ {A = ℕ} 0 1 = cc in absurd (omega arith)
@@ -197,59 +197,70 @@ allowed-error : {A : Type 0} {rule : Rule} {s : List ℕ} {x : Came} {y : After 
     → (e : Error) → x .answer ≡ Answered.Refused e → rule .refuses e
 allowed-error ran o e r = o .refused e (refused-pace _ e (sym (ran .answer) ∙ r))
 
--- reads and status calls are refused with no BadClock
+-- a rule about refusals alone
+abbrev pub refusalRule : (Error → Type 0) → Rule
+refusalRule R = record { holds = λ h. Unit {0}; writes = λ r. Unit {0}; refuses = R; noted = λ r h i. tt }
+
+-- a read is refused with neither UnsupportedCardType nor BadClock, a status call not with BadClock
+abbrev pub plain : Rule
+plain = refusalRule Other
+
 abbrev pub unclocked : Rule
-unclocked = record { holds = λ h. Unit {0}; writes = λ r. Unit {0}; refuses = Other; noted = λ r h i. tt }
+unclocked = refusalRule (λ e. errorTold e .number ≡ 17 → ⊥)
 
 units-other : (class : CardCapacity) (index : ℕ) (e : Error) → unitsOf class index ≡ Address.Refused e → Other e
 unfolding unitsOf errorTold
-units-other SDSC index e r z = by (ltb (512 * index) (2 ^ 32)) r
+units-other SDSC index e r = by (ltb (512 * index) (2 ^ 32)) r
   where
-    by : (b : Bool) → cond b (Address.Address (512 * index)) (Address.Refused E.AddressOutOfRange) ≡ Address.Refused e → ⊥
-    by true r = let no : _≡_ {A = ℕ} 0 1 = cc in omega arith
-    by false r = let same : e ≡ E.AddressOutOfRange = cc in omega (arith, rw same at z)
-units-other SDHC index e r z = let no : _≡_ {A = ℕ} 0 1 = cc in omega arith
+    by : (b : Bool) → cond b (Address.Address (512 * index)) (Address.Refused E.AddressOutOfRange) ≡ Address.Refused e → Other e
+    by true r = let no : _≡_ {A = ℕ} 0 1 = cc in absurd (omega arith)
+    by false r = let same : e ≡ E.AddressOutOfRange = cc in rw same
+units-other SDHC index e r = let no : _≡_ {A = ℕ} 0 1 = cc in absurd (omega arith)
 
 address-other : (class : CardCapacity) (blocks index count : ℕ) (e : Error) → addressOf class blocks index count ≡ Address.Refused e → Other e
 unfolding addressOf errorTold
-address-other class blocks index count e r z = by (eqb count 0 || ltb 511 count) (ltb blocks (index + count)) r
+address-other class blocks index count e r = by (eqb count 0 || ltb 511 count) (ltb blocks (index + count)) r
   where
     by : (a b : Bool)
-        → cond a (Address.Refused E.InvalidBufferLength) (cond b (Address.Refused E.AddressOutOfRange) (unitsOf class index)) ≡ Address.Refused e → ⊥
-    by true b r = let same : e ≡ E.InvalidBufferLength = cc in omega (arith, rw same at z)
-    by false true r = let same : e ≡ E.AddressOutOfRange = cc in omega (arith, rw same at z)
-    by false false r = units-other class index e r z
+        → cond a (Address.Refused E.InvalidBufferLength) (cond b (Address.Refused E.AddressOutOfRange) (unitsOf class index)) ≡ Address.Refused e → Other e
+    by true b r = let same : e ≡ E.InvalidBufferLength = cc in rw same
+    by false true r = let same : e ≡ E.AddressOutOfRange = cc in rw same
+    by false false r = units-other class index e r
 
 module _ (host : Sdmmc) where
-  pub read-walk : (index bytes : ℕ) → Obeys unclocked (List ℕ) (readWhole host index bytes)
+  pub read-walk : (index bytes : ℕ) → Obeys plain (List ℕ) (readWhole host index bytes)
   unfolding readWhole readAt errorTold
   read-walk index bytes =
       on-test (host .known)
       (on-test (eqb (bytes % 512) 0)
       (at (addressOf (host .card .«card_type») (host .card .«block_count» .0) index (bytes / 512)) refl)
-      (on-fail (λ z. omega arith)))
-      (on-fail (λ z. omega arith))
+      (on-fail refl))
+      (on-fail refl)
     where
       at : (a : AddressAnswer) → addressOf (host .card .«card_type») (host .card .«block_count» .0) index (bytes / 512) ≡ a
-          → Obeys unclocked (List ℕ) (readAt host (bytes / 512) a)
+          → Obeys plain (List ℕ) (readAt host (bytes / 512) a)
       at (Address.Refused e) r = on-fail (address-other _ _ _ _ e r)
-      at (Address.Address a) r = on-then (ready-obeys unclocked (λ e o. o) (λ r o. tt) _ _ _) (λ _. data-obeys unclocked (λ e o. o) (λ r o. tt) (λ r. tt) _ _ _ _)
+      at (Address.Address a) r = on-then (ready-obeys plain (λ e o. o) (λ r o. tt) _ _ _) (λ _. data-obeys plain (λ e o. o) (λ r o. tt) (λ r. tt) _ _ _ _)
 
   pub status-walk : Obeys unclocked (List ℕ) (statusWhole host)
   unfolding statusWhole errorTold
   status-walk =
-      on-test (host .known) (on-then (app-obeys unclocked (λ e o. o) (λ r o. tt) _ _) (λ _. data-obeys unclocked (λ e o. o) (λ r o. tt) (λ r. tt) _ _ _ _)) (on-fail (λ z. omega arith))
+      on-test (host .known) (on-then (app-obeys unclocked not-17 (λ r o. tt) (λ z. omega arith) _ _) (λ _. data-obeys unclocked not-17 (λ r o. tt) (λ r. tt) _ _ _ _)) (on-fail (λ z. omega arith))
 
   module _ (s : List ℕ) (l : List Row) where
-    read-obeyed : (index bytes : ℕ) → Obeyed unclocked s 0 (run s [] (readWhole host index bytes) 0 0 (host .line) l)
-    read-obeyed index bytes = run-obeys unclocked s [] (readWhole host index bytes) 0 0 (host .line) l (read-walk index bytes .each) tt
+    read-obeyed : (index bytes : ℕ) → Obeyed plain s 0 (run s [] (readWhole host index bytes) 0 0 (host .line) l)
+    read-obeyed index bytes = run-obeys plain s [] (readWhole host index bytes) 0 0 (host .line) l (read-walk index bytes .each) tt
 
     status-obeyed : Obeyed unclocked s 0 (run s [] (statusWhole host) 0 0 (host .line) l)
     status-obeyed = run-obeys unclocked s [] (statusWhole host) 0 0 (host .line) l (status-walk .each) tt
 
     -- neither is refused with 17
     pub read-not-17 : (index bytes : ℕ) (e : Error) → readCame host index bytes s l .answer ≡ Answered.Refused e → errorTold e .number ≡ 17 → ⊥
-    read-not-17 index bytes = allowed-error (read-ran host s l index bytes) (read-obeyed index bytes)
+    read-not-17 index bytes e r = not-17 e (allowed-error (read-ran host s l index bytes) (read-obeyed index bytes) e r)
+
+    -- nor a read with 13
+    pub read-not-13 : (index bytes : ℕ) (e : Error) → readCame host index bytes s l .answer ≡ Answered.Refused e → errorTold e .number ≡ 13 → ⊥
+    read-not-13 index bytes e r = not-13 e (allowed-error (read-ran host s l index bytes) (read-obeyed index bytes) e r)
 
     pub status-not-17 : (e : Error) → statusCame host s l .answer ≡ Answered.Refused e → errorTold e .number ≡ 17 → ⊥
     status-not-17 = allowed-error (status-ran host s l) status-obeyed

@@ -18,13 +18,15 @@ use Rattle.tape.proofs.Laws.{by-cases}
 use Rattle.types.specs.Sd.{wideOf}
 use Rattle.types.specs.Answer.{flag}
 use Rattle.types.specs.declared.card.Card.{Card}
+use Rattle.types.specs.declared.error.Answer.{Answer}
 use Rattle.types.specs.declared.card.CardCapacity.{CardCapacity}
 use Rattle.types.specs.declared.card.CardCapacity.the-variants.{SDSC, SDHC}
 use Rattle.types.specs.declared.card.Signalling.{Signalling}
 use Rattle.types.specs.declared.card.Signalling.the-variants.{SDR12, SDR25}
 use Rattle.host.specs.declared.host.Sdmmc.{Sdmmc}
 use Rattle.book.specs.declared.layout.Asked.{Asked}
-use Rattle.book.specs.Lines.{callLine}
+use Rattle.book.specs.Lines.{answerText, callLine}
+use Rattle.book.proofs.Short.{answer-short}
 use Rattle.report.specs.Report.{wordsText, classText, recordText, signallingText, lineText, heldText, stateText}
 use Rattle.sheet.specs.Lines.{beginsText}
 use Rattle.events.specs.declared.event.Event.{Event}
@@ -197,11 +199,12 @@ begins-short number asked n k a b =
 twenty-digits : (n : ℕ) → n < 2 ^ 64 → length (decimalOf n) ≤ 20
 twenty-digits n h = digits-at-most 19 n (omega arith)
 
-pub called-short : (number answer words rows : ℕ) → number < 2 ^ 64 → answer < 2 ^ 64 → words < 2 ^ 64 → rows < 2 ^ 64
+pub called-short : (number : ℕ) (answer : Answer) (words rows : ℕ) → number < 2 ^ 64 → words < 2 ^ 64 → rows < 2 ^ 64
     → length (callLine number answer words rows) ≤ 512
-called-short number answer words rows n a w r =
-    rw (length-append, length-append, length-append, length-append, length-append, length-append, length-append)
-    (omega (arith, twenty-digits number n, twenty-digits answer a, twenty-digits words w, twenty-digits rows r))
+called-short number answer words rows n w r =
+    let few : length (answerText answer) ≤ 18 = answer-short answer in
+    rw (length-append, length-append, length-append, length-append, length-append, length-append, length-append, length-append)
+    (omega (arith, twenty-digits number n, rw (length-append, length-append) at few, twenty-digits words w, twenty-digits rows r))
 
 -- THE STATE: all but the clock, CLKCR and the blocks has digits of one number
 words-length : (n : ℕ) (words : List ℕ) → length (wordsText n words) ≡ 9 * n + 8

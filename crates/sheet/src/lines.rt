@@ -1,6 +1,5 @@
 // The lines of a call, each on a sheet that has room for it.
 ghost use Rattle.text.specs.Ink.{Laid};
-ghost use Rattle.types.specs.Answer.{answerTold};
 ghost use Rattle.book.specs.Lines.{callLine};
 ghost use Rattle.report.specs.Report.{stateText};
 ghost use Rattle.events.specs.Event.{eventText};
@@ -49,12 +48,11 @@ pub fn tell_event(sheet: Sheet, event: Event, out: &mut [u8]) -> Sheet
 // The line of a call that came to this.
 pub fn tell_called(sheet: Sheet, number: u32, called: Called, out: &mut [u8]) -> Sheet
     requires { ⌜ Fits sheet (now out) ⌝ }
-    ensures { λ r. ⌜ Tells (callLine number (answerTold (called .answer) .number) (called .words) (called .rows)) sheet (now (out .entry)) r (now (out .exit)) ⌝ }
+    ensures { λ r. ⌜ Tells (callLine number (called .answer) (called .words) (called .rows)) sheet (now (out .entry)) r (now (out .exit)) ⌝ }
 {
     let answer = called.answer;
     let turned = sheet.turned(out);
-    let told = answer.number();
-    let at = lines::put_call(out, turned.at, number, told, called.words, called.rows);
+    let at = lines::put_call(out, turned.at, number, answer, called.words, called.rows);
     turned.filled(at)
 }
 

@@ -16,6 +16,7 @@ use Rattle.types.specs.declared.clock.Clock.{Clock}
 use Rattle.types.specs.declared.clock.ClockAnswer.the-variants as Clocked
 use Rattle.types.specs.declared.error.Error.{Error}
 use Rattle.types.specs.declared.error.Error.the-variants as E
+use Rattle.types.specs.declared.error.Field.the-variants.{CsdAndOcr, Voltage, AppCommand}
 use Rattle.types.specs.declared.register.BlockCount.{BlockCount}
 use Rattle.types.specs.declared.register.CountAnswer.the-variants as Counted
 use Rattle.types.specs.declared.register.RateAnswer.the-variants as Rated
@@ -189,7 +190,7 @@ module _ (j : Job) (k : Known) (h : Line) where
 
       -- ACMD41
       module _ (n : ℕ) where
-        pub power-untaken : clear 0x20 (w .a) ≡ true → follows k ws (F.Refuses (Y.Failed E.UnsupportedCardType)) ≡ came (S.Power55 n)
+        pub power-untaken : clear 0x20 (w .a) ≡ true → follows k ws (F.Refuses (Y.Failed (E.UnsupportedCardType AppCommand))) ≡ came (S.Power55 n)
         unfolding followPlan sentSite refusal ensure handle plug
         power-untaken e = rw e
 
@@ -198,7 +199,7 @@ module _ (j : Job) (k : Known) (h : Line) where
         unfolding followPlan sentSite ensure handle plug
         power-taken e = rw e
 
-        pub power-none : clear 0x0030_0000 (w .a) ≡ true → follows k ws (F.Refuses (Y.Failed E.UnsupportedCardType)) ≡ came (S.Power41 n)
+        pub power-none : clear 0x0030_0000 (w .a) ≡ true → follows k ws (F.Refuses (Y.Failed (E.UnsupportedCardType Voltage))) ≡ came (S.Power41 n)
         unfolding followPlan sentSite refusal ensure handle plug
         power-none e = rw e
 
@@ -226,7 +227,7 @@ module _ (j : Job) (k : Known) (h : Line) where
       abbrev told : ℕ
       told = wideOf (halvesOf (listOf w))
 
-      pub csd-other : same (highCapacity (k .ocr)) (eqb (bits told 127 126) 1) ≡ false → follows k ws (F.Refuses (Y.Failed E.UnsupportedCardType)) ≡ came S.Cmd9
+      pub csd-other : same (highCapacity (k .ocr)) (eqb (bits told 127 126) 1) ≡ false → follows k ws (F.Refuses (Y.Failed (E.UnsupportedCardType CsdAndOcr))) ≡ came S.Cmd9
       unfolding followPlan sentSite refusal select ensure handle plug
       csd-other e = rw e
 
@@ -249,7 +250,7 @@ module _ (j : Job) (k : Known) (h : Line) where
       unfolding followPlan sentSite appCommand handle plug
       cmd16-on = refl
 
-      pub scr-untaken : clear 0x20 (w .a) ≡ true → follows k ws (F.Refuses (Y.Failed E.UnsupportedCardType)) ≡ came S.Scr55
+      pub scr-untaken : clear 0x20 (w .a) ≡ true → follows k ws (F.Refuses (Y.Failed (E.UnsupportedCardType AppCommand))) ≡ came S.Scr55
       unfolding followPlan sentSite refusal ensure handle plug
       scr-untaken e = rw e
 
@@ -257,7 +258,7 @@ module _ (j : Job) (k : Known) (h : Line) where
       unfolding followPlan sentSite getsSite rcaOf phaseOf transferOf ensure handle plug
       scr-taken e = rw e
 
-      pub width-untaken : clear 0x20 (w .a) ≡ true → follows k ws (F.Refuses (Y.Failed E.UnsupportedCardType)) ≡ came S.Width55
+      pub width-untaken : clear 0x20 (w .a) ≡ true → follows k ws (F.Refuses (Y.Failed (E.UnsupportedCardType AppCommand))) ≡ came S.Width55
       unfolding followPlan sentSite refusal ensure handle plug
       width-untaken e = rw e
 

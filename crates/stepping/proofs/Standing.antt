@@ -6,6 +6,7 @@ use mathlib.Core.List.{List}
 use Rattle.types.specs.Bits.{clear}
 use Rattle.types.specs.declared.card.CardCapacity.the-variants.{SDSC, SDHC}
 use Rattle.types.specs.declared.error.Error.the-variants as E
+use Rattle.types.specs.declared.error.Field.the-variants.{AppCommand}
 use Rattle.tape.specs.declared.progress.Line.{Line}
 use Rattle.tape.specs.declared.rows.Row.{Row}
 use Rattle.tape.specs.Plan.{give, refuse, fail, handle, ensure, until}
@@ -90,7 +91,7 @@ module _ (j : Job) (k : Known) (h : Line) where
   unready-selected ws e = refl
 
   -- CMD55 of a status call
-  pub app-untaken : (ws : List ℕ) (w : Words) → clear 0x20 (w .a) ≡ true → follows ws (F.Over (Z.Keeping (Y.Failed E.UnsupportedCardType))) ≡ next (plug (siteOf j k T.App) (give (listOf w))) h
+  pub app-untaken : (ws : List ℕ) (w : Words) → clear 0x20 (w .a) ≡ true → follows ws (F.Over (Z.Keeping (Y.Failed (E.UnsupportedCardType AppCommand)))) ≡ next (plug (siteOf j k T.App) (give (listOf w))) h
   unfolding followPlan endPlan siteOf ensure handle plug
   app-untaken ws w e = rw e
 

@@ -12,6 +12,7 @@ use Rattle.types.specs.declared.card.Card.{Card}
 use Rattle.types.specs.declared.card.Signalling.the-variants.{SDR25}
 use Rattle.types.specs.declared.clock.Clock.{Clock}
 use Rattle.types.specs.declared.error.Error.the-variants as E
+use Rattle.types.specs.declared.error.Field.the-variants.{Voltage, AppCommand}
 use Rattle.types.specs.declared.status.Scr.{Scr}
 use Rattle.tape.specs.Plan.{Nothing, Plan, give, refuse, look, _then_, refusing, ensure, until}
 use Rattle.tape.specs.Rows.{POWER}
@@ -98,11 +99,11 @@ module _ (host : Sdmmc) (initial : Clock) (frequency : ℕ) where
       (andThen (λ ocr. cond (poweredUp ocr) (give ocr) (powerUps v n)) powered)
 
   abbrev judgeOcr : List ℕ → Plan ℕ
-  judgeOcr ws = ensure (not (clear 0x0030_0000 (firstOf ws))) E.UnsupportedCardType then λ _. give (firstOf ws)
+  judgeOcr ws = ensure (not (clear 0x0030_0000 (firstOf ws))) (E.UnsupportedCardType Voltage) then λ _. give (firstOf ws)
 
   abbrev pub power55 : Bool → ℕ → Context Closing (List ℕ)
   power55 v n =
-      andThen (λ ws. ensure (not (clear 0x20 (firstOf ws))) E.UnsupportedCardType)
+      andThen (λ ws. ensure (not (clear 0x20 (firstOf ws))) (E.UnsupportedCardType AppCommand))
       (andThen (λ _. command limit 41 (0x0030_0000 + cond v 0x4000_0000 0) R3 then judgeOcr) (tried v n))
 
   abbrev pub power41 : Bool → ℕ → Context Closing (List ℕ)
@@ -166,7 +167,7 @@ module _ (host : Sdmmc) (initial : Clock) (frequency : ℕ) where
 
   abbrev pub scr55 : Card → Context Closing (List ℕ)
   scr55 card =
-      andThen (λ ws. ensure (not (clear 0x20 (firstOf ws))) E.UnsupportedCardType)
+      andThen (λ ws. ensure (not (clear 0x20 (firstOf ws))) (E.UnsupportedCardType AppCommand))
       (andThen
       (λ _. blockingData source (set .config) scrTransfer (card .rca)
       then λ ws. give (scrOf (getD ws 0 0) (getD ws 1 0)))
@@ -185,7 +186,7 @@ module _ (host : Sdmmc) (initial : Clock) (frequency : ℕ) where
 
   abbrev pub width55 : Card → Scr → Context Closing (List ℕ)
   width55 card scr =
-      andThen (λ ws. ensure (not (clear 0x20 (firstOf ws))) E.UnsupportedCardType)
+      andThen (λ ws. ensure (not (clear 0x20 (firstOf ws))) (E.UnsupportedCardType AppCommand))
       (andThen (λ _. command limit 6 (cond (set .wide) 2 0) R1 then λ _. give tt) (widened card scr))
 
   abbrev pub width6 : Card → Scr → Context Closing (List ℕ)
@@ -227,4 +228,4 @@ module _ (host : Sdmmc) where
 
   -- where CMD55 of a status call returns to
   abbrev pub app : Plan Closing → Context Closing (List ℕ)
-  app transfer = andThen (λ ws. ensure (not (clear 0x20 (firstOf ws))) E.UnsupportedCardType) (approached transfer)
+  app transfer = andThen (λ ws. ensure (not (clear 0x20 (firstOf ws))) (E.UnsupportedCardType AppCommand)) (approached transfer)

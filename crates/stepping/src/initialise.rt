@@ -41,6 +41,7 @@ use types::clock::ClockAnswer;
 use types::clock::Hertz;
 use types::clock::clock_setting;
 use types::error::Error;
+use types::error::Field;
 use types::register;
 use types::register::CountAnswer;
 use types::register::RateAnswer;
@@ -167,7 +168,7 @@ impl Job {
         ensures { λ r. ⌜ ((ws : List ℕ) (h : Line) → next (followPlan self known ws r) h ≡ next (plug (sentSite self known (Sent.Power55 left)) (give (listOf words))) h) ⌝ }
     {
         if words.a & CardStatus::APP_CMD == 0 {
-            return Follow::Refuses(Why::Failed(Error::UnsupportedCardType));
+            return Follow::Refuses(Why::Failed(Error::UnsupportedCardType(Field::AppCommand)));
         }
         let condition = identify::condition(known.version2);
         Follow::Sends(Sent::Power41(left), 41, condition, Response::R3)
@@ -179,7 +180,9 @@ impl Job {
     {
         let ocr = words.a;
         if ocr & Ocr::VOLTAGE == 0 {
-            return known.and(Follow::Refuses(Why::Failed(Error::UnsupportedCardType)));
+            return known.and(Follow::Refuses(Why::Failed(Error::UnsupportedCardType(
+                Field::Voltage,
+            ))));
         }
         if ocr & Ocr::POWERED_UP == 0 {
             return known.and(Follow::Tells(Writes::Retry(left)));
@@ -233,7 +236,7 @@ impl Job {
                 CountAnswer::Refused(error) => known.and(Follow::Refuses(Why::Failed(error))),
             }
         } else {
-            known.and(Follow::Refuses(Why::Failed(Error::UnsupportedCardType)))
+            known.and(Follow::Refuses(Why::Failed(Error::UnsupportedCardType(Field::CsdAndOcr))))
         }
     }
 
@@ -242,7 +245,7 @@ impl Job {
         ensures { λ r. ⌜ ((ws : List ℕ) (h : Line) → next (followPlan self known ws r) h ≡ next (plug (sentSite self known Sent.Scr55) (give (listOf words))) h) ⌝ }
     {
         if words.a & CardStatus::APP_CMD == 0 {
-            return Follow::Refuses(Why::Failed(Error::UnsupportedCardType));
+            return Follow::Refuses(Why::Failed(Error::UnsupportedCardType(Field::AppCommand)));
         }
         Follow::Gets(Gets::Scr)
     }
@@ -252,7 +255,7 @@ impl Job {
         ensures { λ r. ⌜ ((ws : List ℕ) (h : Line) → next (followPlan self known ws r) h ≡ next (plug (sentSite self known Sent.Width55) (give (listOf words))) h) ⌝ }
     {
         if words.a & CardStatus::APP_CMD == 0 {
-            return Follow::Refuses(Why::Failed(Error::UnsupportedCardType));
+            return Follow::Refuses(Why::Failed(Error::UnsupportedCardType(Field::AppCommand)));
         }
         let width = speed::width(self.host.settings.wide);
         Follow::Sends(Sent::Width6, 6, width, Response::R1)

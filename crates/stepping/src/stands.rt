@@ -42,6 +42,7 @@ use tape::progress::Line;
 use tape::script::Sta;
 use types::card::CardCapacity;
 use types::error::Error;
+use types::error::Field;
 use types::status::CardStatus;
 
 impl Job {
@@ -78,7 +79,9 @@ impl Job {
         match site {
             Site::App => {
                 if words.a & CardStatus::APP_CMD == 0 {
-                    known.and(Follow::Over(End::Keeping(Why::Failed(Error::UnsupportedCardType))))
+                    known.and(Follow::Over(End::Keeping(Why::Failed(Error::UnsupportedCardType(
+                        Field::AppCommand,
+                    )))))
                 } else {
                     known.and(Follow::Gets(Gets::Asked))
                 }

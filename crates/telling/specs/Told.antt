@@ -6,7 +6,6 @@ use mathlib.Core.List.{List}
 use mathlib.Core.Path.{_≡_}
 use lib.Dec.{eqb}
 use lib.ListN.{length, replicate}
-use Rattle.types.specs.Answer.{answerTold}
 use Rattle.text.specs.Ink.{inked, next}
 use Rattle.tape.specs.declared.rows.Row.{Row}
 use Rattle.tape.specs.Layout.{rowsIn}
@@ -78,7 +77,7 @@ begun host asked bytes = record { before = host; ahead = N.next (planOf host (as
 
 -- the last two lines of a call
 abbrev pub endsOn : ℕ → Called → Leaf → Leaf
-endsOn number c p = lined (stateText (c .host)) (lined (callLine number (answerTold (c .answer) .number) (c .words) (c .rows)) p)
+endsOn number c p = lined (stateText (c .host)) (lined (callLine number (c .answer) (c .words) (c .rows)) p)
 
 -- ALL OF A CALL, in the buffer from its start on
 abbrev pub callOut : ℕ → Sdmmc → List ℕ → Asked → ℕ → List Row → List ℕ → List ℕ

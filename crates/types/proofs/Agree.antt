@@ -16,10 +16,12 @@ use Rattle.types.specs.declared.register.CountAnswer.{CountAnswer}
 use Rattle.types.specs.declared.register.CountAnswer.the-variants as Count
 use Rattle.types.specs.declared.register.RateAnswer.the-variants as Rate
 use Rattle.types.specs.declared.error.Error.the-variants.{UnsupportedCardType, InvalidBufferLength, AddressOutOfRange}
+use Rattle.types.specs.declared.error.Field.{Field}
+use Rattle.types.specs.declared.error.Field.the-variants.{CsdVersion, BlockLength, RateUnit, RateValue, RateReservedBit}
 use Rattle.types.specs.Bits.{bits, bit}
 use Rattle.types.specs.Leaf.{countOf, rateOf, rateUnits, rateTenths, unitsOf, addressOf}
-use Rattle.types.specs.Sd.{Code, reserved, means, codeIn, Version, version1, version2, csdStructure, structures, readBlLen, blockLengths, cSize1, cSizeMult, cSize2, bytes1, bytes2, blocks1, blocksBy, sdCount}
-use Rattle.types.specs.Sd.{wideOf, transferUnits, timeValues, rateBy, sdRate, unitBytes, errorPlaces, lockedPlaces, appPlaces, shortErrorPlaces}
+use Rattle.types.specs.Sd.{Code, reserved, means, codeIn, Version, version1, version2, csdStructure, structures, readBlLen, blockLengths, cSize1, cSizeMult, cSize2, bytes1, bytes2, blocks1, blocksBy, sdCount, isReserved, lengthFault, atFault}
+use Rattle.types.specs.Sd.{wideOf, tranSpeed, transferUnits, timeValues, rateBy, sdRate, unitBytes, errorPlaces, lockedPlaces, appPlaces, shortErrorPlaces}
 use Rattle.types.specs.Words.{counted, halvesOf}
 use Rattle.types.proofs.Counted.{getD-counted}
 
@@ -60,14 +62,14 @@ abbrev blocks : ℕ → CountAnswer
 blocks n = Count.Blocks (record { 0 = n })
 
 module _ (csd : ℕ) where
-  version-1 : cond (ltb (readBlLen csd) 9 || ltb 11 (readBlLen csd)) (Count.Refused UnsupportedCardType)
+  version-1 : cond (ltb (readBlLen csd) 9 || ltb 11 (readBlLen csd)) (Count.Refused (UnsupportedCardType BlockLength))
       (blocks ((cSize1 csd + 1) * 2 ^ (cSizeMult csd + 2 + (readBlLen csd - 9))))
       ≡ blocks1 csd (codeIn blockLengths (readBlLen csd))
   unfolding blocks1 bytes1 by-length
   version-1 = rw (listed blockLengths by-length 16 length-codes (readBlLen csd) (omega arith)) (by (ltb (readBlLen csd) 9) (ltb 11 (readBlLen csd)) refl)
     where
       by : (short long : Bool) → ltb (readBlLen csd) 9 ≡ short
-          → cond (short || long) (Count.Refused UnsupportedCardType) (blocks ((cSize1 csd + 1) * 2 ^ (cSizeMult csd + 2 + (readBlLen csd - 9))))
+          → cond (short || long) (Count.Refused (UnsupportedCardType BlockLength)) (blocks ((cSize1 csd + 1) * 2 ^ (cSizeMult csd + 2 + (readBlLen csd - 9))))
           ≡ blocks1 csd (cond (short || long) reserved (means (2 ^ readBlLen csd)))
       by true long t = refl
       by false true t = refl
@@ -81,9 +83,9 @@ module _ (csd : ℕ) where
     where
       by : (one two : Bool)
           → cond one
-          (cond (ltb (readBlLen csd) 9 || ltb 11 (readBlLen csd)) (Count.Refused UnsupportedCardType)
+          (cond (ltb (readBlLen csd) 9 || ltb 11 (readBlLen csd)) (Count.Refused (UnsupportedCardType BlockLength))
           (blocks ((cSize1 csd + 1) * 2 ^ (cSizeMult csd + 2 + (readBlLen csd - 9)))))
-          (cond two (blocks ((cSize2 csd + 1) * 1024)) (Count.Refused UnsupportedCardType))
+          (cond two (blocks ((cSize2 csd + 1) * 1024)) (Count.Refused (UnsupportedCardType CsdVersion)))
           ≡ blocksBy csd (cond one (means version1) (cond two (means version2) reserved))
       by true two = version-1
       by false true = ap blocks (sym (half-megabytes (cSize2 csd + 1)))
@@ -134,13 +136,52 @@ rate byte =
     tenths = getD rateTenths (bits byte 6 3) 0
 
     by : (top over none : Bool)
-        → cond (top || over || none) (Rate.Refused UnsupportedCardType) (Rate.Rate (unit / 10 * tenths))
-        ≡ cond top (Rate.Refused UnsupportedCardType) (rateBy (cond over reserved (means (unit / 1_000))) (cond none reserved (means tenths)))
+        → cond top (Rate.Refused (UnsupportedCardType RateReservedBit))
+        (cond over (Rate.Refused (UnsupportedCardType RateUnit))
+        (cond none (Rate.Refused (UnsupportedCardType RateValue)) (Rate.Rate (unit / 10 * tenths))))
+        ≡ cond top (Rate.Refused (UnsupportedCardType RateReservedBit))
+        (rateBy (cond over reserved (means (unit / 1_000))) (cond none reserved (means tenths)))
     by true over none = refl
     by false true none = refl
     by false false true = refl
     by false false false =
         ap Rate.Rate (ap (λ (x : ℕ). x * tenths) (tens (bits byte 2 0)) ∙ scaled (unit / 1_000) tenths)
+
+-- Fields: what a capacity or a rate is refused for is at fault, by SD's codes.
+
+fault-of : {f g : Field} (csd : ℕ) → f ≡ g → atFault f csd ≡ true → atFault g csd ≡ true
+fault-of csd e h = rw (← e) h
+
+pub count-fault : (csd : ℕ) (field : Field) → countOf csd ≡ Count.Refused (UnsupportedCardType field) → atFault field csd ≡ true
+unfolding sdCount blocksBy blocks1 atFault lengthFault isReserved
+count-fault csd field e = by (codeIn structures (csdStructure csd)) refl (sym (capacity csd) ∙ e)
+  where
+    length : (code : Code ℕ) → codeIn blockLengths (readBlLen csd) ≡ code → codeIn structures (csdStructure csd) ≡ means version1
+        → blocks1 csd code ≡ Count.Refused (UnsupportedCardType field) → atFault field csd ≡ true
+    length reserved c v e = let same : BlockLength ≡ field = cc in fault-of csd same (rw (v, c))
+    length (means n) c v e = let z : _≡_ {A = ℕ} 0 1 = cc in absurd (omega arith)
+
+    by : (code : Code Version) → codeIn structures (csdStructure csd) ≡ code → blocksBy csd code ≡ Count.Refused (UnsupportedCardType field) → atFault field csd ≡ true
+    by reserved c e = let same : CsdVersion ≡ field = cc in fault-of csd same (rw c)
+    by (means version1) c e = length (codeIn blockLengths (readBlLen csd)) refl c e
+    by (means version2) c e = let z : _≡_ {A = ℕ} 0 1 = cc in absurd (omega arith)
+
+pub rate-fault : (csd : ℕ) (field : Field) → rateOf (tranSpeed csd) ≡ Rate.Refused (UnsupportedCardType field) → atFault field csd ≡ true
+unfolding sdRate rateBy atFault isReserved
+rate-fault csd field e = by (bit (tranSpeed csd) 7) refl (sym (rate (tranSpeed csd)) ∙ e)
+  where
+    codes : (unit value : Code ℕ) → codeIn transferUnits (bits (tranSpeed csd) 2 0) ≡ unit → codeIn timeValues (bits (tranSpeed csd) 6 3) ≡ value
+        → rateBy unit value ≡ Rate.Refused (UnsupportedCardType field) → atFault field csd ≡ true
+    codes reserved value u v e = let same : RateUnit ≡ field = cc in fault-of csd same (rw u)
+    codes (means k) reserved u v e = let same : RateValue ≡ field = cc in fault-of csd same (rw v)
+    codes (means k) (means t) u v e = let z : _≡_ {A = ℕ} 0 1 = cc in absurd (omega arith)
+
+    by : (top : Bool) → bit (tranSpeed csd) 7 ≡ top
+        → cond top (Rate.Refused (UnsupportedCardType RateReservedBit))
+        (rateBy (codeIn transferUnits (bits (tranSpeed csd) 2 0)) (codeIn timeValues (bits (tranSpeed csd) 6 3)))
+        ≡ Rate.Refused (UnsupportedCardType field) → atFault field csd ≡ true
+    by true t e = let same : RateReservedBit ≡ field = cc in fault-of csd same t
+    by false t e = codes (codeIn transferUnits (bits (tranSpeed csd) 2 0)) (codeIn timeValues (bits (tranSpeed csd) 6 3)) refl refl e
 
 -- Address: accepted exactly where 1 to 511 blocks are asked for, all on the card, and what stands for the bytes before the
 -- first of them, in SD's unit, fits 32 bits as the index does; and then it is that.

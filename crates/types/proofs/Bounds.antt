@@ -10,6 +10,7 @@ use borrow.Author.Tests.{ltb-false}
 use Rattle.types.specs.declared.register.BlockCount.{BlockCount}
 use Rattle.types.specs.declared.register.CountAnswer.the-variants.{Blocks, Refused}
 use Rattle.types.specs.declared.error.Error.the-variants.{UnsupportedCardType}
+use Rattle.types.specs.declared.error.Field.the-variants.{CsdVersion, BlockLength}
 use Rattle.types.specs.Bits.{bits}
 use Rattle.types.specs.Leaf.{countOf}
 
@@ -37,7 +38,7 @@ count-most csd n e = by (eqb (bits csd 127 126) 0) (ltb (bits csd 83 80) 9) (ltb
     two = (bits csd 69 48 + 1) * 1024
 
     by : (v short long w : Bool) → ltb 11 (bits csd 83 80) ≡ long
-        → cond v (cond (short || long) (Refused UnsupportedCardType) (Blocks (record { 0 = one }))) (cond w (Blocks (record { 0 = two })) (Refused UnsupportedCardType)) ≡ Blocks n
+        → cond v (cond (short || long) (Refused (UnsupportedCardType BlockLength)) (Blocks (record { 0 = one }))) (cond w (Blocks (record { 0 = two })) (Refused (UnsupportedCardType CsdVersion))) ≡ Blocks n
         → n .0 ≤ most v
     by true true long w h e = let z : _≡_ {A = ℕ} 0 1 = cc in absurd (omega arith)
     by true false true w h e = let z : _≡_ {A = ℕ} 0 1 = cc in absurd (omega arith)

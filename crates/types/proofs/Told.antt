@@ -7,7 +7,7 @@ use borrow.Author.Tests.{ltb-true, ltb-false, le-leb, lt-leb}
 use Rattle.types.specs.declared.card.CardCapacity.{CardCapacity}
 use Rattle.types.specs.declared.card.CardCapacity.the-variants.{SDSC, SDHC}
 use Rattle.types.specs.declared.config.Config.{Config}
-use Rattle.types.specs.Answer.{Told, errorTold, clockTold, countTold, sizeTold, rateTold, addressTold, configTold, dataTold}
+use Rattle.types.specs.Answer.{Told, fieldNumber, errorTold, clockTold, countTold, sizeTold, rateTold, addressTold, configTold, dataTold}
 use Rattle.types.specs.Leaf.{clockOf, firstMatch, dataOf, countOf, rateOf, unitsOf, addressOf, sizeOf}
 use Rattle.types.specs.Settings.{madeOf}
 use Rattle.types.specs.Rules.{clockRule, dataRule, countRule, rateRule, unitsRule, addressRule, sizeRule, madeRule}
@@ -44,11 +44,11 @@ from-9-to-11 l = by (ltb l 9) (ltb 11 l) refl refl
     by false false b a = rw (le-leb l 11 (ltb-false 11 l a), le-leb 9 l (ltb-false l 9 b))
 
 pub count : (csd : ℕ) → countTold (countOf csd) ≡ countRule csd
-unfolding countOf countTold errorTold countRule
+unfolding countOf countTold errorTold fieldNumber countRule
 count csd = simp (of-choice countTold, from-9-to-11, by-not)
 
 pub rate : (byte : ℕ) → rateTold (rateOf byte) ≡ rateRule byte
-unfolding rateOf rateTold errorTold rateRule
+unfolding rateOf rateTold errorTold fieldNumber rateRule
 rate byte = simp (of-choice rateTold)
 
 units : (class : CardCapacity) (index : ℕ) → addressTold (unitsOf class index) ≡ unitsRule class index

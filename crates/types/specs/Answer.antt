@@ -1,10 +1,12 @@
--- Document 01, 'Numbers of the answers': each answer's number, and the values that it carries.
+-- Document 01, 'Numbers of the answers', and P4 of document 02: each answer's number, and the values that it carries.
 use Prim.Native.Nat.{ℕ}
 use mathlib.Core.Bool.{Bool, true, false}
 use mathlib.Core.List.{List, [], _∷_}
 use lib.ListN.{getD}
 use Rattle.types.specs.declared.error.Error.{Error}
 use Rattle.types.specs.declared.error.Error.the-variants as E
+use Rattle.types.specs.declared.error.Field.{Field}
+use Rattle.types.specs.declared.error.Field.the-variants as F
 use Rattle.types.specs.declared.card.AddressAnswer.{AddressAnswer}
 use Rattle.types.specs.declared.card.AddressAnswer.the-variants as Address
 use Rattle.types.specs.declared.clock.ClockAnswer.{ClockAnswer}
@@ -34,6 +36,17 @@ told n vs = record { number = n; values = vs }
 abbrev pub carried : Told → ℕ
 carried t = getD (t .values) 0 0
 
+-- Document 02, P4: the field that made a card unsupported, 1 to 8 in its order
+unfoldable pub fieldNumber : Field → ℕ
+fieldNumber F.CsdVersion = 1
+fieldNumber F.BlockLength = 2
+fieldNumber F.RateUnit = 3
+fieldNumber F.RateValue = 4
+fieldNumber F.RateReservedBit = 5
+fieldNumber F.CsdAndOcr = 6
+fieldNumber F.Voltage = 7
+fieldNumber F.AppCommand = 8
+
 unfoldable pub errorTold : Error → Told
 errorTold E.Timeout = told 1 []
 errorTold E.SoftwareTimeout = told 2 []
@@ -47,7 +60,7 @@ errorTold E.ResponseMismatch = told 9 []
 errorTold (E.CardStatus word) = told 10 (word ∷ [])
 errorTold E.CardLocked = told 11 []
 errorTold E.UnsupportedCardVersion = told 12 []
-errorTold E.UnsupportedCardType = told 13 []
+errorTold (E.UnsupportedCardType field) = told 13 (fieldNumber field ∷ [])
 errorTold E.UnsupportedBusWidth = told 14 []
 errorTold E.SignalingSwitchFailed = told 15 []
 errorTold E.NoCard = told 16 []

@@ -1,11 +1,11 @@
--- Document 01, 'Cases on each side': K1 to K11, as one table of what the definitions give and what is due; and the bound of a
--- card's size.
+-- Document 01, 'Cases on each side': K1 to K11, as one table of what the definitions give and what is due: with the field at 13, of a
+-- CSD of structure 2 and of 3 too, and of rates that break two rules or three; and the bound of a card's size.
 use Prim.Native.Nat.{ℕ, _+_, _*_, _^_}
 use mathlib.Core.Bool.{true, false}
 use mathlib.Core.List.{List, [], _∷_, map}
 use mathlib.Core.Path.{_≡_, refl}
 use Rattle.types.specs.declared.card.CardCapacity.the-variants.{SDSC, SDHC}
-use Rattle.types.specs.Answer.{Told, told, errorTold, clockTold, countTold, rateTold, addressTold, sizeTold, dataTold}
+use Rattle.types.specs.Answer.{Told, told, fieldNumber, errorTold, clockTold, countTold, rateTold, addressTold, sizeTold, dataTold}
 use Rattle.types.specs.Leaf.{divisorOf, clockOf, countOf, rateOf, unitsOf, addressOf, sizeOf, firstMatch, dataOf}
 
 pub record Case : Type 0 where
@@ -33,15 +33,21 @@ table =
     ∷ (clockTold (clockOf 25_000_000 25_000_000 true) due told 0 (0 ∷ 1 ∷ 25_000_000 ∷ []))
     ∷ (countTold (countOf (csd1 9 0 0)) due told 0 (4 ∷ []))
     ∷ (countTold (countOf (csd1 11 4095 7)) due told 0 (8_388_608 ∷ []))
-    ∷ (countTold (countOf (csd1 8 0 0)) due told 13 [])
-    ∷ (countTold (countOf (csd1 12 0 0)) due told 13 [])
+    ∷ (countTold (countOf (csd1 8 0 0)) due told 13 (2 ∷ []))
+    ∷ (countTold (countOf (csd1 12 0 0)) due told 13 (2 ∷ []))
     ∷ (countTold (countOf (csd2 9 0)) due told 0 (1_024 ∷ []))
     ∷ (countTold (countOf (csd2 9 0x3f_ffff)) due told 0 (4_294_967_296 ∷ []))
     ∷ (rateTold (rateOf 0x32) due told 0 (25_000_000 ∷ []))
     ∷ (rateTold (rateOf 0x5a) due told 0 (50_000_000 ∷ []))
-    ∷ (rateTold (rateOf 0x02) due told 13 [])
-    ∷ (rateTold (rateOf 0xb2) due told 13 [])
-    ∷ (rateTold (rateOf 0x34) due told 13 [])
+    ∷ (rateTold (rateOf 0x02) due told 13 (4 ∷ []))
+    ∷ (rateTold (rateOf 0xb2) due told 13 (5 ∷ []))
+    ∷ (rateTold (rateOf 0x34) due told 13 (3 ∷ []))
+    ∷ (countTold (countOf (2 ^ 127)) due told 13 (1 ∷ []))
+    ∷ (countTold (countOf (3 * 2 ^ 126)) due told 13 (1 ∷ []))
+    ∷ (rateTold (rateOf 0x04) due told 13 (3 ∷ []))
+    ∷ (rateTold (rateOf 0x82) due told 13 (5 ∷ []))
+    ∷ (rateTold (rateOf 0xb4) due told 13 (5 ∷ []))
+    ∷ (rateTold (rateOf 0x84) due told 13 (5 ∷ []))
     ∷ (addressTold (addressOf SDSC 8_388_608 8_388_607 1) due told 0 (4_294_966_784 ∷ []))
     ∷ (addressTold (addressOf SDSC 8_388_608 8_388_607 2) due told 20 [])
     ∷ (addressTold (addressOf SDHC 4_294_967_296 4_294_967_295 1) due told 0 (4_294_967_295 ∷ []))
@@ -58,5 +64,5 @@ table =
     ∷ []
 
 pub cases : map (λ (c : Case). c .got) table ≡ map (λ (c : Case). c .due) table
-unfolding errorTold clockTold countTold rateTold addressTold sizeTold dataTold divisorOf clockOf countOf rateOf unitsOf addressOf sizeOf firstMatch dataOf
+unfolding fieldNumber errorTold clockTold countTold rateTold addressTold sizeTold dataTold divisorOf clockOf countOf rateOf unitsOf addressOf sizeOf firstMatch dataOf
 cases = refl

@@ -6,6 +6,7 @@ use lib.Dec.{eqb, ltb, leb}
 use lib.ListN.{getD}
 use Rattle.types.specs.declared.error.Error.{Error}
 use Rattle.types.specs.declared.error.Error.the-variants as E
+use Rattle.types.specs.declared.error.Field.the-variants as F
 use Rattle.types.specs.declared.clock.ClockAnswer.{ClockAnswer}
 use Rattle.types.specs.declared.clock.ClockAnswer.the-variants as Clock
 use Rattle.types.specs.declared.register.CountAnswer.{CountAnswer}
@@ -64,16 +65,16 @@ dataOf status =
     firstMatch status
     (rule 0x8 E.Timeout ∷ rule 0x2 E.Crc ∷ rule 0x20 E.Overrun ∷ rule 0x10 E.Underrun ∷ rule 0x200 E.StBitErr ∷ [])
 
--- Capacity. Bits 127:126 = 0: bits 83:80 = L in 9 to 11, else 13; count = (bits 73:62 + 1) * 2^(bits 49:47 + 2 + L - 9).
--- 127:126 = 1: (bits 69:48 + 1) * 1024. Otherwise 13
+-- Capacity. Bits 127:126 = 0: bits 83:80 = L in 9 to 11, else 13 (block length); count = (bits 73:62 + 1) * 2^(bits 49:47 + 2 + L - 9).
+-- 127:126 = 1: (bits 69:48 + 1) * 1024. Otherwise 13 (CSD version)
 unfoldable pub countOf : ℕ → CountAnswer
 countOf csd =
     let l = bits csd 83 80 in
     cond (eqb (bits csd 127 126) 0)
-    (cond (ltb l 9 || ltb 11 l) (Count.Refused E.UnsupportedCardType)
+    (cond (ltb l 9 || ltb 11 l) (Count.Refused (E.UnsupportedCardType F.BlockLength))
     (Count.Blocks (record { 0 = (bits csd 73 62 + 1) * 2 ^ (bits csd 49 47 + 2 + (l - 9)) })))
     (cond (eqb (bits csd 127 126) 1) (Count.Blocks (record { 0 = (bits csd 69 48 + 1) * 1024 }))
-    (Count.Refused E.UnsupportedCardType))
+    (Count.Refused (E.UnsupportedCardType F.CsdVersion)))
 
 -- Rate, of the byte in CSD bits 103:96
 abbrev pub rateUnits : List ℕ
@@ -82,11 +83,14 @@ rateUnits = 100_000 ∷ 1_000_000 ∷ 10_000_000 ∷ 100_000_000 ∷ []
 abbrev pub rateTenths : List ℕ
 rateTenths = 0 ∷ 10 ∷ 12 ∷ 13 ∷ 15 ∷ 20 ∷ 25 ∷ 30 ∷ 35 ∷ 40 ∷ 45 ∷ 50 ∷ 55 ∷ 60 ∷ 70 ∷ 80 ∷ []
 
--- bit 7 set, low three bits over 3, or bits 6:3 zero: 13. Else the unit divided by 10, times the value
+-- bit 7 set, low three bits over 3, or bits 6:3 zero: 13, and of several the first (P4: reserved bit, unit, value). Else the
+-- unit divided by 10, times the value
 unfoldable pub rateOf : ℕ → RateAnswer
 rateOf byte =
-    cond (bit byte 7 || ltb 3 (bits byte 2 0) || eqb (bits byte 6 3) 0) (Rate.Refused E.UnsupportedCardType)
-    (Rate.Rate (getD rateUnits (bits byte 2 0) 0 / 10 * getD rateTenths (bits byte 6 3) 0))
+    cond (bit byte 7) (Rate.Refused (E.UnsupportedCardType F.RateReservedBit))
+    (cond (ltb 3 (bits byte 2 0)) (Rate.Refused (E.UnsupportedCardType F.RateUnit))
+    (cond (eqb (bits byte 6 3) 0) (Rate.Refused (E.UnsupportedCardType F.RateValue))
+    (Rate.Rate (getD rateUnits (bits byte 2 0) 0 / 10 * getD rateTenths (bits byte 6 3) 0))))
 
 -- Address. 19 for 0 blocks or over 511; 20 when index plus count exceeds the block count; then SDSC 512 * index, SDHC
 -- the index. A product over 32 bits gives 20

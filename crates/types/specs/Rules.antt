@@ -1,4 +1,4 @@
--- Document 01, 'Leaf rules' and the order at making, told as it tells answers: a number, and values where it is 0. THESE ARE TO
+-- Document 01, 'Leaf rules' and the order at making, told as it tells answers: a number, and values where it is 0 or 13. THESE ARE TO
 -- BE BELIEVED of the plain functions. Leaf.antt has the same rules in the driver's enums, for contracts and plans to cite; proofs/Told.antt shows
 -- that its answers are told so, and `unique` that the functions' are. So no name of an enum's case has to be believed.
 use Prim.Native.Nat.{ℕ, _+_, _*_, _-_, _/_, _^_}
@@ -31,19 +31,22 @@ dataRule status =
     (cond (not (clear 0x10 status)) (told 6 [])
     (cond (not (clear 0x200 status)) (told 4 []) (told 0 [])))))
 
--- Capacity: blocks of 512 bytes. 127:126 = 0: bits 83:80 = L in 9 to 11, else 13. 127:126 = 1. Otherwise 13
+-- Capacity: blocks of 512 bytes. 127:126 = 0: bits 83:80 = L in 9 to 11, else 13, field 2. 127:126 = 1. Otherwise 13, field 1
 unfoldable pub countRule : ℕ → Told
 countRule csd =
     cond (eqb (bits csd 127 126) 0)
     (cond (leb 9 (bits csd 83 80) && leb (bits csd 83 80) 11)
-    (told 0 (((bits csd 73 62 + 1) * 2 ^ (bits csd 49 47 + 2 + (bits csd 83 80 - 9))) ∷ [])) (told 13 []))
-    (cond (eqb (bits csd 127 126) 1) (told 0 (((bits csd 69 48 + 1) * 1024) ∷ [])) (told 13 []))
+    (told 0 (((bits csd 73 62 + 1) * 2 ^ (bits csd 49 47 + 2 + (bits csd 83 80 - 9))) ∷ [])) (told 13 (2 ∷ [])))
+    (cond (eqb (bits csd 127 126) 1) (told 0 (((bits csd 69 48 + 1) * 1024) ∷ [])) (told 13 (1 ∷ [])))
 
--- Rate: bits a second. Bit 7 set, low three bits over 3, or bits 6:3 zero: 13. Else unit divided by 10, times the value
+-- Rate: bits a second. Bit 7 set: 13, field 5. Low three bits over 3: 13, field 3. Bits 6:3 zero: 13, field 4. Else unit
+-- divided by 10, times the value
 unfoldable pub rateRule : ℕ → Told
 rateRule byte =
-    cond (bit byte 7 || ltb 3 (bits byte 2 0) || eqb (bits byte 6 3) 0) (told 13 [])
-    (told 0 ((getD rateUnits (bits byte 2 0) 0 / 10 * getD rateTenths (bits byte 6 3) 0) ∷ []))
+    cond (bit byte 7) (told 13 (5 ∷ []))
+    (cond (ltb 3 (bits byte 2 0)) (told 13 (3 ∷ []))
+    (cond (eqb (bits byte 6 3) 0) (told 13 (4 ∷ []))
+    (told 0 ((getD rateUnits (bits byte 2 0) 0 / 10 * getD rateTenths (bits byte 6 3) 0) ∷ []))))
 
 -- Address: the argument of the read command. 0 blocks or over 511: 19. Index plus count over the block count: 20. Then SDSC
 -- 512 * index, SDHC the index. A product over 32 bits: 20

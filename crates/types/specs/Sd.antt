@@ -1,13 +1,15 @@
 -- The SD Physical Layer Simplified Specification: the fields of its registers by bit position, and what they mean. That
 -- document 01's arithmetic agrees with these is proved in proofs/Agree.antt.
 use Prim.Native.Nat.{ℕ, _+_, _*_, _/_, _^_}
-use mathlib.Core.Bool.{Bool, cond, _&&_}
+use mathlib.Core.Bool.{Bool, true, false, cond, _&&_}
 use mathlib.Core.List.{List, [], _∷_}
 use lib.Dec.{eqb}
 use lib.ListN.{getD}
 use Rattle.types.specs.declared.card.CardCapacity.{CardCapacity}
 use Rattle.types.specs.declared.card.CardCapacity.the-variants.{SDSC, SDHC}
 use Rattle.types.specs.declared.error.Error.the-variants.{UnsupportedCardType}
+use Rattle.types.specs.declared.error.Field.{Field}
+use Rattle.types.specs.declared.error.Field.the-variants.{CsdVersion, BlockLength, RateUnit, RateValue, RateReservedBit, CsdAndOcr, Voltage, AppCommand}
 use Rattle.types.specs.declared.register.CountAnswer.{CountAnswer}
 use Rattle.types.specs.declared.register.CountAnswer.the-variants as Count
 use Rattle.types.specs.declared.register.RateAnswer.{RateAnswer}
@@ -26,6 +28,10 @@ pub data Code (A : Type 0) : Type 0 where
 
 abbrev pub codeIn : {A : Type 0} → List (Code A) → ℕ → Code A
 codeIn codes k = getD codes k reserved
+
+unfoldable pub isReserved : {A : Type 0} → Code A → Bool
+isReserved reserved = true
+isReserved (means a) = false
 
 -- CSD. CSD_STRUCTURE: version 1.0, version 2.0, two reserved
 pub data Version : Type 0 where
@@ -64,13 +70,13 @@ cSize2 csd = bits csd 69 48
 unfoldable pub bytes2 : ℕ → ℕ
 bytes2 csd = (cSize2 csd + 1) * (512 * 1024)
 
--- the capacity in blocks of 512 bytes; a card with a reserved code is of no supported type
+-- the capacity in blocks of 512 bytes; a card with a reserved code is of no supported type, by the field that has it
 unfoldable pub blocks1 : ℕ → Code ℕ → CountAnswer
-blocks1 csd reserved = Count.Refused UnsupportedCardType
+blocks1 csd reserved = Count.Refused (UnsupportedCardType BlockLength)
 blocks1 csd (means blockLen) = Count.Blocks (record { 0 = bytes1 csd blockLen / 512 })
 
 unfoldable pub blocksBy : ℕ → Code Version → CountAnswer
-blocksBy csd reserved = Count.Refused UnsupportedCardType
+blocksBy csd reserved = Count.Refused (UnsupportedCardType CsdVersion)
 blocksBy csd (means version1) = blocks1 csd (codeIn blockLengths (readBlLen csd))
 blocksBy csd (means version2) = Count.Blocks (record { 0 = bytes2 csd / 512 })
 
@@ -91,16 +97,34 @@ timeValues =
     reserved ∷ means 10 ∷ means 12 ∷ means 13 ∷ means 15 ∷ means 20 ∷ means 25 ∷ means 30
     ∷ means 35 ∷ means 40 ∷ means 45 ∷ means 50 ∷ means 55 ∷ means 60 ∷ means 70 ∷ means 80 ∷ []
 
--- the rate in bits a second: unit times time value, 1,000 bits a kilobit
+-- the rate in bits a second: unit times time value, 1,000 bits a kilobit; of several fields at fault the first is told:
+-- reserved bit, unit, time value
 unfoldable pub rateBy : Code ℕ → Code ℕ → RateAnswer
-rateBy reserved value = Rate.Refused UnsupportedCardType
-rateBy (means kilobits) reserved = Rate.Refused UnsupportedCardType
+rateBy reserved value = Rate.Refused (UnsupportedCardType RateUnit)
+rateBy (means kilobits) reserved = Rate.Refused (UnsupportedCardType RateValue)
 rateBy (means kilobits) (means tenths) = Rate.Rate (kilobits * 1_000 * tenths / 10)
 
 unfoldable pub sdRate : ℕ → RateAnswer
 sdRate byte =
-    cond (bit byte 7) (Rate.Refused UnsupportedCardType)
+    cond (bit byte 7) (Rate.Refused (UnsupportedCardType RateReservedBit))
     (rateBy (codeIn transferUnits (bits byte 2 0)) (codeIn timeValues (bits byte 6 3)))
+
+-- Which fields of a CSD are at fault: the code of one is reserved, or the reserved bit is set. READ_BL_LEN is looked at in
+-- version 1.0; three of P4's fields are none of a CSD
+unfoldable pub lengthFault : ℕ → Code Version → Bool
+lengthFault csd reserved = false
+lengthFault csd (means version1) = isReserved (codeIn blockLengths (readBlLen csd))
+lengthFault csd (means version2) = false
+
+unfoldable pub atFault : Field → ℕ → Bool
+atFault CsdVersion csd = isReserved (codeIn structures (csdStructure csd))
+atFault BlockLength csd = lengthFault csd (codeIn structures (csdStructure csd))
+atFault RateUnit csd = isReserved (codeIn transferUnits (bits (tranSpeed csd) 2 0))
+atFault RateValue csd = isReserved (codeIn timeValues (bits (tranSpeed csd) 6 3))
+atFault RateReservedBit csd = bit (tranSpeed csd) 7
+atFault CsdAndOcr csd = false
+atFault Voltage csd = false
+atFault AppCommand csd = false
 
 -- the argument of a read counts bytes on a standard capacity card, blocks of 512 bytes on all others
 abbrev pub unitBytes : CardCapacity → ℕ

@@ -1,6 +1,18 @@
 // Why the driver refuses, and the number that each answer has.
 ghost use mathlib.Core.Path.{_≡_};
-ghost use Rattle.types.specs.Answer.{errorTold, answerTold, carried};
+ghost use Rattle.types.specs.Answer.{fieldNumber, errorTold, answerTold, carried};
+
+// What made a card unsupported: a field of its CSD, its CSD and OCR, its voltages, or that it takes no application command.
+pub enum Field {
+    CsdVersion,
+    BlockLength,
+    RateUnit,
+    RateValue,
+    RateReservedBit,
+    CsdAndOcr,
+    Voltage,
+    AppCommand,
+}
 
 pub enum Error {
     Timeout,
@@ -15,7 +27,7 @@ pub enum Error {
     CardStatus(u32),
     CardLocked,
     UnsupportedCardVersion,
-    UnsupportedCardType,
+    UnsupportedCardType(Field),
     UnsupportedBusWidth,
     SignalingSwitchFailed,
     NoCard,
@@ -35,6 +47,23 @@ pub enum Answer {
     BadBook,
 }
 
+impl Field {
+    pub fn number(self) -> u8
+        ensures { λ r. ⌜ r ≡ fieldNumber self ⌝ }
+    {
+        match self {
+            Field::CsdVersion => 1,
+            Field::BlockLength => 2,
+            Field::RateUnit => 3,
+            Field::RateValue => 4,
+            Field::RateReservedBit => 5,
+            Field::CsdAndOcr => 6,
+            Field::Voltage => 7,
+            Field::AppCommand => 8,
+        }
+    }
+}
+
 impl Error {
     pub fn number(self) -> u8
         ensures { λ r. ⌜ r ≡ errorTold self .number ⌝ }
@@ -52,7 +81,7 @@ impl Error {
             Error::CardStatus(_) => 10,
             Error::CardLocked => 11,
             Error::UnsupportedCardVersion => 12,
-            Error::UnsupportedCardType => 13,
+            Error::UnsupportedCardType(_) => 13,
             Error::UnsupportedBusWidth => 14,
             Error::SignalingSwitchFailed => 15,
             Error::NoCard => 16,
@@ -63,12 +92,13 @@ impl Error {
         }
     }
 
-    // The card's status word, at CardStatus; 0 elsewhere.
+    // The card's status word at CardStatus, the field's number at UnsupportedCardType; 0 elsewhere.
     pub fn word(self) -> u32
         ensures { λ r. ⌜ r ≡ carried (errorTold self) ⌝ }
     {
         match self {
             Error::CardStatus(word) => word,
+            Error::UnsupportedCardType(field) => field.number() as u32,
             _ => 0,
         }
     }
@@ -87,7 +117,7 @@ impl Answer {
         }
     }
 
-    // The word that the answer carries: the card's status at CardStatus, 0 elsewhere.
+    // The word that the answer carries: the card's status at CardStatus, the field at UnsupportedCardType, 0 elsewhere.
     pub fn word(self) -> u32
         ensures { λ r. ⌜ r ≡ carried (answerTold self) ⌝ }
     {

@@ -4,6 +4,7 @@ ghost use Rattle.types.specs.Bits.{bits};
 ghost use Rattle.types.specs.Sd.{wideOf};
 ghost use Rattle.types.specs.Leaf.{countOf, rateOf, sizeOf};
 use crate::error::Error;
+use crate::error::Field;
 
 // CID and CSD: bit 127 is the top bit of `high`, bit 0 the lowest of `low`.
 pub struct Wide {
@@ -122,10 +123,10 @@ pub fn block_count(csd: Wide) -> CountAnswer
     if version == 0 {
         let length = csd.block_length();
         if length < 9 {
-            return CountAnswer::Refused(Error::UnsupportedCardType);
+            return CountAnswer::Refused(Error::UnsupportedCardType(Field::BlockLength));
         }
         if 11 < length {
-            return CountAnswer::Refused(Error::UnsupportedCardType);
+            return CountAnswer::Refused(Error::UnsupportedCardType(Field::BlockLength));
         }
         let size = csd.size_1() + 1;
         let shift = csd.multiplier() + 2 + (length - 9);
@@ -135,7 +136,7 @@ pub fn block_count(csd: Wide) -> CountAnswer
         let size = csd.size_2() + 1;
         return CountAnswer::Blocks(BlockCount(size * 1024));
     }
-    CountAnswer::Refused(Error::UnsupportedCardType)
+    CountAnswer::Refused(Error::UnsupportedCardType(Field::CsdVersion))
 }
 
 // The rate in bits a second that a TRAN_SPEED byte encodes.
@@ -143,15 +144,15 @@ pub fn transfer_rate(encoded: u8) -> RateAnswer
     ensures { λ r. ⌜ r ≡ rateOf encoded ⌝ }
 {
     if encoded / 128 % 2 == 1 {
-        return RateAnswer::Refused(Error::UnsupportedCardType);
+        return RateAnswer::Refused(Error::UnsupportedCardType(Field::RateReservedBit));
     }
     let unit = encoded % 8;
     if unit > 3 {
-        return RateAnswer::Refused(Error::UnsupportedCardType);
+        return RateAnswer::Refused(Error::UnsupportedCardType(Field::RateUnit));
     }
     let value = encoded / 8 % 16;
     if value == 0 {
-        return RateAnswer::Refused(Error::UnsupportedCardType);
+        return RateAnswer::Refused(Error::UnsupportedCardType(Field::RateValue));
     }
     RateAnswer::Rate(UNIT_TENTHS[unit as usize] * TENTHS[value as usize])
 }

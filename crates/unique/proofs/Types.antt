@@ -24,6 +24,9 @@ config-config-default = determined _ λ _ _ _ p. p
 config-config-judge : Unique config.Config.judge.Kinds.ps config.Config.judge.Kinds.r config.Config.judge.Reads.Learnt
 config-config-judge = determined _ λ _ _ _ p. p
 
+error-field-number : Unique error.Field.number.Kinds.ps error.Field.number.Kinds.r error.Field.number.Reads.Learnt
+error-field-number = determined _ λ _ _ _ p. p
+
 error-error-number : Unique error.Error.number.Kinds.ps error.Error.number.Kinds.r error.Error.number.Reads.Learnt
 error-error-number = determined _ λ _ _ _ p. p
 

@@ -63,6 +63,10 @@ fn print_line(out: &mut Vec<u8>, number: u64, outcome: &Outcome) {
     decimal(out, number);
     out.extend(b" answer ");
     decimal(out, outcome.answer);
+    if let Some(field) = outcome.field {
+        out.extend(b" field ");
+        decimal(out, field);
+    }
     out.extend(b" words ");
     decimal(out, outcome.words_used as u64);
     out.extend(b" rows ");

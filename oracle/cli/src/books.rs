@@ -2,8 +2,7 @@
 
 use std::io::{self, BufReader, BufWriter, Read, Write};
 
-use oracle_bench_book::{lines, pile, MOST_ROOM};
-use oracle_driver::right::Host;
+use oracle_bench_book::{pile, MOST_ROOM};
 use oracle_model::generate;
 
 use crate::written;
@@ -14,7 +13,7 @@ pub fn pile(seed: u64, count: u64) -> Result<(), String> {
     written(result.and_then(|()| out.flush()))
 }
 
-/// Prints each book of a pile with this room: `print` is one of `trace` and `events`.
+/// Prints each book of a pile with this room: `print` is `trace` or `events` of some host.
 pub fn each(room: Option<&str>, print: fn(&[u8], usize, &mut Vec<u8>)) -> Result<(), String> {
     let room = match room {
         None => MOST_ROOM,
@@ -48,13 +47,14 @@ fn room_of(word: &str) -> Option<usize> {
     (room <= MOST_ROOM).then_some(room)
 }
 
-pub fn book() -> Result<(), String> {
+/// Prints one book.
+pub fn book(print: fn(&[u8], &mut Vec<u8>)) -> Result<(), String> {
     let mut bytes = Vec::new();
     io::stdin()
         .lock()
         .read_to_end(&mut bytes)
         .map_err(|error| format!("oracle: {error}"))?;
     let mut text = Vec::new();
-    lines::<Host>(&bytes, &mut text);
+    print(&bytes, &mut text);
     written(io::stdout().lock().write_all(&text))
 }

@@ -1,4 +1,4 @@
-//! The oracle's program: the original Rust's answers, for comparison.
+//! The oracle's program: the original Rust's answers and the documents', for comparison.
 
 mod books;
 mod leaves;
@@ -9,43 +9,31 @@ mod wrong;
 
 use std::process::ExitCode;
 
-use oracle_bench_book::{events, trace};
-use oracle_driver::right::Host;
+use oracle_bench_book::{events, lines, trace};
+use oracle_driver::right;
 
 const USAGE: &str = "\
 oracle pile SEED COUNT        write COUNT books as a pile
 oracle trace [ROOM] < PILE    what the Rust does with each book of a pile
 oracle events [ROOM] < PILE   the Rust's readings and rows of each book, in their order
 oracle book < BOOK            the lines of one book
+oracle leaves SEED COUNT      inputs of the plain functions with the Rust's answers
+oracle paper-trace [ROOM] < PILE
+oracle paper-events [ROOM] < PILE
+oracle paper-book < BOOK
+oracle paper-leaves SEED COUNT
+                              the same of the host made from the documents, which tells fields
+oracle paper-rates SEED COUNT rates over 255, which only the C function takes, with the documents' answers
 oracle coverage SEED COUNT    what such a pile reaches
 oracle sample SEED COUNT [KEPT]
                               the books of the pile KEPT, and of such a pile those that reach something new
-oracle leaves SEED COUNT      inputs of the plain functions with the Rust's answers
 oracle wrong [SEED COUNT]     which wrong hosts such a pile catches
 oracle paper SEED COUNT       does the Rust do what document 01 says, on such a pile";
 
 fn main() -> ExitCode {
     let words: Vec<String> = std::env::args().skip(1).collect();
     let words: Vec<&str> = words.iter().map(String::as_str).collect();
-    let result = match words[..] {
-        ["pile", seed, count] => numbers(seed, count).and_then(|(seed, count)| books::pile(seed, count)),
-        ["trace"] => books::each(None, trace::<Host>),
-        ["trace", room] => books::each(Some(room), trace::<Host>),
-        ["events"] => books::each(None, events::<Host>),
-        ["events", room] => books::each(Some(room), events::<Host>),
-        ["book"] => books::book(),
-        ["coverage", seed, count] => numbers(seed, count).and_then(|(seed, count)| table::coverage(seed, count)),
-        ["sample", seed, count] => numbers(seed, count).and_then(|(seed, count)| sample::sample(seed, count, None)),
-        ["sample", seed, count, kept] => {
-            numbers(seed, count).and_then(|(seed, count)| sample::sample(seed, count, Some(kept)))
-        }
-        ["leaves", seed, count] => numbers(seed, count).and_then(|(seed, count)| leaves::leaves(seed, count)),
-        ["wrong"] => wrong::wrong(wrong::SEED, wrong::COUNT),
-        ["wrong", seed, count] => numbers(seed, count).and_then(|(seed, count)| wrong::wrong(seed, count)),
-        ["paper", seed, count] => numbers(seed, count).and_then(|(seed, count)| paper::paper(seed, count)),
-        _ => Err(USAGE.to_owned()),
-    };
-    match result {
+    match run(&words) {
         Ok(()) => ExitCode::SUCCESS,
         Err(message) => {
             eprintln!("{message}");
@@ -54,9 +42,32 @@ fn main() -> ExitCode {
     }
 }
 
-fn numbers(seed: &str, count: &str) -> Result<(u64, u64), String> {
+fn run(words: &[&str]) -> Result<(), String> {
+    let room = words.get(1).copied();
+    match *words {
+        ["pile", seed, count] => seeded(seed, count, books::pile),
+        ["trace"] | ["trace", _] => books::each(room, trace::<right::Host>),
+        ["events"] | ["events", _] => books::each(room, events::<right::Host>),
+        ["book"] => books::book(lines::<right::Host>),
+        ["leaves", seed, count] => seeded(seed, count, leaves::leaves::<right::Leaves>),
+        ["paper-trace"] | ["paper-trace", _] => books::each(room, trace::<oracle_paper::Host>),
+        ["paper-events"] | ["paper-events", _] => books::each(room, events::<oracle_paper::Host>),
+        ["paper-book"] => books::book(lines::<oracle_paper::Host>),
+        ["paper-leaves", seed, count] => seeded(seed, count, leaves::leaves::<oracle_paper::Leaves>),
+        ["paper-rates", seed, count] => seeded(seed, count, leaves::wide_rates),
+        ["coverage", seed, count] => seeded(seed, count, table::coverage),
+        ["sample", seed, count] => seeded(seed, count, |seed, count| sample::sample(seed, count, None)),
+        ["sample", seed, count, kept] => seeded(seed, count, |seed, count| sample::sample(seed, count, Some(kept))),
+        ["wrong"] => wrong::wrong(wrong::SEED, wrong::COUNT),
+        ["wrong", seed, count] => seeded(seed, count, wrong::wrong),
+        ["paper", seed, count] => seeded(seed, count, paper::paper),
+        _ => Err(USAGE.to_owned()),
+    }
+}
+
+fn seeded(seed: &str, count: &str, act: impl FnOnce(u64, u64) -> Result<(), String>) -> Result<(), String> {
     let number = |word: &str| word.parse().map_err(|_| format!("oracle: {word} is not a number"));
-    Ok((number(seed)?, number(count)?))
+    act(number(seed)?, number(count)?)
 }
 
 /// A reader that goes away early (head, cmp) is no fault of ours.

@@ -228,11 +228,13 @@ impl Table {
     }
 
     fn own_causes(&mut self, coverage: &Coverage) {
-        self.line("\nrefused for a cause of its own");
+        self.line("\nrefused for a cause of its own, at 13 with the field");
         for site in expected::SITES {
             for cause in site.own {
                 let count = self.cell(&coverage.arms, (site.name, *cause));
-                self.line(&format!("{count:8} {}: {cause}", site.name));
+                let field = expected::field((site.name, *cause));
+                let field = field.map_or(String::new(), |field| format!(" (field {field})"));
+                self.line(&format!("{count:8} {}: {cause}{field}", site.name));
             }
         }
     }

@@ -6,6 +6,9 @@ use oracle_bench_book::{events, trace, MOST_ROOM};
 use oracle_driver::{right, switchable, wrong};
 use oracle_model::leaves::{each, Leaf};
 use oracle_model::{generate, rng::Rng};
+use oracle_paper as paper;
+use oracle_paper::telling;
+use oracle_paper::wrong::Wrong;
 
 pub const SEED: u64 = 1;
 pub const COUNT: u64 = 4_000;
@@ -69,6 +72,22 @@ fn caught(which: u16, cases: &[Case], leaves: &[(Leaf, u64)]) -> Option<String> 
         .map(|at| format!("events of book {}", at + 1))
 }
 
+/// Where a model that tells a wrong field first differs from the right one: a book, a leaf input, or one of each.
+fn told_wrongly(wrong: &Wrong, cases: &[Case], leaves: &[(Leaf, u64)]) -> Option<String> {
+    let text = |case: &Case| both(trace::<paper::Host>, &case.book, case.room);
+    let book = cases
+        .iter()
+        .position(|case| text(case) != telling::with(wrong.tell, || text(case)));
+    let answer = |leaf: Leaf| leaf.answer::<paper::Leaves>();
+    let leaf = leaves
+        .iter()
+        .find(|(leaf, _)| answer(*leaf) != telling::with(wrong.tell, || answer(*leaf)));
+    let book = book.map(|at| format!("book {}", at + 1));
+    let leaf = leaf.map(|(leaf, _)| format!("leaf {leaf:?}"));
+    let places: Vec<String> = book.into_iter().chain(leaf).collect();
+    (!places.is_empty()).then(|| places.join(" and "))
+}
+
 pub fn wrong(seed: u64, count: u64) -> Result<(), String> {
     let cases: Vec<Case> = (1..=count).map(|k| case(seed, k)).collect();
     let mut leaves = Vec::new();
@@ -85,17 +104,24 @@ pub fn wrong(seed: u64, count: u64) -> Result<(), String> {
 
     let hook = take_hook();
     set_hook(Box::new(|_| {}));
-    let found: Vec<_> = wrong::ALL
+    let hosts = wrong::ALL
         .iter()
-        .map(|(which, ..)| caught(*which, &cases, &leaves))
-        .collect();
+        .map(|(which, name, what)| (*name, *what, caught(*which, &cases, &leaves)));
+    let models = paper::wrong::ALL
+        .iter()
+        .map(|wrong| (wrong.name, wrong.what, told_wrongly(wrong, &cases, &leaves)));
+    let found: Vec<_> = hosts.chain(models).collect();
     set_hook(hook);
+    report(&found)
+}
 
-    for ((_, name, what), place) in wrong::ALL.iter().zip(&found) {
+/// Name, what is wrong and where it shows, of each.
+fn report(found: &[(&str, &str, Option<String>)]) -> Result<(), String> {
+    for (name, what, place) in found {
         let place = place.as_deref().unwrap_or("NOT CAUGHT");
         println!("{name}: {what}: {place}");
     }
-    let missed = found.iter().filter(|place| place.is_none()).count();
+    let missed = found.iter().filter(|(_, _, place)| place.is_none()).count();
     println!("{} of {} wrong hosts caught", found.len() - missed, found.len());
     match missed {
         0 => Ok(()),

@@ -21,6 +21,9 @@ pub enum Call {
     Status,
 }
 
+/// UnsupportedCardType, the one answer with a field.
+pub const UNSUPPORTED: u8 = 13;
+
 /// The numbers of answers that lie outside the driver.
 pub const SCRIPT_ENDED: u8 = 21;
 pub const TRACE_FULL: u8 = 22;
@@ -32,6 +35,9 @@ pub struct Outcome {
     pub answer: u8,
     /// The card status word of answer 10, else 0.
     pub carried: u32,
+    /// At answer 13 the number of the field that made the card unsupported, of a
+    /// host that tells it. The Rust does not.
+    pub field: Option<u8>,
     pub words_used: usize,
     pub rows: Vec<(u32, u32)>,
     /// Of an accepted status call.
@@ -78,7 +84,7 @@ pub trait Host: Sized {
 }
 
 /// The plain functions of the types, as number of the answer times 2^56 plus
-/// the value (0 where refused).
+/// the value (where refused 0, or at 13 the field's number, if it is told).
 pub trait Leaves {
     /// Value: bypass times 2^40, divisor field times 2^32, frequency.
     fn clock(source: u32, requested: u32, bypass: bool) -> u64;

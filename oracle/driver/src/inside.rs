@@ -67,6 +67,7 @@ impl host::Host for Host {
         let mut outcome = Outcome {
             answer: 0,
             carried: 0,
+            field: None,
             words_used: kept.used,
             rows: kept.rows,
             status: None,

@@ -107,12 +107,15 @@ fn idle(call: Call, mut script: Vec<u32>, again: impl Fn(&[u32]) -> Vec<Event>) 
 fn words(site: &'static str, answer: u8, outcome: &Outcome) -> Arm {
     match (site, answer) {
         ("CMD8", 12) => (site, "version"),
-        ("ACMD41", 13) => (site, "voltage"),
+        ("CMD55 for ACMD41", 13) if sent(outcome, 55) > 1 => (site, "not taken, later attempt"),
+        ("CMD55 for ACMD41", 13) => (site, "not taken, first attempt"),
+        ("ACMD41", 13) if sent(outcome, 41) > 1 => (site, "voltage, later attempt"),
+        ("ACMD41", 13) => (site, "voltage, first attempt"),
         ("ACMD41", 2) => (site, "attempts"),
         ("CMD3", 9) => (site, "RCA 0"),
         ("CMD9", 13) => (site, csd(outcome)),
         ("CMD13 after ACMD51", 14) => ("SCR", width(outcome)),
-        ("ACMD6", 13) => ("CSD", "rate"),
+        ("ACMD6", 13) => ("CSD", rate(word_of(outcome, 9, 0))),
         ("ACMD6", 17) => ("second clock", "too slow"),
         ("CMD13 after switch", 15) => ("CMD6 switch", "not switched"),
         (_, 13) => (site, "not taken"),
@@ -125,29 +128,54 @@ fn words(site: &'static str, answer: u8, outcome: &Outcome) -> Arm {
 
 /// OCR and CSD disagree, or the CSD itself is refused.
 fn csd(outcome: &Outcome) -> &'static str {
-    let high = first_word_of(outcome, 41) >> 30 & 1 == 1;
-    match (high, first_word_of(outcome, 9) >> 30) {
+    let high = word_of(outcome, 41, 0) >> 30 & 1 == 1;
+    let length = word_of(outcome, 9, 1) >> 16 & 15;
+    match (high, word_of(outcome, 9, 0) >> 30) {
         (true, 0) => "OCR high, CSD 0",
-        (true, 2 | 3) => "OCR high, CSD over 1",
+        (true, 2) => "OCR high, CSD 2",
+        (true, 3) => "OCR high, CSD 3",
         (false, 1) => "OCR standard, CSD 1",
-        (false, 0) => "block length",
-        (false, _) => "CSD version",
-        (true, _) => "unknown",
+        (false, 2) => "OCR standard, CSD 2",
+        (false, 3) => "OCR standard, CSD 3",
+        (false, 0) if length < 9 => "block length under 9",
+        (false, 0) if length > 11 => "block length over 11",
+        _ => "unknown",
     }
 }
 
-/// The first word of the last answer to a command.
-pub fn first_word_of(outcome: &Outcome, index: u32) -> u32 {
+/// The rules that the rate in the top word of a CSD breaks.
+fn rate(top: u32) -> &'static str {
+    let (reserved, unit, value) = (top >> 7 & 1 == 1, top & 7 > 3, top >> 3 & 15 == 0);
+    match (reserved, unit, value) {
+        (true, false, false) => "rate: reserved bit",
+        (false, true, false) => "rate: unit",
+        (false, false, true) => "rate: value",
+        (true, true, false) => "rate: reserved bit, unit",
+        (true, false, true) => "rate: reserved bit, value",
+        (false, true, true) => "rate: unit, value",
+        (true, true, true) => "rate: reserved bit, unit, value",
+        (false, false, false) => "unknown",
+    }
+}
+
+/// A word of the last answer to a command.
+fn word_of(outcome: &Outcome, index: u32, place: u8) -> u32 {
     let mut command = 0;
     let mut answer = 0;
     for event in &outcome.events {
         match event {
             Event::Row(4, value) => command = value & 0x3f,
-            Event::Word(Reading::Response(0), word) if command == index => answer = *word,
+            Event::Word(Reading::Response(at), word) if command == index && *at == place => answer = *word,
             _ => {}
         }
     }
     answer
+}
+
+/// How often a command was sent.
+fn sent(outcome: &Outcome, index: u32) -> usize {
+    let sent = |row: &&(u32, u32)| row.0 == 4 && row.1 & 0x3f == index;
+    outcome.rows.iter().filter(sent).count()
 }
 
 fn width(outcome: &Outcome) -> &'static str {

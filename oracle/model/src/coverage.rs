@@ -4,9 +4,10 @@ use std::collections::BTreeMap;
 
 use oracle_bench_book::{Book, Fault, MOST_ROOM};
 use oracle_driver::bench::{Event, Feed};
-use oracle_driver::host::{SCRIPT_ENDED, TRACE_FULL};
+use oracle_driver::host::{SCRIPT_ENDED, TRACE_FULL, UNSUPPORTED};
 use oracle_driver::right::Host;
-use oracle_driver::{Call, Host as _, Outcome, State};
+use oracle_driver::{Call, Host as _, Outcome, Settings, State};
+use oracle_paper as paper;
 
 use crate::arms::{self, Arm};
 use crate::closing;
@@ -63,25 +64,22 @@ impl Coverage {
             Ok(book) => book,
             Err(fault) => return count(&mut self.bad_books, fault),
         };
-        let settings = book.settings;
-        let Ok(mut host) = Host::make(&settings) else {
-            let zero = settings.poll_limit == 0
-                || settings.ready_attempts == 0
-                || settings.data_timeout == 0
-                || settings.software_timeout == 0;
-            let why = match (zero, settings.source) {
-                (true, 2..=102_800_000) => "18 a setting is 0",
-                (true, _) => "18 a setting is 0, source refused too",
-                (_, 0) => "17 source 0",
-                (_, 1) => "17 source 1",
-                _ => "17 source over 102,800,000",
-            };
-            return count(&mut self.hosts_refused, why);
-        };
+        match Host::make(&book.settings) {
+            Ok(host) => self.far += u64::from(self.serve(&book, host, rng)),
+            Err(_) => count(&mut self.hosts_refused, no_host(&book.settings)),
+        }
+    }
+
+    /// Counts what the calls of a book reach; true if an initialisation is accepted.
+    fn serve(&mut self, book: &Book, mut host: Host, rng: &mut Rng) -> bool {
+        // It tells the fields, which the Rust does not have.
+        let mut document = paper::Host::make(&book.settings).expect("the documents have this host too");
         let mut far = false;
         for entry in &book.entries {
             let before = host.snapshot();
             let outcome = host.call(entry.call, Feed::Script(&entry.script), MOST_ROOM, true);
+            let told = document.call(entry.call, Feed::Script(&entry.script), MOST_ROOM, false);
+            assert!(told.answer == outcome.answer, "the documents have this answer too");
             let state = host.state();
             let initialised = outcome.answer == 0 && matches!(entry.call, Call::Initialise { .. });
             far |= initialised;
@@ -101,15 +99,20 @@ impl Coverage {
             self.little_room(entry.call, &outcome, &mut again, rng);
             self.closing_rows(entry.call, &outcome, &mut again, rng);
             let again = std::cell::RefCell::new(again);
-            self.call(entry.call, &outcome, |script| {
+            self.call(entry.call, &outcome, told.field, |script| {
                 (again.borrow_mut())(script, MOST_ROOM).events
             });
         }
-        self.far += u64::from(far);
+        far
     }
 
-    fn call(&mut self, call: Call, outcome: &Outcome, again: impl Fn(&[u32]) -> Vec<Event>) {
+    fn call(&mut self, call: Call, outcome: &Outcome, field: Option<u8>, again: impl Fn(&[u32]) -> Vec<Event>) {
         count(&mut self.calls, (kind(call), outcome.answer));
+        let unsupported = outcome.answer == UNSUPPORTED;
+        assert!(
+            field.is_some() == unsupported,
+            "13 has a field, and no other answer has"
+        );
         match (outcome.answer, call) {
             (0, Call::Read { blocks, .. }) => {
                 let how_many = if blocks == 1 { "one block" } else { "many blocks" };
@@ -122,7 +125,11 @@ impl Coverage {
                 let rightly = closed == Some(expected::closed_by(site));
                 count(&mut self.ended, (site, if rightly { step } else { "closed otherwise" }));
             }
-            _ => count(&mut self.arms, arms::refused(call, outcome, again)),
+            _ => {
+                let (site, cause) = arms::refused(call, outcome, again);
+                let rightly = field == expected::field((site, cause));
+                count(&mut self.arms, (site, if rightly { cause } else { "another field" }));
+            }
         }
     }
 
@@ -165,6 +172,21 @@ impl Coverage {
         assert!(less.answer == TRACE_FULL, "a closing row without room gives 22");
         assert!(less.words_used == outcome.script.len(), "all words were used by then");
         count(&mut self.closings, (kind(call), shape.name, shape.row(room - before)));
+    }
+}
+
+/// Why no host is made with these settings.
+fn no_host(settings: &Settings) -> &'static str {
+    let zero = settings.poll_limit == 0
+        || settings.ready_attempts == 0
+        || settings.data_timeout == 0
+        || settings.software_timeout == 0;
+    match (zero, settings.source) {
+        (true, 2..=102_800_000) => "18 a setting is 0",
+        (true, _) => "18 a setting is 0, source refused too",
+        (_, 0) => "17 source 0",
+        (_, 1) => "17 source 1",
+        _ => "17 source over 102,800,000",
     }
 }
 

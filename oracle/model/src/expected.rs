@@ -104,11 +104,14 @@ pub const SITES: &[Site] = &[
     other("CMD0", &["idle", "timeout", "spent"], &[], &["idle", "poll"]),
     // A timeout of CMD8 is a version 1 card.
     other("CMD8", &["idle", "spent", "CRC", "echo"], &["version"], &COMMAND_ENDS),
-    r1("CMD55 for ACMD41", &["not taken"]),
+    r1(
+        "CMD55 for ACMD41",
+        &["not taken, first attempt", "not taken, later attempt"],
+    ),
     other(
         "ACMD41",
         &["idle", "timeout", "spent"],
-        &["voltage", "attempts"],
+        &["voltage, first attempt", "voltage, later attempt", "attempts"],
         &WITHOUT_ECHO,
     ),
     other("CMD2", &["idle", "timeout", "spent", "CRC"], &[], &WITHOUT_ECHO),
@@ -123,10 +126,13 @@ pub const SITES: &[Site] = &[
         &["idle", "timeout", "spent", "CRC"],
         &[
             "OCR high, CSD 0",
-            "OCR high, CSD over 1",
+            "OCR high, CSD 2",
+            "OCR high, CSD 3",
             "OCR standard, CSD 1",
-            "CSD version",
-            "block length",
+            "OCR standard, CSD 2",
+            "OCR standard, CSD 3",
+            "block length under 9",
+            "block length over 11",
         ],
         &WITHOUT_ECHO,
     ),
@@ -139,7 +145,18 @@ pub const SITES: &[Site] = &[
     cause("SCR", &["no one-bit bus", "no four-bit bus"]),
     r1("CMD55 for ACMD6", &["not taken"]),
     r1("ACMD6", &[]),
-    cause("CSD", &["rate"]),
+    cause(
+        "CSD",
+        &[
+            "rate: reserved bit",
+            "rate: unit",
+            "rate: value",
+            "rate: reserved bit, unit",
+            "rate: reserved bit, value",
+            "rate: unit, value",
+            "rate: reserved bit, unit, value",
+        ],
+    ),
     clock("second clock", &["too slow"]),
     data("CMD6 check", &[]),
     r1("CMD13 after check", &["attempts"]),
@@ -166,6 +183,22 @@ pub fn arms() -> Vec<Arm> {
         causes.map(|cause| (site.name, *cause))
     };
     SITES.iter().flat_map(of).collect()
+}
+
+/// The field that goes with an arm whose answer is 13, by document 02's request P4;
+/// none: the arm has another answer.
+pub fn field((_, cause): Arm) -> Option<u8> {
+    match cause {
+        "OCR standard, CSD 2" | "OCR standard, CSD 3" => Some(1),
+        "block length under 9" | "block length over 11" => Some(2),
+        "rate: unit" | "rate: unit, value" => Some(3),
+        "rate: value" => Some(4),
+        _ if cause.starts_with("rate: reserved bit") => Some(5),
+        "OCR high, CSD 0" | "OCR high, CSD 2" | "OCR high, CSD 3" | "OCR standard, CSD 1" => Some(6),
+        _ if cause.starts_with("voltage") => Some(7),
+        _ if cause.starts_with("not taken") => Some(8),
+        _ => None,
+    }
 }
 
 /// Whether a script can end in this step of the data phase. The SCR has two words,

@@ -85,6 +85,20 @@ pub fn each(seed: u64, count: u64, mut emit: impl FnMut(Leaf)) {
     }
 }
 
+/// Rates of more than a byte: every byte below each single bit that a byte has not,
+/// the numbers at both ends, then so many random ones.
+pub fn each_wide_rate(seed: u64, count: u64, mut emit: impl FnMut(u32)) {
+    for bit in 8..32 {
+        (0..=255).for_each(|byte| emit(1 << bit | byte));
+    }
+    emit(u32::MAX - 1);
+    emit(u32::MAX);
+    let mut rng = Rng::nth(seed, 0);
+    for _ in 0..count {
+        emit(rng.spread() | 1 << rng.between(8, 31));
+    }
+}
+
 const FREQUENCIES: [u32; 30] = [
     0,
     1,

@@ -5,7 +5,8 @@ use oracle_driver::host::{self, Call, Outcome, Record, Settings, State};
 
 use crate::leaf::{address, bits, capacity, clock, rate};
 use crate::steps::{Bench, Kind};
-use crate::tape::{refuse, Step, Stop, Tape, DELAY, POWER};
+use crate::tape::{refuse, unsupported, Refusal, Step, Stop, Tape, DELAY, POWER};
+use crate::unsupported::Cause;
 
 pub struct Host {
     settings: Settings,
@@ -62,10 +63,10 @@ impl host::Host for Host {
             Call::Status => self.status(&mut tape),
         };
         self.state.clkcr = tape.clkcr;
-        let (answer, carried) = match ended {
-            Ok(_) => (0, 0),
-            Err(Stop::Refused(number, word)) => (number, word),
-            Err(Stop::TraceFull) => (host::TRACE_FULL, 0),
+        let (answer, carried, field) = match ended {
+            Ok(_) => (0, 0, None),
+            Err(Stop::Refused(refusal)) => (refusal.number(), refusal.carried(), refusal.field()),
+            Err(Stop::TraceFull) => (host::TRACE_FULL, 0, None),
         };
         if answer == host::TRACE_FULL {
             self.state = before;
@@ -74,6 +75,7 @@ impl host::Host for Host {
         Outcome {
             answer,
             carried,
+            field,
             words_used: tape.used,
             rows: tape.rows,
             status: given.status,
@@ -134,14 +136,14 @@ impl Host {
         if !record.high_capacity {
             bench.command(16, 512, Kind::R1)?;
         }
-        bench.announce(record.rca)?;
+        bench.announce(51, record.rca)?;
         let scr = bench.data(51, 0, 2, 3, record.rca)?;
         record.scr = u64::from(scr[0].swap_bytes()) << 32 | u64::from(scr[1].swap_bytes());
         let wide = self.settings.wide;
         if record.scr >> 48 & 1 == 0 || wide && record.scr >> 50 & 1 == 0 {
             return refuse(14);
         }
-        bench.announce(record.rca)?;
+        bench.announce(6, record.rca)?;
         bench.command(6, if wide { 2 } else { 0 }, Kind::R1)?;
         let most = frequency.min(25_000_000).min(rate(bits(record.csd, 103, 96) as u8)?);
         self.state.clock = bench.change_clock(most, self.settings.bypass, wide)?;
@@ -201,7 +203,7 @@ impl Host {
 
     fn status(&mut self, tape: &mut Tape<'_>) -> Step<Given> {
         let rca = self.record()?.rca;
-        self.bench(tape).announce(rca)?;
+        self.bench(tape).announce(13, rca)?;
         let words = self.data(tape, 13, 0, 16, 6)?;
         let status = std::array::from_fn(|place| words[15 - place].swap_bytes());
         if let Some(record) = &mut self.state.record {
@@ -221,17 +223,17 @@ fn card_version(bench: &mut Bench<'_, '_>) -> Step<bool> {
         Ok([0x1aa, ..]) => Ok(true),
         Ok([word, ..]) if word & 0xfdff_e008 == 0x0040_0000 => Ok(false),
         Ok(_) => refuse(12),
-        Err(Stop::Refused(1, _)) => Ok(false),
+        Err(Stop::Refused(Refusal::Plain(1))) => Ok(false),
         Err(other) => Err(other),
     }
 }
 
 fn power_up(bench: &mut Bench<'_, '_>, version2: bool) -> Step<u32> {
     for _ in 0..bench.set.ready_attempts {
-        bench.announce(0)?;
+        bench.announce(41, 0)?;
         let ocr = bench.command(41, if version2 { 0x4030_0000 } else { 0x0030_0000 }, Kind::R3)?[0];
         if ocr & 0x0030_0000 == 0 {
-            return refuse(13);
+            return unsupported(Cause::Voltage);
         }
         if ocr >> 31 == 1 {
             return Ok(ocr);
@@ -254,8 +256,10 @@ fn identify(bench: &mut Bench<'_, '_>, ocr: u32) -> Step<Record> {
     }
     let csd = long(bench.command(9, u32::from(rca) << 16, Kind::R2)?);
     let high_capacity = ocr >> 30 & 1 == 1;
-    if high_capacity != (bits(csd, 127, 126) == 1) {
-        return refuse(13);
+    let version = bits(csd, 127, 126);
+    // Before the capacity, which has something to say of the version too.
+    if high_capacity != (version == 1) {
+        return unsupported(Cause::Disagreement { version });
     }
     let blocks = capacity(csd)?;
     bench.command(7, u32::from(rca) << 16, Kind::R1)?;

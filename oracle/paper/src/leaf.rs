@@ -2,7 +2,8 @@
 
 use oracle_driver::host;
 
-use crate::tape::{refuse, Step, Stop};
+use crate::tape::{refuse, unsupported, Step, Stop};
+use crate::unsupported::Cause;
 
 pub struct Clock {
     pub field: u32,
@@ -50,20 +51,37 @@ pub fn capacity(csd: u128) -> Step<u64> {
     match bits(csd, 127, 126) {
         0 => match bits(csd, 83, 80) {
             length @ 9..=11 => Ok((bits(csd, 73, 62) + 1) * (1 << (bits(csd, 49, 47) + 2 + length - 9))),
-            _ => refuse(13),
+            _ => unsupported(Cause::BlockLength),
         },
         1 => Ok((bits(csd, 69, 48) + 1) * 1024),
-        _ => refuse(13),
+        _ => unsupported(Cause::Version),
     }
 }
 
 pub fn rate(byte: u8) -> Step<u32> {
     let (unit, value) = (byte % 8, byte / 8 % 16);
     if byte >= 128 || unit > 3 || value == 0 {
-        return refuse(13);
+        return unsupported(Cause::Rate {
+            reserved: byte >= 128,
+            unit: unit > 3,
+            value: value == 0,
+        });
     }
     let times = [0, 10, 12, 13, 15, 20, 25, 30, 35, 40, 45, 50, 55, 60, 70, 80];
     Ok(10_000 * 10u32.pow(unit.into()) * times[usize::from(value)])
+}
+
+/// The C function takes 32 bits. A number over 255 counts as one with its reserved
+/// bit set, whatever its low byte says.
+fn wide_rate(number: u32) -> Step<u32> {
+    match u8::try_from(number) {
+        Ok(byte) => rate(byte),
+        Err(_) => unsupported(Cause::Rate {
+            reserved: true,
+            unit: false,
+            value: false,
+        }),
+    }
 }
 
 pub fn address(high_capacity: bool, blocks: u64, index: u32, count: usize) -> Step<u32> {
@@ -84,10 +102,17 @@ pub fn address(high_capacity: bool, blocks: u64, index: u32, count: usize) -> St
 /// As the oracle packs them.
 pub struct Leaves;
 
+impl Leaves {
+    /// The rate as the C function has it, packed likewise.
+    pub fn wide_rate(number: u32) -> u64 {
+        packed(wide_rate(number).map(u64::from))
+    }
+}
+
 fn packed(result: Step<u64>) -> u64 {
     match result {
         Ok(value) => value,
-        Err(Stop::Refused(number, _)) => u64::from(number) << 56,
+        Err(Stop::Refused(refusal)) => u64::from(refusal.number()) << 56 | refusal.field().map_or(0, u64::from),
         Err(Stop::TraceFull) => unreachable!("a leaf writes no row"),
     }
 }
@@ -114,7 +139,7 @@ impl host::Leaves for Leaves {
 
     fn data_error(status: u32) -> u8 {
         match data_status(status) {
-            Err(Stop::Refused(number, _)) => number,
+            Err(Stop::Refused(refusal)) => refusal.number(),
             _ => 0,
         }
     }

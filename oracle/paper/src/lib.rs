@@ -1,11 +1,15 @@
 //! The host written a second time, from document 01 and its readings, with no
 //! line of the driver. Where it differs from the Rust, one of the papers is
-//! wrong, or a stub is.
+//! wrong, or a stub is. What the Rust does not have, the field of an answer 13, is
+//! from document 02.
 
 mod host;
 mod leaf;
 mod steps;
 mod tape;
+pub mod telling;
+pub mod unsupported;
+pub mod wrong;
 
 pub use host::Host;
 pub use leaf::Leaves;

@@ -4,7 +4,9 @@ use oracle_driver::bench::Reading;
 use oracle_driver::Settings;
 
 use crate::leaf::{clock, data_status};
-use crate::tape::{refuse, Step, Stop, Tape, ARG, CLKCR, CMD, DCTRL, DCTRL2, DELAY, DLEN, DTIMER, ICR};
+use crate::tape::{refuse, unsupported, Refusal, Step, Stop, Tape};
+use crate::tape::{ARG, CLKCR, CMD, DCTRL, DCTRL2, DELAY, DLEN, DTIMER, ICR};
+use crate::unsupported::Cause;
 
 #[derive(Clone, Copy, Eq, PartialEq)]
 pub enum Kind {
@@ -50,7 +52,7 @@ impl Bench<'_, '_> {
         }
         self.tape.open_clock(true)?;
         let result = self.bare(index, argument, kind);
-        if let Ok(_) | Err(Stop::Refused(..)) = result {
+        if let Ok(_) | Err(Stop::Refused(_)) = result {
             self.tape.open_clock(false)?;
         }
         result
@@ -101,7 +103,7 @@ impl Bench<'_, '_> {
             _ => 0,
         };
         if words[0] & errors != 0 {
-            return Err(Stop::Refused(10, words[0]));
+            return Err(Stop::Refused(Refusal::CardStatus(words[0])));
         }
         if kind == Kind::R1 && words[0] & 0x0200_0000 != 0 {
             return refuse(11);
@@ -109,10 +111,11 @@ impl Bench<'_, '_> {
         Ok(words)
     }
 
-    /// CMD55, whose answer says that an application command is taken.
-    pub fn announce(&mut self, rca: u16) -> Step<()> {
+    /// CMD55, whose answer says that an application command is taken; which one it
+    /// is to be, the card is not told.
+    pub fn announce(&mut self, command: u32, rca: u16) -> Step<()> {
         match self.command(55, u32::from(rca) << 16, Kind::R1)?[0] & 0x20 {
-            0 => refuse(13),
+            0 => unsupported(Cause::NotTaken { command }),
             _ => Ok(()),
         }
     }

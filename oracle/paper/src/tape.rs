@@ -1,22 +1,66 @@
 //! The script and the row list ("Script and rows").
 
 use oracle_driver::bench::{Event, Reading};
-use oracle_driver::host::SCRIPT_ENDED;
+use oracle_driver::host::{SCRIPT_ENDED, UNSUPPORTED};
+
+use crate::telling::told;
+use crate::unsupported::{Cause, Field};
 
 /// Why a call stops.
 #[derive(Clone, Copy, Debug, Eq, PartialEq)]
 pub enum Stop {
-    /// Number 1 to 21, and the word that number 10 carries. A script that ends
-    /// is a refusal at its place like the others.
-    Refused(u8, u32),
+    /// Number 1 to 21. A script that ends is a refusal at its place like the
+    /// others.
+    Refused(Refusal),
     /// Final: nothing more is written, and the host is as before.
     TraceFull,
+}
+
+/// A refusal with what it says besides its number.
+#[derive(Clone, Copy, Debug, Eq, PartialEq)]
+pub enum Refusal {
+    /// Nothing: any but the two below.
+    Plain(u8),
+    /// 10, with the card's word.
+    CardStatus(u32),
+    /// 13.
+    Unsupported(Cause),
+}
+
+impl Refusal {
+    pub fn number(self) -> u8 {
+        match self {
+            Refusal::Plain(number) => number,
+            Refusal::CardStatus(_) => 10,
+            Refusal::Unsupported(_) => UNSUPPORTED,
+        }
+    }
+
+    /// The word that 10 carries, else 0.
+    pub fn carried(self) -> u32 {
+        match self {
+            Refusal::CardStatus(word) => word,
+            _ => 0,
+        }
+    }
+
+    /// The number of the field at 13, else none.
+    pub fn field(self) -> Option<u8> {
+        match self {
+            Refusal::Unsupported(cause) => told(cause).map(Field::number),
+            _ => None,
+        }
+    }
 }
 
 pub type Step<T> = Result<T, Stop>;
 
 pub fn refuse<T>(number: u8) -> Step<T> {
-    Err(Stop::Refused(number, 0))
+    Err(Stop::Refused(Refusal::Plain(number)))
+}
+
+pub fn unsupported<T>(cause: Cause) -> Step<T> {
+    Err(Stop::Refused(Refusal::Unsupported(cause)))
 }
 
 pub const POWER: u32 = 1;
@@ -106,7 +150,7 @@ impl<'a> Tape<'a> {
     /// An `OnDrop` guard: what is refused within gets the reset rows, if there
     /// is room for them.
     pub fn guarded<T>(&mut self, within: Step<T>) -> Step<T> {
-        if let Err(Stop::Refused(..)) = within {
+        if let Err(Stop::Refused(_)) = within {
             self.reset()?;
         }
         within

@@ -4,7 +4,7 @@ use Rattle.text.specs.Ink.{Laid}
 use Rattle.host.specs.Calls.{calledOf}
 use Rattle.host.specs.declared.host.Called.{Called}
 use Rattle.book.specs.declared.layout.Asked.{Asked}
-use Rattle.bench.specs.Bench.{cameOf, lineOf, numberOf}
+use Rattle.bench.specs.Bench.{cameOf, lineOf}
 use borrow.Author.Needs.{needs}
 use Rattle.bench.proofs.print.serve_call.Statement.{statement}
 use Rattle.bench.proofs.print.serve_call.Tie as tie
@@ -23,14 +23,12 @@ ask-in-requires c κs =
 
 returns : tie.Need-returns
 returns c =
-    let args = c .before .before .before .before .before .before .before .before .before .before .before .before .before .before .before .args in
-    let asked = c .before .before .before .before .before .before .before .before .before .before .before .before .call-at .ensures in
-    let called : c .before .before .before .before .before .before .before .before .ask-in .result ≡ calledOf (cameOf (args .host) (args .words .now) (args .k) (args .place)) =
-    rw asked at (c .before .before .before .before .before .before .before .before .ask-in .ensures .0) in
-    let number : c .before .before .before .number .result ≡ numberOf (c .before .before .before .before .before .before .before .before .ask-in .result .answer) =
-    c .before .before .before .number .ensures in
+    let args = c .before .before .before .before .before .before .before .before .before .before .before .before .before .before .args in
+    let asked = c .before .before .before .before .before .before .before .before .before .before .before .call-at .ensures in
+    let called : c .before .before .before .before .before .before .before .ask-in .result ≡ calledOf (cameOf (args .host) (args .words .now) (args .k) (args .place)) =
+    rw asked at (c .before .before .before .before .before .before .before .ask-in .ensures .0) in
     let line : Laid (args .at) (lineOf (args .host) (args .words .now) (args .k) (args .place)) (args .out .now) (c .before .before .put-call .result) (c .before .before .put-call .last .0) =
-    rw (number, called) at (c .before .before .put-call .ensures) in
+    rw called at (c .before .before .put-call .ensures) in
     let at = ap (λ (x : Asked). x .«script_at») asked in
     let len = ap (λ (x : Asked). x .«script_len») asked in (
       ap (λ (x : Called). x .host) called,
@@ -38,4 +36,4 @@ returns c =
     )
 
 pub serve-call-spec : {M : Type 1} → statement M
-serve-call-spec = tie.close (tie.spec (λ c κs. search needs) add-end (λ c. search needs) (λ c. search needs) ask-in-requires (λ c. search needs) (λ c κs. search needs) (λ c κs. search needs) (λ c. search needs) returns)
+serve-call-spec = tie.close (tie.spec (λ c κs. search needs) add-end (λ c. search needs) (λ c. search needs) ask-in-requires (λ c. search needs) (λ c κs. search needs) (λ c. search needs) returns)

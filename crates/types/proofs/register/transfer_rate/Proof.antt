@@ -36,10 +36,10 @@ returns-4 c =
     rw (ne-eqb _ _ (c .before .before .if1 .left), div-one, le-ltb _ _ (c .before .if2 .left), ne-eqb _ _ (c .if3 .left), ← tenth (c .before .before .before .args .encoded % 8))
 
 -- at most ten million times eighty
-mul-t22 : tie.Need-mul-t22
-mul-t22 c =
+mul-t25 : tie.Need-mul-t25
+mul-t25 c =
     let byte = c .before .before .before .args .encoded in
     record { fits = lt-of-le-of-lt (mul-le-mul (bounded 10_000_000 unitTenths tt (byte % 8)) (bounded 80 rateTenths tt (byte / 8 % 16))) (lit< tt) }
 
 pub transfer-rate-spec : {M : Type 1} → statement M
-transfer-rate-spec = tie.close (tie.spec returns returns-2 returns-3 (λ c. search needs) (λ c. search needs) (λ c. search needs) (λ c. search needs) (λ c. search needs) (λ c. search needs) mul-t22 returns-4)
+transfer-rate-spec = tie.close (tie.spec returns returns-2 returns-3 (λ c. search needs) (λ c. search needs) (λ c. search needs) (λ c. search needs) (λ c. search needs) (λ c. search needs) mul-t25 returns-4)

@@ -11,9 +11,9 @@ use borrow.Author.Needs.{needs}
 use Rattle.types.proofs.error.Error.word.Statement.{statement}
 use Rattle.types.proofs.error.Error.word.Tie as tie
 
--- every variant but CardStatus
+-- every variant but CardStatus and UnsupportedCardType
 abbrev others : List ℕ
-others = 0 ∷ 1 ∷ 2 ∷ 3 ∷ 4 ∷ 5 ∷ 6 ∷ 7 ∷ 8 ∷ 10 ∷ 11 ∷ 12 ∷ 13 ∷ 14 ∷ 15 ∷ 16 ∷ 17 ∷ 18 ∷ 19 ∷ []
+others = 0 ∷ 1 ∷ 2 ∷ 3 ∷ 4 ∷ 5 ∷ 6 ∷ 7 ∷ 8 ∷ 10 ∷ 11 ∷ 13 ∷ 14 ∷ 15 ∷ 16 ∷ 17 ∷ 18 ∷ 19 ∷ []
 
 bare : (e : Error) → OneOf others (Declared.tagOf Error-row.the-type e) → 0 ≡ carried (errorTold e)
 unfolding errorTold
@@ -29,7 +29,7 @@ bare E.ResponseMismatch h = refl
 bare (E.CardStatus word) h = absurd (miss others 9 tt h)
 bare E.CardLocked h = refl
 bare E.UnsupportedCardVersion h = refl
-bare E.UnsupportedCardType h = refl
+bare (E.UnsupportedCardType field) h = absurd (miss others 12 tt h)
 bare E.UnsupportedBusWidth h = refl
 bare E.SignalingSwitchFailed h = refl
 bare E.NoCard h = refl
@@ -40,4 +40,4 @@ bare E.AddressOutOfRange h = refl
 
 pub word-spec : {M : Type 1} → statement M
 unfolding errorTold
-word-spec = tie.close (tie.spec (λ c. search needs) (λ c. rw (c .before .self .given .1)) (λ c. bare (c .before .args .self) (c .match .keys2)))
+word-spec = tie.close (tie.spec (λ c. search needs) (λ c. search needs) (λ c κs. search needs) (λ c. search needs) (λ c. rw (c .before .self .given .1)) (λ c. rw (c .before .before .self2 .given .1) (c .number .ensures)) (λ c. bare (c .before .args .self) (c .match .keys3)))

@@ -1,0 +1,63 @@
+-- How long what is told of an answer can be: its number has two digits at most, its field one.
+use Prim.Native.Nat.{_≤_}
+use native.Mathlib.Omega.{arith}
+use lib.ListN.{length}
+use Rattle.types.specs.declared.error.Answer.{Answer}
+use Rattle.types.specs.declared.error.Answer.the-variants as Answered
+use Rattle.types.specs.declared.error.Error.{Error}
+use Rattle.types.specs.declared.error.Error.the-variants as E
+use Rattle.types.specs.declared.error.Field.{Field}
+use Rattle.types.specs.declared.error.Field.the-variants as F
+use Rattle.types.specs.Answer.{fieldNumber, errorTold, answerTold}
+use Rattle.text.specs.Digits.{decimalIn, decimalOf}
+use Rattle.book.specs.Lines.{answerText}
+
+field-short : (field : Field) → length (answerText (Answered.Refused (E.UnsupportedCardType field))) ≤ 18
+unfolding fieldNumber errorTold answerTold decimalIn decimalOf
+field-short F.CsdVersion = omega arith
+field-short F.BlockLength = omega arith
+field-short F.RateUnit = omega arith
+field-short F.RateValue = omega arith
+field-short F.RateReservedBit = omega arith
+field-short F.CsdAndOcr = omega arith
+field-short F.Voltage = omega arith
+field-short F.AppCommand = omega arith
+
+error-short : (e : Error) → (errorTold e .number ≤ 20) × (length (answerText (Answered.Refused e)) ≤ 18)
+unfolding errorTold answerTold decimalIn decimalOf
+error-short E.Timeout = (omega arith, omega arith)
+error-short E.SoftwareTimeout = (omega arith, omega arith)
+error-short E.Crc = (omega arith, omega arith)
+error-short E.StBitErr = (omega arith, omega arith)
+error-short E.Overrun = (omega arith, omega arith)
+error-short E.Underrun = (omega arith, omega arith)
+error-short E.Dma = (omega arith, omega arith)
+error-short E.IncompleteTransfer = (omega arith, omega arith)
+error-short E.ResponseMismatch = (omega arith, omega arith)
+error-short (E.CardStatus word) = (omega arith, omega arith)
+error-short E.CardLocked = (omega arith, omega arith)
+error-short E.UnsupportedCardVersion = (omega arith, omega arith)
+error-short (E.UnsupportedCardType field) = (omega arith, field-short field)
+error-short E.UnsupportedBusWidth = (omega arith, omega arith)
+error-short E.SignalingSwitchFailed = (omega arith, omega arith)
+error-short E.NoCard = (omega arith, omega arith)
+error-short E.BadClock = (omega arith, omega arith)
+error-short E.InvalidConfig = (omega arith, omega arith)
+error-short E.InvalidBufferLength = (omega arith, omega arith)
+error-short E.AddressOutOfRange = (omega arith, omega arith)
+
+pub answer-number : (a : Answer) → answerTold a .number ≤ 23
+unfolding answerTold
+answer-number Answered.Accepted = omega arith
+answer-number (Answered.Refused e) = omega (arith, error-short e .0)
+answer-number Answered.ScriptEnded = omega arith
+answer-number Answered.TraceFull = omega arith
+answer-number Answered.BadBook = omega arith
+
+pub answer-short : (a : Answer) → length (answerText a) ≤ 18
+unfolding answerTold decimalIn decimalOf
+answer-short Answered.Accepted = omega arith
+answer-short (Answered.Refused e) = error-short e .1
+answer-short Answered.ScriptEnded = omega arith
+answer-short Answered.TraceFull = omega arith
+answer-short Answered.BadBook = omega arith
