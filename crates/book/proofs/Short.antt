@@ -1,27 +1,23 @@
 -- How long what is told of an answer can be: its number has two digits at most, its field one.
 use Prim.Native.Nat.{_≤_}
 use native.Mathlib.Omega.{arith}
-use lib.ListN.{length}
+use lib.ListN.{length, length-append}
 use Rattle.types.specs.declared.error.Answer.{Answer}
 use Rattle.types.specs.declared.error.Answer.the-variants as Answered
 use Rattle.types.specs.declared.error.Error.{Error}
 use Rattle.types.specs.declared.error.Error.the-variants as E
 use Rattle.types.specs.declared.error.Field.{Field}
-use Rattle.types.specs.declared.error.Field.the-variants as F
 use Rattle.types.specs.Answer.{fieldNumber, errorTold, answerTold}
+use Rattle.types.proofs.Bounds.{field-most}
 use Rattle.text.specs.Digits.{decimalIn, decimalOf}
+use Rattle.text.proofs.Decimal.{digits-at-most}
 use Rattle.book.specs.Lines.{answerText}
 
 field-short : (field : Field) → length (answerText (Answered.Refused (E.UnsupportedCardType field))) ≤ 18
-unfolding fieldNumber errorTold answerTold decimalIn decimalOf
-field-short F.CsdVersion = omega arith
-field-short F.BlockLength = omega arith
-field-short F.RateUnit = omega arith
-field-short F.RateValue = omega arith
-field-short F.RateReservedBit = omega arith
-field-short F.CsdAndOcr = omega arith
-field-short F.Voltage = omega arith
-field-short F.AppCommand = omega arith
+unfolding errorTold answerTold
+field-short field =
+    rw (length-append, length-append, length-append)
+    (omega (arith, digits-at-most 1 13 (omega arith), digits-at-most 0 (fieldNumber field) (omega (arith, field-most field .1))))
 
 error-short : (e : Error) → (errorTold e .number ≤ 20) × (length (answerText (Answered.Refused e)) ≤ 18)
 unfolding errorTold answerTold decimalIn decimalOf

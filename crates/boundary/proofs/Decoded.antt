@@ -7,28 +7,17 @@ use lib.Pow.{high, low}
 use Rattle.types.specs.declared.clock.Clock.{Clock}
 use Rattle.types.specs.declared.error.Error.the-variants.{UnsupportedCardType, BadClock, InvalidBufferLength, AddressOutOfRange}
 use Rattle.types.specs.declared.error.Field.{Field}
-use Rattle.types.specs.declared.error.Field.the-variants as F
 use Rattle.types.specs.Answer.{flag, fieldNumber, errorTold}
+use Rattle.types.proofs.Bounds.{field-most}
 use Rattle.boundary.specs.Packed.{packed, refusedWord, clockValue}
 
 pub decoded : (number value : ℕ) → value < 2 ^ 56 → (packed number value / 2 ^ 56 ≡ number) × (packed number value % 2 ^ 56 ≡ value)
 decoded number value h = (high number 56 h, low number 56 h)
 
-field-lt : (field : Field) → fieldNumber field < 2 ^ 56
-unfolding fieldNumber
-field-lt F.CsdVersion = omega arith
-field-lt F.BlockLength = omega arith
-field-lt F.RateUnit = omega arith
-field-lt F.RateValue = omega arith
-field-lt F.RateReservedBit = omega arith
-field-lt F.CsdAndOcr = omega arith
-field-lt F.Voltage = omega arith
-field-lt F.AppCommand = omega arith
-
 -- of a refusal with 13 the field's number stands in the low seven bytes, and nothing else does
 pub field-told : (field : Field) → (refusedWord (UnsupportedCardType field) / 2 ^ 56 ≡ 13) × (refusedWord (UnsupportedCardType field) % 2 ^ 56 ≡ fieldNumber field)
 unfolding errorTold
-field-told field = decoded 13 (fieldNumber field) (field-lt field)
+field-told field = decoded 13 (fieldNumber field) (omega (arith, field-most field .1))
 
 -- the other three refusals of these functions have 0 there
 pub others-bare : (refusedWord BadClock ≡ packed 17 0) × ((refusedWord InvalidBufferLength ≡ packed 19 0) × (refusedWord AddressOutOfRange ≡ packed 20 0))

@@ -14,9 +14,10 @@ use Rattle.types.specs.Settings.{madeOf}
 use Rattle.init.specs.declared.settings.Settings.{Settings}
 use Rattle.tape.proofs.Words.{reach}
 use Rattle.init.specs.Initialise.{sourceOf, noCard}
+use Rattle.refusals.specs.Fields.{CarriesField}
 use Rattle.refusals.specs.Whole.{initWhole, readWhole, statusWhole}
 use Rattle.refusals.proofs.Ended.{Ended, initialise-ended, read-ended, status-ended}
-use Rattle.refusals.proofs.Fields.{CarriesField, initialise-field, read-field, status-field}
+use Rattle.refusals.proofs.Fields.{initialise-field, read-field, status-field}
 use Rattle.refusals.proofs.Whole.{Whence17, wouldWrite, initialise-17, read-not-17, status-not-17}
 use Rattle.host.specs.declared.host.Sdmmc.{Sdmmc}
 use Rattle.host.specs.Calls.{judgedHost, made}

@@ -1,17 +1,14 @@
 -- A refused initialisation's 13 carries the field of the step that refused: along its plan, whatever is refused with
 -- UnsupportedCardType is so after the command, and for the answer, that its field says.
 use Prim.Native.Nat.{ℕ, _+_, _^_, _≤_}
-use mathlib.Core.Bool.{Bool, true, false, cond, not, _&&_, _||_}
+use mathlib.Core.Bool.{Bool, true, false, cond, _&&_}
 use mathlib.Core.List.{List}
-use mathlib.Core.Path.{_≡_, refl, sym, ap, _∙_}
+use mathlib.Core.Path.{_≡_, refl, sym, ap}
 use native.Mathlib.Omega.{arith}
 use lib.Dec.{eqb, ltb, leb}
 use lib.ListN.{getD}
 use Rattle.types.specs.declared.card.Card.{Card}
-use Rattle.types.specs.declared.card.CardCapacity.{CardCapacity}
-use Rattle.types.specs.declared.card.CardCapacity.the-variants.{SDSC, SDHC}
 use Rattle.types.specs.declared.clock.Clock.{Clock}
-use Rattle.types.specs.declared.clock.ClockAnswer.{ClockAnswer}
 use Rattle.types.specs.declared.clock.ClockAnswer.the-variants as Clocked
 use Rattle.types.specs.declared.error.Error.{Error}
 use Rattle.types.specs.declared.error.Error.the-variants as E
@@ -23,28 +20,29 @@ use Rattle.types.specs.declared.register.CountAnswer.the-variants as Counted
 use Rattle.types.specs.declared.register.RateAnswer.{RateAnswer}
 use Rattle.types.specs.declared.register.RateAnswer.the-variants as Rated
 use Rattle.types.specs.Answer.{errorTold}
-use Rattle.types.specs.Bits.{bits, bit, clear}
+use Rattle.types.specs.Bits.{clear}
 use Rattle.types.specs.Leaf.{divisorOf, clockOf, countOf, rateOf}
-use Rattle.types.specs.Sd.{tranSpeed, sdSpec, atFault}
+use Rattle.types.specs.Sd.{tranSpeed}
 use Rattle.types.specs.Words.{counted, halvesOf}
-use Rattle.types.proofs.Agree.{count-fault, rate-fault}
+use Rattle.types.proofs.Agree.{CountFault, of-version, of-length, count-fault, RateFault, of-reserved-bit, of-unit, of-value, rate-fault}
 use Rattle.tape.specs.declared.rows.Row.{Row}
 use Rattle.tape.specs.Plan.{Nothing, Plan, handle, _then_}
 use Rattle.tape.specs.Rows.{DELAY}
-use Rattle.tape.specs.Steps.{row, holdGated, holdClock, holdSignalling, resetController}
-use Rattle.tape.proofs.Walk.{Rule, Obeys, on-handle, on-rows, on-end, on-give, on-fail, on-then, on-look, on-hold, on-test, on-row, on-ensure}
+use Rattle.tape.specs.Steps.{row, resetController}
+use Rattle.tape.proofs.Walk.{Rule, Obeys, on-give, on-fail, on-then, on-test, on-row, on-ensure}
 use Rattle.bus.specs.Clock.{spinsOf, clockDelay}
 use Rattle.bus.specs.Command.{firstOf, formOf, appCommand}
 use Rattle.bus.specs.declared.response.Response.the-variants.{R1, R2, R3}
 use Rattle.bus.specs.Sent.{sentAfter, answerAt}
 use Rattle.bus.proofs.Shown.{opposite, shows, Tells, tells-handle, tells-give, tells-fail, tells-end, tells-then, tells-test, tells-ensure, tells-until, tells-obeyed, Answered, command-tells, app-tells}
-use Rattle.bus.proofs.Walks.{unequal, Other, not-13, Ordinary, clken-obeys, command-obeys, retry-obeys, ready-obeys, configure-obeys, reset-rows, data-obeys}
+use Rattle.bus.proofs.Walks.{unequal, Other, not-13, Ordinary, command-obeys, retry-obeys, ready-obeys, data-obeys}
 use Rattle.init.specs.declared.settings.Settings.{Settings}
 use Rattle.init.specs.Fields.{commandOf, ownAnswer, csdAt, Says, Blames}
-use Rattle.init.specs.Initialise.{sourceOf, limitOf, version, timedOut, late, cardVersion, powerOn, beginInit, powerUp, poweredUp, tryPowerUp, waitPowerUp}
-use Rattle.init.specs.Initialise.{same, select, publish, identify, blockLength, readScr, setWidth, clocked, setClock, rated, transferClock}
-use Rattle.init.specs.Initialise.{offered, takeSwitch, askSwitch, switchSpeed, settleCard, initCard, initialise}
+use Rattle.init.specs.Initialise.{sourceOf, limitOf, powerUp, poweredUp, tryPowerUp, waitPowerUp}
+use Rattle.init.specs.Initialise.{same, select, publish, identify, readScr, setWidth, rated, transferClock}
+use Rattle.init.specs.Initialise.{settleCard, initCard, initialise}
 use Rattle.init.specs.Initialise as I
+use Rattle.init.proofs.Walks.{Allows, begin-obeys, block-length-obeys, clock-obeys, switch-obeys}
 
 -- STEPS THAT SAY NOTHING OF A CARD'S TYPE: they are refused with other errors.
 
@@ -88,47 +86,18 @@ unfolding clockDelay
 delay-obeys source clock cycles =
     on-test (eqb clock 0) (on-fail bad-clock) (on-test (ltb (spinsOf source clock cycles) (2 ^ 32)) (on-row DELAY (spinsOf source clock cycles) tt) (on-fail bad-clock))
 
-begin-obeys : (set : Settings) (initial : Clock) → Obeys typeless Bool (beginInit set initial)
-unfolding beginInit powerOn cardVersion late version errorTold
-begin-obeys set initial =
-    on-then
-    (on-then (on-rows (reset-rows typeless not-13 any row-any))
-    (λ _. on-then (configure-obeys typeless not-13 any _ initial false false)
-    (λ _. on-then (on-row _ _ tt) (λ _. on-then (clken-obeys typeless not-13 any true) (λ _. delay-obeys _ _ 80)))))
-    (λ _. on-then (command-obeys typeless not-13 any _ 0 _ _)
-    (λ _. on-handle late (command-obeys typeless not-13 any _ 8 _ _)
-    (λ ws. on-test (eqb (firstOf ws) 0x1aa) on-give (on-then (on-ensure _ E.UnsupportedCardVersion (λ z. omega arith)) (λ _. on-give)))
-    (λ e r. on-test (timedOut e) on-give (on-fail r)) on-end))
-
-clock-obeys : (set : Settings) (requested : ℕ) → Obeys typeless Nothing (setClock set requested)
-unfolding setClock holdClock holdGated
-clock-obeys set requested = on-then (by (clockOf (sourceOf set) requested (set .config .«allow_clock_bypass»)) refl)
-    (λ clock. on-then (configure-obeys typeless not-13 any _ clock _ false)
-    (λ _. on-then (on-look (λ line i. on-hold tt on-give)) (λ _. on-look (λ line i. on-hold tt on-give))))
-  where
-    by : (a : ClockAnswer) → clockOf (sourceOf set) requested (set .config .«allow_clock_bypass») ≡ a → Obeys typeless Clock (clocked a)
-    by (Clocked.Set c) g = on-give
-    by (Clocked.Refused e) g = on-fail (clock-not-13 _ requested _ e g)
-
-take-obeys : (set : Settings) (frequency rca : ℕ) → Obeys typeless Nothing (takeSwitch set frequency rca)
-unfolding takeSwitch holdSignalling errorTold
-take-obeys set frequency rca =
-    on-then (data-obeys typeless not-13 any row-any _ _ _ _)
-    (λ ws. on-then (on-ensure _ E.SignalingSwitchFailed (λ z. omega arith))
-    (λ _. on-then (on-look (λ line i. delay-obeys _ _ 8))
-    (λ _. on-then (clock-obeys set _) (λ _. on-look (λ line i. on-hold tt on-give)))))
-
-switch-obeys : (set : Settings) (frequency rca scr : ℕ) → Obeys typeless Nothing (switchSpeed set frequency rca scr)
-unfolding switchSpeed askSwitch
-switch-obeys set frequency rca scr =
-    on-test (ltb 25_000_000 frequency && not (eqb (sdSpec scr) 0))
-    (on-then (data-obeys typeless not-13 any row-any _ _ _ _) (λ ws. on-test (offered ws) (take-obeys set frequency rca) on-give))
-    on-give
-
-block-length-obeys : (limit : ℕ) (class : CardCapacity) → Obeys typeless Nothing (blockLength limit class)
-unfolding blockLength
-block-length-obeys limit SDSC = on-then (command-obeys typeless not-13 any _ 16 _ _) (λ _. on-give)
-block-length-obeys limit SDHC = on-give
+pub allows : (set : Settings) → Allows set typeless
+allows set =
+    record {
+      others = not-13;
+      row = λ r. tt;
+      Runs = λ clock. Unit {0};
+      runs = λ h i. tt;
+      line = λ h h′ i f. tt;
+      delay = λ clock cycles f h. delay-obeys (sourceOf set) clock cycles;
+      given = λ requested c g. tt;
+      refused = λ requested e g. clock-not-13 _ requested _ e g;
+    }
 
 -- THE STEPS THAT DO.
 
@@ -193,36 +162,17 @@ module _ (s : List ℕ) where
       tells-until s (λ u c. Unit {0}) _ poweredUp (λ u c i. unblamed u c E.SoftwareTimeout (λ z. omega arith)) (λ u c i. tries set version2) (λ u c ocr o. tt) u c tt
 
   -- CMD9: the capacity's own fields
-  count-blames : (k u c : ℕ) → c ≡ 9 → u ≡ k + 4 → (field : Field) → countOf (csdAt s k) ≡ Counted.Refused (E.UnsupportedCardType field) → Blames s u c field
-  unfolding countOf Says commandOf ownAnswer
-  count-blames k u c sent last field r =
-      by (eqb (bits csd 127 126) 0) (ltb (bits csd 83 80) 9 || ltb 11 (bits csd 83 80)) (eqb (bits csd 127 126) 1) _ _ r
-    where
-      csd : ℕ
-      csd = csdAt s k
-
-      fault : {f : Field} → f ≡ field → atFault f csd ≡ true
-      fault e = ap (λ (f : Field). atFault f csd) e ∙ count-fault csd field r
-
-      by : (a b d : Bool) (m n : BlockCount)
-          → cond a (cond b (Counted.Refused (E.UnsupportedCardType BlockLength)) (Counted.Blocks m)) (cond d (Counted.Blocks n) (Counted.Refused (E.UnsupportedCardType CsdVersion)))
-          ≡ Counted.Refused (E.UnsupportedCardType field)
-          → Blames s u c field
-      by true true d m n r =
-          let same : BlockLength ≡ field = cc in
-          rw (← same) (record { sent = sent; place = k; within = omega arith; last = λ _. last; says = fault same })
-      by true false d m n r = let z : _≡_ {A = ℕ} 0 1 = cc in absurd (omega arith)
-      by false b true m n r = let z : _≡_ {A = ℕ} 0 1 = cc in absurd (omega arith)
-      by false b false m n r =
-          let same : CsdVersion ≡ field = cc in
-          rw (← same) (record { sent = sent; place = k; within = omega arith; last = λ _. last; says = fault same })
+  count-blames : (k : ℕ) {u c : ℕ} → c ≡ 9 → u ≡ k + 4 → {e : Error} → CountFault (csdAt s k) e → Blamed u c e
+  unfolding Says commandOf ownAnswer
+  count-blames k sent last (of-version f) = blamed CsdVersion (record { sent = sent; place = k; within = omega arith; last = λ _. last; says = f })
+  count-blames k sent last (of-length f) = blamed BlockLength (record { sent = sent; place = k; within = omega arith; last = λ _. last; says = f })
 
   counts : (k u c : ℕ) → c ≡ 9 → u ≡ k + 4 → Tells s Blamed BlockCount (λ u c n. k + 4 ≤ u) u c (I.counted (countOf (csdAt s k)))
   counts k u c sent last = by (countOf (csdAt s k)) refl
     where
       by : (a : CountAnswer) → countOf (csdAt s k) ≡ a → Tells s Blamed BlockCount (λ u c n. k + 4 ≤ u) u c (I.counted a)
       by (Counted.Blocks n) g = tells-give s (omega arith)
-      by (Counted.Refused e) g = tells-fail s (λ field same. count-blames k u c sent last field (g ∙ ap Counted.Refused same))
+      by (Counted.Refused e) g = tells-fail s (count-blames k sent last (count-fault (csdAt s k) e g))
 
   -- the CSD of the record is one that was taken
   record CsdIn (u : ℕ) (card : Card) : Type 0 where
@@ -260,7 +210,7 @@ module _ (s : List ℕ) where
   unfolding readScr
   reads-scr from set card h =
       tells-then s (keeps from (ready-obeys typeless not-13 any _ _ _) h)
-      (λ u c x h. tells-then s (keeps from (block-length-obeys (limitOf set) (card .«card_type»)) h)
+      (λ u c x h. tells-then s (keeps from (block-length-obeys (allows set) (card .«card_type»)) h)
       (λ u c x h. tells-then s (app from (limitOf set) (card .rca) h)
       (λ u c x h. tells-then s (keeps from (data-obeys typeless not-13 any row-any _ _ _ _) h) (λ u c ws h. tells-give s h))))
 
@@ -272,39 +222,24 @@ module _ (s : List ℕ) where
       (λ u c x h. tells-then s (command-tells s Blamed others from 6 (limitOf set) _ R1 (omega arith) refl h)
       (λ u c ws a. let l = a .last in let m = a .later in tells-give s (omega arith, a .sent))))
 
-  rate-blames : (k u c : ℕ) → c ≡ 6 → k + 4 ≤ u → (field : Field) → rateOf (tranSpeed (csdAt s k)) ≡ Rated.Refused (E.UnsupportedCardType field) → Blames s u c field
-  unfolding rateOf Says commandOf ownAnswer
-  rate-blames k u c sent within field r =
-      by (bit byte 7) (ltb 3 (bits byte 2 0)) (eqb (bits byte 6 3) 0) _ r
+  rate-blames : (k : ℕ) {u c : ℕ} → c ≡ 6 → k + 4 ≤ u → {e : Error} → RateFault (csdAt s k) e → Blamed u c e
+  unfolding Says commandOf ownAnswer
+  rate-blames k {u} {c} sent within r = by r
     where
-      byte : ℕ
-      byte = tranSpeed (csdAt s k)
+      earlier : {n : ℕ} → _≡_ {A = Bool} false true → u ≡ n
+      earlier e = absurd (unequal (sym e))
 
-      fault : {f : Field} → f ≡ field → atFault f (csdAt s k) ≡ true
-      fault e = ap (λ (f : Field). atFault f (csdAt s k)) e ∙ rate-fault (csdAt s k) field r
-
-      by : (a b d : Bool) (n : ℕ)
-          → cond a (Rated.Refused (E.UnsupportedCardType RateReservedBit))
-          (cond b (Rated.Refused (E.UnsupportedCardType RateUnit)) (cond d (Rated.Refused (E.UnsupportedCardType RateValue)) (Rated.Rate n)))
-          ≡ Rated.Refused (E.UnsupportedCardType field)
-          → Blames s u c field
-      by true b d n r =
-          let same : RateReservedBit ≡ field = cc in
-          rw (← same) (record { sent = sent; place = k; within = within; last = λ e. absurd (unequal (sym e)); says = fault same })
-      by false true d n r =
-          let same : RateUnit ≡ field = cc in
-          rw (← same) (record { sent = sent; place = k; within = within; last = λ e. absurd (unequal (sym e)); says = fault same })
-      by false false true n r =
-          let same : RateValue ≡ field = cc in
-          rw (← same) (record { sent = sent; place = k; within = within; last = λ e. absurd (unequal (sym e)); says = fault same })
-      by false false false n r = let z : _≡_ {A = ℕ} 0 1 = cc in absurd (omega arith)
+      by : {e : Error} → RateFault (csdAt s k) e → Blamed u c e
+      by (of-reserved-bit f) = blamed RateReservedBit (record { sent = sent; place = k; within = within; last = earlier; says = f })
+      by (of-unit f) = blamed RateUnit (record { sent = sent; place = k; within = within; last = earlier; says = f })
+      by (of-value f) = blamed RateValue (record { sent = sent; place = k; within = within; last = earlier; says = f })
 
   rates : (k u c : ℕ) → c ≡ 6 → k + 4 ≤ u → Tells s Blamed ℕ (λ u c n. 0 ≤ u) u c (rated (rateOf (tranSpeed (csdAt s k))))
   rates k u c sent within = by (rateOf (tranSpeed (csdAt s k))) refl
     where
       by : (a : RateAnswer) → rateOf (tranSpeed (csdAt s k)) ≡ a → Tells s Blamed ℕ (λ u c n. 0 ≤ u) u c (rated a)
       by (Rated.Rate n) g = tells-give s (omega arith)
-      by (Rated.Refused e) g = tells-fail s (λ field same. rate-blames k u c sent within field (g ∙ ap Rated.Refused same))
+      by (Rated.Refused e) g = tells-fail s (rate-blames k sent within (rate-fault (csdAt s k) e g))
 
   settles : {u c : ℕ} (set : Settings) (frequency : ℕ) (card : Card) → CsdIn u card → Tells s Blamed Card (λ u c a. 0 ≤ u) u c (settleCard set frequency card)
   unfolding settleCard transferClock
@@ -312,13 +247,13 @@ module _ (s : List ℕ) where
       tells-then s (reads-scr (d .place + 4) set card (d .within))
       (λ u c scr h. tells-then s (widens (d .place + 4) set (card .rca) scr h)
       (λ u c x k. tells-then s
-      (tells-then s (rw (d .is) (rates (d .place) u c (k .1) (k .0))) (λ u c rate h. keeps 0 (clock-obeys set _) h))
-      (λ u c x h. tells-then s (keeps 0 (switch-obeys set frequency (card .rca) scr) h) (λ u c x h. tells-give s h))))
+      (tells-then s (rw (d .is) (rates (d .place) u c (k .1) (k .0))) (λ u c rate h. keeps 0 (clock-obeys (allows set) _) h))
+      (λ u c x h. tells-then s (keeps 0 (switch-obeys (allows set) frequency (card .rca) scr) h) (λ u c x h. tells-give s h))))
 
   steps : {u c : ℕ} (set : Settings) (initial : Clock) (frequency : ℕ) → Tells s Blamed Card (λ u c a. 0 ≤ u) u c (initCard set initial frequency)
-  unfolding initCard
+  unfolding initCard allows
   steps set initial frequency =
-      tells-then s (keeps 0 (begin-obeys set initial) (omega arith))
+      tells-then s (keeps 0 (begin-obeys (allows set) initial tt) (omega arith))
       (λ u c version2 h. tells-then s (waits set version2)
       (λ u c ocr o. tells-then s (identifies (limitOf set) ocr (o .0) (o .1)) (λ u c card d. settles set frequency card d)))
 

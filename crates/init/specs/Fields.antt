@@ -41,8 +41,8 @@ ownAnswer AppCommand = true
 abbrev pub csdAt : List ℕ → ℕ → ℕ
 csdAt s k = wideOf (halvesOf (answerAt s k))
 
--- what that answer says: SD's fault in the CSD; a CSD other than an OCR taken before it, of a card that had powered up; no bit of the voltages
--- 0x00300000; no bit 5, APP_CMD
+-- what that answer says: SD's fault in the CSD; a CSD of another kind than an OCR that was taken before it, of a card that had
+-- powered up; no bit of the voltages, 0x00300000; no bit 5, APP_CMD
 unfoldable pub Says : List ℕ → ℕ → Field → Type 0
 Says s k CsdVersion = atFault CsdVersion (csdAt s k) ≡ true
 Says s k BlockLength = atFault BlockLength (csdAt s k) ≡ true

@@ -22,17 +22,13 @@ use Rattle.tape.specs.Run.{run}
 use Rattle.bus.specs.Sent.{lastSent}
 use Rattle.bus.proofs.Shown.{Tells, run-shows, tells-fail, tells-hold, tells-then, tells-test, tells-obeyed, app-tells}
 use Rattle.bus.proofs.Walks.{not-13, data-obeys}
-use Rattle.init.specs.Fields.{Blames}
 use Rattle.init.specs.Initialise.{sourceOf, limitOf, noCard}
 use Rattle.init.proofs.Fields.{Not13, typeless, any, row-any, bad-clock, clock-not-13, Blamed, unblamed, keeps, app, initialise-tells}
 use Rattle.host.specs.declared.host.Sdmmc.{Sdmmc}
 use Rattle.host.specs.Calls.{Came, initialised, readCame, statusCame}
+use Rattle.refusals.specs.Fields.{CarriesField}
 use Rattle.refusals.specs.Whole.{initAt, initWhole, statusWhole, Ran}
 use Rattle.refusals.proofs.Whole.{refused-pace, initialise-ran, status-ran, read-not-13}
-
--- a call refused with 13, by what it leaves
-abbrev pub CarriesField : List ℕ → Came → Type 0
-CarriesField s x = (field : Field) → x .answer ≡ Answered.Refused (E.UnsupportedCardType field) → Blames s (x .words) (lastSent (x .rows) (x .list)) field
 
 module _ (host : Sdmmc) (s : List ℕ) (l : List Row) where
   -- its plan tells

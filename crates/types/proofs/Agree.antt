@@ -15,8 +15,8 @@ use Rattle.types.specs.declared.card.AddressAnswer.the-variants as Addre
 use Rattle.types.specs.declared.register.CountAnswer.{CountAnswer}
 use Rattle.types.specs.declared.register.CountAnswer.the-variants as Count
 use Rattle.types.specs.declared.register.RateAnswer.the-variants as Rate
+use Rattle.types.specs.declared.error.Error.{Error}
 use Rattle.types.specs.declared.error.Error.the-variants.{UnsupportedCardType, InvalidBufferLength, AddressOutOfRange}
-use Rattle.types.specs.declared.error.Field.{Field}
 use Rattle.types.specs.declared.error.Field.the-variants.{CsdVersion, BlockLength, RateUnit, RateValue, RateReservedBit}
 use Rattle.types.specs.Bits.{bits, bit}
 use Rattle.types.specs.Leaf.{countOf, rateOf, rateUnits, rateTenths, unitsOf, addressOf}
@@ -147,41 +147,48 @@ rate byte =
     by false false false =
         ap Rate.Rate (ap (λ (x : ℕ). x * tenths) (tens (bits byte 2 0)) ∙ scaled (unit / 1_000) tenths)
 
--- Fields: what a capacity or a rate is refused for is at fault, by SD's codes.
+-- Fields: a capacity is refused for its version or its block length, a rate for one of its three fields, and for nothing else;
+-- and what it is refused for is at fault by SD's codes.
 
-fault-of : {f g : Field} (csd : ℕ) → f ≡ g → atFault f csd ≡ true → atFault g csd ≡ true
-fault-of csd e h = rw (← e) h
+pub data CountFault (csd : ℕ) : Error → Type 0 where
+  of-version : atFault CsdVersion csd ≡ true → CountFault csd (UnsupportedCardType CsdVersion)
+  of-length : atFault BlockLength csd ≡ true → CountFault csd (UnsupportedCardType BlockLength)
 
-pub count-fault : (csd : ℕ) (field : Field) → countOf csd ≡ Count.Refused (UnsupportedCardType field) → atFault field csd ≡ true
+pub count-fault : (csd : ℕ) (e : Error) → countOf csd ≡ Count.Refused e → CountFault csd e
 unfolding sdCount blocksBy blocks1 atFault lengthFault isReserved
-count-fault csd field e = by (codeIn structures (csdStructure csd)) refl (sym (capacity csd) ∙ e)
+count-fault csd e r = by (codeIn structures (csdStructure csd)) refl (sym (capacity csd) ∙ r)
   where
     length : (code : Code ℕ) → codeIn blockLengths (readBlLen csd) ≡ code → codeIn structures (csdStructure csd) ≡ means version1
-        → blocks1 csd code ≡ Count.Refused (UnsupportedCardType field) → atFault field csd ≡ true
-    length reserved c v e = let same : BlockLength ≡ field = cc in fault-of csd same (rw (v, c))
-    length (means n) c v e = let z : _≡_ {A = ℕ} 0 1 = cc in absurd (omega arith)
+        → blocks1 csd code ≡ Count.Refused e → CountFault csd e
+    length reserved c v r = let same : UnsupportedCardType BlockLength ≡ e = cc in rw (← same) (of-length (rw (v, c)))
+    length (means n) c v r = let z : _≡_ {A = ℕ} 0 1 = cc in absurd (omega arith)
 
-    by : (code : Code Version) → codeIn structures (csdStructure csd) ≡ code → blocksBy csd code ≡ Count.Refused (UnsupportedCardType field) → atFault field csd ≡ true
-    by reserved c e = let same : CsdVersion ≡ field = cc in fault-of csd same (rw c)
-    by (means version1) c e = length (codeIn blockLengths (readBlLen csd)) refl c e
-    by (means version2) c e = let z : _≡_ {A = ℕ} 0 1 = cc in absurd (omega arith)
+    by : (code : Code Version) → codeIn structures (csdStructure csd) ≡ code → blocksBy csd code ≡ Count.Refused e → CountFault csd e
+    by reserved c r = let same : UnsupportedCardType CsdVersion ≡ e = cc in rw (← same) (of-version (rw c))
+    by (means version1) c r = length (codeIn blockLengths (readBlLen csd)) refl c r
+    by (means version2) c r = let z : _≡_ {A = ℕ} 0 1 = cc in absurd (omega arith)
 
-pub rate-fault : (csd : ℕ) (field : Field) → rateOf (tranSpeed csd) ≡ Rate.Refused (UnsupportedCardType field) → atFault field csd ≡ true
+pub data RateFault (csd : ℕ) : Error → Type 0 where
+  of-reserved-bit : atFault RateReservedBit csd ≡ true → RateFault csd (UnsupportedCardType RateReservedBit)
+  of-unit : atFault RateUnit csd ≡ true → RateFault csd (UnsupportedCardType RateUnit)
+  of-value : atFault RateValue csd ≡ true → RateFault csd (UnsupportedCardType RateValue)
+
+pub rate-fault : (csd : ℕ) (e : Error) → rateOf (tranSpeed csd) ≡ Rate.Refused e → RateFault csd e
 unfolding sdRate rateBy atFault isReserved
-rate-fault csd field e = by (bit (tranSpeed csd) 7) refl (sym (rate (tranSpeed csd)) ∙ e)
+rate-fault csd e r = by (bit (tranSpeed csd) 7) refl (sym (rate (tranSpeed csd)) ∙ r)
   where
     codes : (unit value : Code ℕ) → codeIn transferUnits (bits (tranSpeed csd) 2 0) ≡ unit → codeIn timeValues (bits (tranSpeed csd) 6 3) ≡ value
-        → rateBy unit value ≡ Rate.Refused (UnsupportedCardType field) → atFault field csd ≡ true
-    codes reserved value u v e = let same : RateUnit ≡ field = cc in fault-of csd same (rw u)
-    codes (means k) reserved u v e = let same : RateValue ≡ field = cc in fault-of csd same (rw v)
-    codes (means k) (means t) u v e = let z : _≡_ {A = ℕ} 0 1 = cc in absurd (omega arith)
+        → rateBy unit value ≡ Rate.Refused e → RateFault csd e
+    codes reserved value u v r = let same : UnsupportedCardType RateUnit ≡ e = cc in rw (← same) (of-unit (rw u))
+    codes (means k) reserved u v r = let same : UnsupportedCardType RateValue ≡ e = cc in rw (← same) (of-value (rw v))
+    codes (means k) (means t) u v r = let z : _≡_ {A = ℕ} 0 1 = cc in absurd (omega arith)
 
     by : (top : Bool) → bit (tranSpeed csd) 7 ≡ top
         → cond top (Rate.Refused (UnsupportedCardType RateReservedBit))
         (rateBy (codeIn transferUnits (bits (tranSpeed csd) 2 0)) (codeIn timeValues (bits (tranSpeed csd) 6 3)))
-        ≡ Rate.Refused (UnsupportedCardType field) → atFault field csd ≡ true
-    by true t e = let same : RateReservedBit ≡ field = cc in fault-of csd same t
-    by false t e = codes (codeIn transferUnits (bits (tranSpeed csd) 2 0)) (codeIn timeValues (bits (tranSpeed csd) 6 3)) refl refl e
+        ≡ Rate.Refused e → RateFault csd e
+    by true t r = let same : UnsupportedCardType RateReservedBit ≡ e = cc in rw (← same) (of-reserved-bit t)
+    by false t r = codes (codeIn transferUnits (bits (tranSpeed csd) 2 0)) (codeIn timeValues (bits (tranSpeed csd) 6 3)) refl refl r
 
 -- Address: accepted exactly where 1 to 511 blocks are asked for, all on the card, and what stands for the bytes before the
 -- first of them, in SD's unit, fits 32 bits as the index does; and then it is that.

@@ -1,4 +1,4 @@
--- How large the answers can be: an SDSC card has at most 8,388,608 blocks, any card at most 4,294,967,296.
+-- How large the answers can be: an SDSC card has at most 8,388,608 blocks, any card at most 4,294,967,296; a field is 1 to 8.
 use Prim.Native.Nat.{ℕ, _+_, _*_, _-_, _^_, _<_, _≤_}
 use mathlib.Core.Bool.{Bool, true, false, cond, _||_}
 use mathlib.Core.Path.{_≡_, refl}
@@ -10,7 +10,9 @@ use borrow.Author.Tests.{ltb-false}
 use Rattle.types.specs.declared.register.BlockCount.{BlockCount}
 use Rattle.types.specs.declared.register.CountAnswer.the-variants.{Blocks, Refused}
 use Rattle.types.specs.declared.error.Error.the-variants.{UnsupportedCardType}
-use Rattle.types.specs.declared.error.Field.the-variants.{CsdVersion, BlockLength}
+use Rattle.types.specs.declared.error.Field.{Field}
+use Rattle.types.specs.declared.error.Field.the-variants as F
+use Rattle.types.specs.Answer.{fieldNumber}
 use Rattle.types.specs.Bits.{bits}
 use Rattle.types.specs.Leaf.{countOf}
 
@@ -38,7 +40,7 @@ count-most csd n e = by (eqb (bits csd 127 126) 0) (ltb (bits csd 83 80) 9) (ltb
     two = (bits csd 69 48 + 1) * 1024
 
     by : (v short long w : Bool) → ltb 11 (bits csd 83 80) ≡ long
-        → cond v (cond (short || long) (Refused (UnsupportedCardType BlockLength)) (Blocks (record { 0 = one }))) (cond w (Blocks (record { 0 = two })) (Refused (UnsupportedCardType CsdVersion))) ≡ Blocks n
+        → cond v (cond (short || long) (Refused (UnsupportedCardType F.BlockLength)) (Blocks (record { 0 = one }))) (cond w (Blocks (record { 0 = two })) (Refused (UnsupportedCardType F.CsdVersion))) ≡ Blocks n
         → n .0 ≤ most v
     by true true long w h e = let z : _≡_ {A = ℕ} 0 1 = cc in absurd (omega arith)
     by true false true w h e = let z : _≡_ {A = ℕ} 0 1 = cc in absurd (omega arith)
@@ -49,3 +51,14 @@ count-most csd n e = by (eqb (bits csd 127 126) 0) (ltb (bits csd 83 80) 9) (ltb
         let same : two ≡ n .0 = cc in
         rw (← same) (high (bits csd 69 48) (omega arith))
     by false short long false h e = let z : _≡_ {A = ℕ} 0 1 = cc in absurd (omega arith)
+
+pub field-most : (field : Field) → (1 ≤ fieldNumber field) × (fieldNumber field ≤ 8)
+unfolding fieldNumber
+field-most F.CsdVersion = (omega arith, omega arith)
+field-most F.BlockLength = (omega arith, omega arith)
+field-most F.RateUnit = (omega arith, omega arith)
+field-most F.RateValue = (omega arith, omega arith)
+field-most F.RateReservedBit = (omega arith, omega arith)
+field-most F.CsdAndOcr = (omega arith, omega arith)
+field-most F.Voltage = (omega arith, omega arith)
+field-most F.AppCommand = (omega arith, omega arith)
