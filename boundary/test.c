@@ -35,7 +35,8 @@ enum function { CLOCK, COUNT, RATE, ADDRESS, FUNCTIONS };
  */
 enum kind {
     CLOCK_DIVIDED, CLOCK_BYPASSED, CLOCK_NO_SOURCE, CLOCK_NO_REQUEST, CLOCK_REQUEST_OVER, CLOCK_DIVISOR_OVER,
-    COUNT_VERSION_0, COUNT_VERSION_1, COUNT_LENGTH, COUNT_OTHER_VERSION, COUNT_OTHER_VERSION_LENGTH,
+    COUNT_VERSION_0, COUNT_VERSION_1, COUNT_0_LENGTH, COUNT_1_LENGTH_OF_0, COUNT_1_LENGTH,
+    COUNT_OTHER_VERSION, COUNT_OTHER_VERSION_LENGTH,
     /* from RATE_GIVEN on: 1 more for the value, 2 for the unit, 4 for the reserved bit */
     RATE_GIVEN, RATE_VALUE, RATE_UNIT, RATE_UNIT_VALUE,
     RATE_BIT, RATE_BIT_VALUE, RATE_BIT_UNIT, RATE_BIT_UNIT_VALUE,
@@ -60,6 +61,8 @@ static const struct {
     { COUNT, 0, 0, "CSD version 0" },
     { COUNT, 0, 0, "CSD version 1" },
     { COUNT, 13, 2, "CSD version 0, block length not 9 to 11" },
+    { COUNT, 13, 2, "CSD version 1, block length 10 or 11" },
+    { COUNT, 13, 2, "CSD version 1, block length not 9 to 11" },
     { COUNT, 13, 1, "CSD version 2 or 3, block length 9 to 11" },
     { COUNT, 13, 1, "CSD version 2 or 3, block length not 9 to 11" },
     { RATE, 0, 0, "given" },
@@ -146,7 +149,7 @@ static struct due count_due(uint64_t high, uint64_t low)
     uint64_t bytes;
     if (version == 0) {
         if (!served) {
-            return refused(COUNT_LENGTH);
+            return refused(COUNT_0_LENGTH);
         }
         bytes = field(csd, 73, 62) + 1;
         for (uint64_t i = 0; i < field(csd, 49, 47) + 2 + read_bl_len; i++) {
@@ -155,6 +158,9 @@ static struct due count_due(uint64_t high, uint64_t low)
         return accepted(COUNT_VERSION_0, bytes / 512);
     }
     if (version == 1) {
+        if (read_bl_len != 9) {
+            return refused(served ? COUNT_1_LENGTH_OF_0 : COUNT_1_LENGTH);
+        }
         bytes = (field(csd, 69, 48) + 1) * 512 * 1024;
         return accepted(COUNT_VERSION_1, bytes / 512);
     }
@@ -522,11 +528,12 @@ static void check_rate_fields(void)
 
 /*
  * Of the 64 pairs of a CSD's structure and block length, 32 have structure 2 or 3, whatever the length; of the 16 with
- * structure 0 three lengths are served; all 16 with structure 1 are. Four times, since the other bits make no difference.
+ * structure 0 three lengths are served, of the 16 with structure 1 one is. Four times, since the other bits make no
+ * difference.
  */
 static void check_count_fields(void)
 {
-    static const uint64_t due[FIELDS] = { 4 * 19, 4 * 32, 4 * 13, 0, 0, 0, 0, 0, 0 };
+    static const uint64_t due[FIELDS] = { 4 * 4, 4 * 32, 4 * 28, 0, 0, 0, 0, 0, 0 };
     static const uint64_t fillings[4] = { 0, UINT64_C(0x5555555555555555), UINT64_C(0xaaaaaaaaaaaaaaaa), UINT64_MAX };
     uint64_t told[FIELDS] = { 0 };
     for (size_t i = 0; i < LENGTH(fillings); i++) {

@@ -82,8 +82,8 @@ uint64_t boresacu_clock_setting(uint32_t source, uint32_t requested, uint32_t al
  * Value: the number of blocks of 512 bytes, 4 to 4,294,967,296. The last does not fit 32 bits.
  *
  * Refused: BORESACU_UNSUPPORTED_CARD_TYPE for a CSD structure (bits 127:126) other than 0 and 1, with
- * BORESACU_FIELD_CSD_VERSION, and for structure 0 with a READ_BL_LEN (bits 83:80) other than 9, 10 and 11, with
- * BORESACU_FIELD_BLOCK_LENGTH.
+ * BORESACU_FIELD_CSD_VERSION; and with BORESACU_FIELD_BLOCK_LENGTH for a READ_BL_LEN (bits 83:80) other than 9, 10 and 11 in
+ * structure 0, and other than 9 in structure 1.
  */
 uint64_t boresacu_block_count(uint64_t csd_high, uint64_t csd_low);
 

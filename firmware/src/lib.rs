@@ -102,7 +102,7 @@ pub fn clock_setting(source: Hertz, requested: u32, allow_bypass: bool) -> Resul
 }
 
 /// The blocks of 512 bytes of a card with this CSD register. The version is at fault where it is neither 0 nor 1, and the
-/// block length where it is not 9, 10 or 11 in version 0.
+/// block length where it is not 9, 10 or 11 in version 0, or not 9 in version 1.
 pub fn block_count(csd: u128) -> Result<u64, Error> {
     // SAFETY: the function is defined for every value of its arguments and touches no memory of ours.
     let result = unsafe { boresacu_block_count((csd >> 64) as u64, csd as u64) };

@@ -20,9 +20,9 @@ fn csd_0(block_length: u128, size: u128, multiplier: u128) -> u128 {
     block_length << 80 | size << 62 | multiplier << 47
 }
 
-/// A CSD of version 1, whose block length is always 9.
-fn csd_1(size: u128) -> u128 {
-    1 << 126 | 9 << 80 | size << 48
+/// A CSD of version 1.
+fn csd_1(block_length: u128, size: u128) -> u128 {
+    1 << 126 | block_length << 80 | size << 48
 }
 
 #[test]
@@ -71,8 +71,17 @@ fn k5_capacity_version_0() {
 
 #[test]
 fn k6_capacity_version_1() {
-    assert_eq!(block_count(csd_1(0)), Ok(1_024));
-    assert_eq!(block_count(csd_1(0x3f_ffff)), Ok(4_294_967_296));
+    assert_eq!(block_count(csd_1(9, 0)), Ok(1_024));
+    assert_eq!(block_count(csd_1(9, 0x3f_ffff)), Ok(4_294_967_296));
+}
+
+/// SD has no other block length there (document 02, P6).
+#[test]
+fn bargain_cards_of_version_1() {
+    for length in [8, 10, 11] {
+        let refused = Err(UnsupportedCardType(BlockLength));
+        assert_eq!(block_count(csd_1(length, 0)), refused);
+    }
 }
 
 #[test]
@@ -163,8 +172,8 @@ fn rates_over_255() {
 fn every_csd_version_and_block_length() {
     for (version, length) in (0..64).map(|n| (n / 16, n % 16)) {
         let due = match (version, length) {
-            (0, 9..=11) | (1, _) => None,
-            (0, _) => Some(UnsupportedCardType(BlockLength)),
+            (0, 9..=11) | (1, 9) => None,
+            (0 | 1, _) => Some(UnsupportedCardType(BlockLength)),
             _ => Some(UnsupportedCardType(CsdVersion)),
         };
         for rest in [0, u128::MAX] {

@@ -31,7 +31,7 @@ use Rattle.init.specs.declared.settings.Settings.{Settings}
 use Rattle.init.specs.Initialise as I
 use Rattle.init.specs.Initialise.{sourceOf, limitOf, noCard}
 use Rattle.host.specs.Calls.{answerFor}
-use Rattle.refusals.proofs.InitRefusals.{found-zero}
+use Rattle.refusals.proofs.InitRefusals.{found}
 use Rattle.refusals.proofs.Untouched.{read-16, status-16}
 use Rattle.refusals.proofs.Leaves.{Leaves, initialise-leaves, read-leaves, status-leaves}
 use Rattle.host.specs.declared.host.Held.{Held}
@@ -85,7 +85,7 @@ module _ (host : Sdmmc) (frequency : ℕ) (s : List ℕ) (l : List Row) (c : Clo
           let x = run s noCard (I.initialise (host .settings) c frequency) 0 0 (freshLine (c .frequency)) l in
           held-at host (dropped host (x .state)) (holding host (x .state) (x .value)) []
           (λ a words. afterInitialise frequency a (x .value) (heldOf host)) (x .state .progress .pace) (x .state)
-          (λ e stopped. none-left frequency e (x .value) (heldOf host) t) (λ g. ap (λ (st : List ℕ). holds (withStatus (x .value) st)) (found-zero s (host .settings) c frequency l g))
+          (λ e stopped. none-left frequency e (x .value) (heldOf host) t) (λ g. ap (λ (st : List ℕ). holds (withStatus (x .value) st)) (found s (host .settings) c frequency l g .status))
 
 -- refused with its data phase begun: no record; and before it: the record that was held
 lost-in-data : (e : Cause) (accepted before : Held) → afterData (answerFor e) true accepted before ≡ holdsNone

@@ -1,4 +1,5 @@
 pub mod AnyList
+pub mod Held
 pub mod Order
 pub mod Seen
 pub mod Steady

@@ -37,7 +37,7 @@ use Rattle.bus.specs.Sent.{sentAfter, answerAt}
 use Rattle.bus.proofs.Shown.{opposite, shows, Tells, tells-handle, tells-give, tells-fail, tells-end, tells-then, tells-test, tells-ensure, tells-until, tells-obeyed, Answered, command-tells, app-tells}
 use Rattle.bus.proofs.Walks.{unequal, Other, not-13, Ordinary, command-obeys, retry-obeys, ready-obeys, data-obeys}
 use Rattle.init.specs.declared.settings.Settings.{Settings}
-use Rattle.init.specs.Fields.{commandOf, ownAnswer, csdAt, Says, Blames}
+use Rattle.init.specs.Fields.{commandOf, ownAnswer, csdAt, OcrSays, Says, Blames}
 use Rattle.init.specs.Initialise.{sourceOf, limitOf, powerUp, poweredUp, tryPowerUp, waitPowerUp}
 use Rattle.init.specs.Initialise.{same, select, publish, identify, readScr, setWidth, rated, transferClock}
 use Rattle.init.specs.Initialise.{settleCard, initCard, initialise}
@@ -161,18 +161,18 @@ module _ (s : List ℕ) where
   waits {u} {c} set version2 =
       tells-until s (λ u c. Unit {0}) _ poweredUp (λ u c i. unblamed u c E.SoftwareTimeout (λ z. omega arith)) (λ u c i. tries set version2) (λ u c ocr o. tt) u c tt
 
-  -- CMD9: the capacity's own fields
-  count-blames : (k : ℕ) {u c : ℕ} → c ≡ 9 → u ≡ k + 4 → {e : Error} → CountFault (csdAt s k) e → Blamed u c e
+  -- CMD9: the capacity's own fields, where the OCR agrees
+  count-blames : (k : ℕ) {u c : ℕ} → c ≡ 9 → u ≡ k + 4 → OcrSays s k true → {e : Error} → CountFault (csdAt s k) e → Blamed u c e
   unfolding Says commandOf ownAnswer
-  count-blames k sent last (of-version f) = blamed CsdVersion (record { sent = sent; place = k; within = omega arith; last = λ _. last; says = f })
-  count-blames k sent last (of-length f) = blamed BlockLength (record { sent = sent; place = k; within = omega arith; last = λ _. last; says = f })
+  count-blames k sent last ocr (of-version f) = blamed CsdVersion (record { sent = sent; place = k; within = omega arith; last = λ _. last; says = (f, ocr) })
+  count-blames k sent last ocr (of-length f) = blamed BlockLength (record { sent = sent; place = k; within = omega arith; last = λ _. last; says = (f, ocr) })
 
-  counts : (k u c : ℕ) → c ≡ 9 → u ≡ k + 4 → Tells s Blamed BlockCount (λ u c n. k + 4 ≤ u) u c (I.counted (countOf (csdAt s k)))
-  counts k u c sent last = by (countOf (csdAt s k)) refl
+  counts : (k u c : ℕ) → c ≡ 9 → u ≡ k + 4 → OcrSays s k true → Tells s Blamed BlockCount (λ u c n. k + 4 ≤ u) u c (I.counted (countOf (csdAt s k)))
+  counts k u c sent last ocr = by (countOf (csdAt s k)) refl
     where
       by : (a : CountAnswer) → countOf (csdAt s k) ≡ a → Tells s Blamed BlockCount (λ u c n. k + 4 ≤ u) u c (I.counted a)
       by (Counted.Blocks n) g = tells-give s (omega arith)
-      by (Counted.Refused e) g = tells-fail s (count-blames k sent last (count-fault (csdAt s k) e g))
+      by (Counted.Refused e) g = tells-fail s (count-blames k sent last ocr (count-fault (csdAt s k) e g))
 
   -- the CSD of the record is one that was taken
   record CsdIn (u : ℕ) (card : Card) : Type 0 where
@@ -186,11 +186,11 @@ module _ (s : List ℕ) where
   selects {u} {c} limit ocr rca cid csd o up a =
       let l = a .last in
       rw (a .words, o .is)
-      (tells-then s {Q = λ u c x. (c ≡ 9) × (u ≡ a .place + 4)}
+      (tells-then s {Q = λ u c x. (c ≡ 9) × ((u ≡ a .place + 4) × OcrSays s (a .place) true)}
       (tells-ensure s _ _
       (λ no. blamed CsdAndOcr (record { sent = a .sent; place = a .place; within = omega arith; last = λ _. l; says = (o .place, (a .later, (rw (← o .is) up, no))) }))
-      (λ yes. (a .sent, l)))
-      (λ u c x k. tells-then s (counts (a .place) u c (k .0) (k .1))
+      (λ yes. (a .sent, (l, (o .place, (a .later, (rw (← o .is) up, yes)))))))
+      (λ u c x k. tells-then s (counts (a .place) u c (k .0) (k .1 .0) (k .1 .1))
       (λ u c blocks h. tells-then s (keeps (a .place + 4) (command-obeys typeless not-13 any limit 7 _ R1) h)
       (λ u c ws h. tells-give s (record { place = a .place; within = h; is = refl })))))
 

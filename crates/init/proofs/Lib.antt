@@ -1,4 +1,5 @@
 pub mod Fields
+pub mod Found
 pub mod Order
 pub mod Sixteen
 pub mod Walks

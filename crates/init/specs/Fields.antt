@@ -41,16 +41,20 @@ ownAnswer AppCommand = true
 abbrev pub csdAt : List ℕ → ℕ → ℕ
 csdAt s k = wideOf (halvesOf (answerAt s k))
 
--- what that answer says: SD's fault in the CSD; a CSD of another kind than an OCR that was taken before it, of a card that had
--- powered up; no bit of the voltages, 0x00300000; no bit 5, APP_CMD
+-- an OCR that was taken before it, of a card that had powered up: whether it agrees with the CSD about high capacity
+abbrev pub OcrSays : List ℕ → ℕ → Bool → Type 0
+OcrSays s k agrees =
+    (j : ℕ) × ((j + 4 ≤ k) × ((poweredUp (getD s j 0) ≡ true) × (same (highCapacity (getD s j 0)) (eqb (csdStructure (csdAt s k)) 1) ≡ agrees)))
+
+-- what that answer says: SD's fault in the CSD, whose version and block length are looked at where an OCR agrees with it; an OCR
+-- that does not; no bit of the voltages, 0x00300000; no bit 5, APP_CMD
 unfoldable pub Says : List ℕ → ℕ → Field → Type 0
-Says s k CsdVersion = atFault CsdVersion (csdAt s k) ≡ true
-Says s k BlockLength = atFault BlockLength (csdAt s k) ≡ true
+Says s k CsdVersion = (atFault CsdVersion (csdAt s k) ≡ true) × OcrSays s k true
+Says s k BlockLength = (atFault BlockLength (csdAt s k) ≡ true) × OcrSays s k true
 Says s k RateUnit = atFault RateUnit (csdAt s k) ≡ true
 Says s k RateValue = atFault RateValue (csdAt s k) ≡ true
 Says s k RateReservedBit = atFault RateReservedBit (csdAt s k) ≡ true
-Says s k CsdAndOcr =
-    (j : ℕ) × ((j + 4 ≤ k) × ((poweredUp (getD s j 0) ≡ true) × (same (highCapacity (getD s j 0)) (eqb (csdStructure (csdAt s k)) 1) ≡ false)))
+Says s k CsdAndOcr = OcrSays s k false
 Says s k Voltage = clear 0x0030_0000 (getD s k 0) ≡ true
 Says s k AppCommand = clear 0x20 (getD s k 0) ≡ true
 

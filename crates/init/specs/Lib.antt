@@ -1,3 +1,4 @@
 pub mod Initialise
+pub mod Cases
 pub mod Fields
 pub mod Lent

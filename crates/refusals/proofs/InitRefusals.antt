@@ -21,8 +21,9 @@ use Rattle.tape.specs.declared.rows.Row.{Row}
 use Rattle.tape.specs.Plan.{Nothing, Cause, Plan, refuse, guard, ensure}
 use Rattle.tape.specs.Run.{State, at, After, haltOf, run, runFrom}
 use Rattle.tape.specs.Steps.{resetController}
+use Rattle.tape.proofs.Values.{run-gives}
 use Rattle.host.proofs.Ran.{begun}
-use Rattle.refusals.proofs.Guards.{one-cause, Guarded, guard-refused, Inside, inside-refused, here, first, later, Yields, yields-give, yields-refuse, yields-handle, yields-then, yields-guard}
+use Rattle.refusals.proofs.Guards.{one-cause, Guarded, guard-refused, Inside, inside-refused, here, first, later}
 use Rattle.refusals.proofs.Reset.{ends-refused, ends-accepted, ResetAfter, reset-after}
 use Rattle.bus.specs.declared.transfer.Transfer.{Transfer}
 use Rattle.bus.specs.declared.response.Response.the-variants.{R1, R2}
@@ -32,42 +33,16 @@ use Rattle.bus.specs.Transfer.{blockingData, transferData}
 use Rattle.init.specs.declared.settings.Settings.{Settings}
 use Rattle.init.specs.Initialise.{sourceOf, limitOf, noCard, beginInit, waitPowerUp, publish, cardOf, select, identify}
 use Rattle.init.specs.Initialise.{scrTransfer, blockLength, readScr, setWidth, transferClock, switchTransfer, offered, takeSwitch, askSwitch, switchSpeed, withScr, settleCard, initCard, initialise}
+use Rattle.init.proofs.Found.{Found, initialise-given}
 use Rattle.host.specs.Calls.{Came, came, holding, dropped, freshLine, initFrom, initialised}
 use Rattle.host.specs.declared.host.Sdmmc.{Sdmmc}
 use Rattle.host.specs.Calls.{answerFor}
 
--- The record of an initialisation has status zero.
-
-abbrev StatusZero : Card → Type 0
-StatusZero card = card .status ≡ replicate 16 0
-
-init-zero : (s : List ℕ) (set : Settings) (c : Clock) (frequency : ℕ) → Yields s StatusZero (initCard set c frequency)
-unfolding initCard identify select settleCard
-init-zero s set c frequency =
-    yields-then s StatusZero false (beginInit set c) _
-    (λ version2. yields-then s StatusZero 0 (waitPowerUp set version2) _
-    (λ ocr. yields-handle s StatusZero noCard StatusZero (λ card. settleCard set frequency card) refuse (identify (limitOf set) ocr)
-    (yields-then s StatusZero [] (command (limitOf set) 2 0 R2) _
-    (λ cid. yields-then s StatusZero 0 (publish (limitOf set)) _
-    (λ rca. yields-then s StatusZero (tt {0}) (ensure (not (eqb rca 0)) E.ResponseMismatch) _
-    (λ _. yields-then s StatusZero [] (command (limitOf set) 9 (rca * 2 ^ 16) R2) _
-    (λ csd. yields-then s StatusZero (tt {0}) _ _
-    (λ _. yields-then s StatusZero (record { 0 = 0 }) _ _
-    (λ blocks. yields-then s StatusZero [] (command (limitOf set) 7 (rca * 2 ^ 16) R1) _
-    (λ _. yields-give s StatusZero (cardOf ocr rca cid csd blocks) refl))))))))
-    (λ card none. yields-then s StatusZero 0 (readScr set card) _
-    (λ scr. yields-then s StatusZero (tt {0}) (setWidth set (card .rca) scr) _
-    (λ _. yields-then s StatusZero (tt {0}) (transferClock set frequency (tranSpeed (wideOf (card .csd)))) _
-    (λ _. yields-then s StatusZero (tt {0}) (switchSpeed set frequency (card .rca) scr) _
-    (λ _. yields-give s StatusZero (withScr card scr) none)))))
-    (yields-refuse s StatusZero)))
-
-pub found-zero : (s : List ℕ) (set : Settings) (c : Clock) (frequency : ℕ) (l : List Row)
+-- what an initialisation that is accepted found of the card
+pub found : (s : List ℕ) (set : Settings) (c : Clock) (frequency : ℕ) (l : List Row)
     → run s noCard (initialise set c frequency) 0 0 (freshLine (c .frequency)) l .state .progress .pace ≡ Going
-    → StatusZero (run s noCard (initialise set c frequency) 0 0 (freshLine (c .frequency)) l .value)
-unfolding initialise
-found-zero s set c frequency l =
-    yields-guard s StatusZero noCard resetController (initCard set c frequency) (init-zero s set c frequency) noCard 0 0 (freshLine (c .frequency)) l
+    → Found (run s noCard (initialise set c frequency) 0 0 (freshLine (c .frequency)) l .value)
+found s set c frequency l = run-gives s noCard (initialise-given set c frequency) 0 0 (freshLine (c .frequency)) l
 
 -- every source that a host is made with has a clock of identification
 pub identification-clock : (source : ℕ) → 2 ≤ source → source ≤ 102_800_000 → (c : Clock) × (clockOf source 400_000 false ≡ Clocked.Set c)
@@ -111,14 +86,14 @@ module _ (host : Sdmmc) (frequency : ℕ) (s : List ℕ) (l : List Row) (some : 
       ∙ ends-accepted host (dropped host (x .state)) (holding host (x .state) (x .value)) [] (x .state) (x .state .progress .pace)
       (ap (λ (y : Came). y .answer) (sym begins) ∙ r) .1
 
-  -- with status zero
-  pub initialise-status : initialised host frequency s l .answer ≡ Answered.Accepted → initialised host frequency s l .host .card .status ≡ replicate 16 0
+  -- which counts what SD has for its CSD, and has status zero
+  pub initialise-found : initialised host frequency s l .answer ≡ Answered.Accepted → Found (initialised host frequency s l .host .card)
   unfolding initFrom
-  initialise-status r =
+  initialise-found r =
       let x = run s noCard (initialise (host .settings) c frequency) 0 0 (freshLine (c .frequency)) l in
       let how = ends-accepted host (dropped host (x .state)) (holding host (x .state) (x .value)) [] (x .state) (x .state .progress .pace)
       (ap (λ (y : Came). y .answer) (sym begins) ∙ r) in
-      ap (λ (y : Came). y .host .card .status) (initialise-accepted r) ∙ found-zero s (host .settings) c frequency l (how .0)
+      rw (initialise-accepted r) (found s (host .settings) c frequency l (how .0))
 
   -- Line 5, its end: 'inside initialisation the reset rows come twice'. A data phase begun at w on the way of the steps and
   -- refused: where the steps end its reset rows are written, and once more at the end of the call.

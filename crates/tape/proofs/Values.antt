@@ -10,7 +10,7 @@ use Rattle.tape.specs.declared.progress.Line.{Line}
 use Rattle.tape.specs.declared.progress.Pace.{Pace}
 use Rattle.tape.specs.declared.progress.Pace.the-variants.{Going, Stopped}
 use Rattle.tape.specs.declared.rows.Row.{Row}
-use Rattle.tape.specs.Plan.{Cause, Plan, give, refuse, read, write, look, hold, handle, _then_}
+use Rattle.tape.specs.Plan.{Nothing, Cause, Plan, give, refuse, read, write, look, hold, handle, _then_, guard}
 use Rattle.tape.specs.Run.{State, After, noted, haltOf, run, doesAt, Gave}
 use Rattle.tape.specs.Steps.{dataFrom}
 use Rattle.tape.proofs.Laws.{by-cases}
@@ -65,6 +65,10 @@ anything (hold h p) = anything p
 pub gives-last : {A B : Type 0} {P : B → Type 0} (p : Plan A) {f : A → Plan B} → ((a : A) → Gives B P (f a)) → Gives B P (p then f)
 gives-last {A} {B} {P} p v = gives-then (record { each = anything p }) (λ a _. v a)
 
+-- a guard's rows give nothing
+pub gives-guard : {A : Type 0} {P : A → Type 0} {p : Plan A} (q : Plan Nothing) → Gives A P p → Gives A P (guard q p)
+gives-guard q b = gives-handle b (λ a h. gives-give h) (λ c. gives-last q (λ _. gives-refuse))
+
 abbrev GivenBy : {A : Type 0} → (A → Type 0) → After A → Type 0
 GivenBy P x = x .state .progress .pace ≡ Going → P (x .value)
 
@@ -79,6 +83,9 @@ run-given s P d (read r k z) u n h l b = by-cases (GivenBy P) (ltb u (length s))
 run-given s P d (write r p) u n h l b = by-cases (GivenBy P) (ltb n (length l)) _ _ (run-given s P d p u (n + 1) (noted r h) (set l n r) b) (not-given _)
 run-given s P d (look k) u n h l b = run-given s P d (k h) u n h l (b h)
 run-given s P d (hold h′ p) u n h l b = run-given s P d p u n h′ l b
+
+pub run-gives : (s : List ℕ) {A : Type 0} {P : A → Type 0} (d : A) {p : Plan A} → Gives A P p → (u n : ℕ) (h : Line) (l : List Row) → GivenBy P (run s d p u n h l)
+run-gives s {A} {P} d {p} b u n h l = run-given s P d p u n h l (b .each)
 
 pub given : {s : List ℕ} {A : Type 0} {P : A → Type 0} {d : A} {p : Plan A} {w : State} {v : A} {w′ : State}
     → Gives A P p → Gave s A d p w v w′ → w′ .progress .pace ≡ Going → P v

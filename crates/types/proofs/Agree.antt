@@ -17,10 +17,11 @@ use Rattle.types.specs.declared.register.CountAnswer.the-variants as Cou
 use Rattle.types.specs.declared.register.RateAnswer.the-variants as Rate
 use Rattle.types.specs.declared.error.Error.{Error}
 use Rattle.types.specs.declared.error.Error.the-variants.{UnsupportedCardType, InvalidBufferLength, AddressOutOfRange}
+use Rattle.types.specs.declared.error.Field.{Field}
 use Rattle.types.specs.declared.error.Field.the-variants.{CsdVersion, BlockLength, RateUnit, RateValue, RateReservedBit}
 use Rattle.types.specs.Bits.{bits, bit}
 use Rattle.types.specs.Leaf.{countOf, rateOf, rateUnits, rateTenths, unitsOf, addressOf}
-use Rattle.types.specs.Sd.{Code, reserved, means, codeIn, Version, version1, version2, csdStructure, structures, readBlLen, blockLengths, cSize1, cSizeMult, cSize2, bytes1, bytes2, blocks1, blocksBy, sdCount, isReserved, lengthFault, atFault}
+use Rattle.types.specs.Sd.{Code, reserved, means, codeIn, Version, version1, version2, csdStructure, structures, readBlLen, blockLengths, cSize1, cSizeMult, cSize2, bytes1, bytes2, bytesBy, capacityBy, sdCapacity, isReserved, lengthFault, atFault, firstFault}
 use Rattle.types.specs.Sd.{wideOf, tranSpeed, transferUnits, timeValues, rateBy, sdRate, unitBytes, errorPlaces, lockedPlaces, appPlaces, shortErrorPlaces}
 use Rattle.types.specs.Words.{counted, halvesOf}
 use Rattle.types.proofs.Counted.{getD-counted}
@@ -34,62 +35,87 @@ listed codes rule n e k h = rw e (getD-counted rule 0 n k reserved h ∙ ap rule
 by-structure : ℕ → Code Version
 by-structure k = cond (eqb k 0) (means version1) (cond (eqb k 1) (means version2) reserved)
 
-by-length : ℕ → Code ℕ
-by-length l = cond (ltb l 9 || ltb 11 l) reserved (means (2 ^ l))
+by-length : Version → ℕ → Code ℕ
+by-length version1 l = cond (ltb l 9 || ltb 11 l) reserved (means (2 ^ l))
+by-length version2 l = cond (eqb l 9) (means (2 ^ l)) reserved
 
 structure-codes : structures ≡ map by-structure (counted 0 4)
 unfolding by-structure counted
 structure-codes = refl
 
-length-codes : blockLengths ≡ map by-length (counted 0 16)
+length-codes : (version : Version) → blockLengths version ≡ map (by-length version) (counted 0 16)
 unfolding by-length counted
-length-codes = refl
+length-codes version1 = refl
+length-codes version2 = refl
 
 -- a block length of 2 ^ l bytes, l from 9 on, is 2 ^ (l - 9) blocks of 512
-whole-blocks : (n m l : ℕ) → 9 ≤ l → n * 2 ^ m * 2 ^ l / 512 ≡ n * 2 ^ (m + (l - 9))
+whole-blocks : (n m l : ℕ) → 9 ≤ l → n * 2 ^ m * 2 ^ l ≡ n * 2 ^ (m + (l - 9)) * 512
 whole-blocks n m l h =
     let whole : 2 ^ l ≡ 2 ^ (l - 9) * 512 = ap (λ (k : ℕ). 2 ^ k) (sym (sub-add-cancel h)) ∙ pow-add 2 (l - 9) 9 in
-    ap (λ (x : ℕ). n * 2 ^ m * x / 512) whole
-    ∙ ap (λ (x : ℕ). x / 512) (sym (mul-assoc (n * 2 ^ m) (2 ^ (l - 9)) 512))
-    ∙ mul-div-left (n * 2 ^ m * 2 ^ (l - 9)) (lit< {n = 512} tt)
-    ∙ mul-assoc n (2 ^ m) (2 ^ (l - 9))
-    ∙ ap (λ (x : ℕ). n * x) (sym (pow-add 2 m (l - 9)))
+    ap (λ (x : ℕ). n * 2 ^ m * x) whole
+    ∙ sym (mul-assoc (n * 2 ^ m) (2 ^ (l - 9)) 512)
+    ∙ ap (λ (x : ℕ). x * 512) (mul-assoc n (2 ^ m) (2 ^ (l - 9)) ∙ ap (λ (x : ℕ). n * x) (sym (pow-add 2 m (l - 9))))
 
-half-megabytes : (n : ℕ) → n * (512 * 1024) / 512 ≡ n * 1024
+half-megabytes : (n : ℕ) → n * (512 * 1024) ≡ n * 1024 * 512
 half-megabytes n = omega arith
 
 abbrev blocks : ℕ → CountAnswer
 blocks n = Count.Blocks (record { 0 = n })
 
+abbrev refused : Field → CountAnswer
+refused field = Count.Refused (UnsupportedCardType field)
+
+-- an answer, and SD's capacity: so many blocks where SD has so many times 512 bytes; refused, with this field, where SD has none
+pub data AsSd (field : Field) : CountAnswer → Code ℕ → Type 0 where
+  has : (n : ℕ) → AsSd field (blocks n) (means (n * 512))
+  has-none : AsSd field (refused field) reserved
+
 module _ (csd : ℕ) where
-  version-1 : cond (ltb (readBlLen csd) 9 || ltb 11 (readBlLen csd)) (Count.Refused (UnsupportedCardType BlockLength))
-      (blocks ((cSize1 csd + 1) * 2 ^ (cSizeMult csd + 2 + (readBlLen csd - 9))))
-      ≡ blocks1 csd (codeIn blockLengths (readBlLen csd))
-  unfolding blocks1 bytes1 by-length
-  version-1 = rw (listed blockLengths by-length 16 length-codes (readBlLen csd) (omega arith)) (by (ltb (readBlLen csd) 9) (ltb 11 (readBlLen csd)) refl)
+  abbrev length-code : Version → Code ℕ
+  length-code version = codeIn (blockLengths version) (readBlLen csd)
+
+  length-is : (version : Version) → length-code version ≡ by-length version (readBlLen csd)
+  length-is version = listed (blockLengths version) (by-length version) 16 (length-codes version) (readBlLen csd) (omega arith)
+
+  abbrev count1 : CountAnswer
+  count1 = blocks ((cSize1 csd + 1) * 2 ^ (cSizeMult csd + 2 + (readBlLen csd - 9)))
+
+  abbrev count2 : CountAnswer
+  count2 = blocks ((cSize2 csd + 1) * 1024)
+
+  version-1 : AsSd BlockLength (cond (ltb (readBlLen csd) 9 || ltb 11 (readBlLen csd)) (refused BlockLength) count1) (bytesBy csd version1 (length-code version1))
+  unfolding bytesBy bytes1 by-length
+  version-1 = rw (length-is version1) (by (ltb (readBlLen csd) 9) (ltb 11 (readBlLen csd)) refl)
     where
       by : (short long : Bool) → ltb (readBlLen csd) 9 ≡ short
-          → cond (short || long) (Count.Refused (UnsupportedCardType BlockLength)) (blocks ((cSize1 csd + 1) * 2 ^ (cSizeMult csd + 2 + (readBlLen csd - 9))))
-          ≡ blocks1 csd (cond (short || long) reserved (means (2 ^ readBlLen csd)))
-      by true long t = refl
-      by false true t = refl
-      by false false t = ap blocks (sym (whole-blocks (cSize1 csd + 1) (cSizeMult csd + 2) (readBlLen csd) (ltb-false (readBlLen csd) 9 t)))
+          → AsSd BlockLength (cond (short || long) (refused BlockLength) count1) (bytesBy csd version1 (cond (short || long) reserved (means (2 ^ readBlLen csd))))
+      by true long t = has-none
+      by false true t = has-none
+      by false false t = rw (whole-blocks (cSize1 csd + 1) (cSizeMult csd + 2) (readBlLen csd) (ltb-false (readBlLen csd) 9 t)) (has _)
 
-  pub capacity : countOf csd ≡ sdCount csd
-  unfolding countOf sdCount blocksBy bytes2 by-structure
+  version-2 : AsSd BlockLength (cond (eqb (readBlLen csd) 9) count2 (refused BlockLength)) (bytesBy csd version2 (length-code version2))
+  unfolding bytesBy bytes2 by-length
+  version-2 = rw (length-is version2) (by (eqb (readBlLen csd) 9))
+    where
+      by : (nine : Bool) → AsSd BlockLength (cond nine count2 (refused BlockLength)) (bytesBy csd version2 (cond nine (means (2 ^ readBlLen csd)) reserved))
+      by true = rw (half-megabytes (cSize2 csd + 1)) (has _)
+      by false = has-none
+
+  -- THE CAPACITY IS SD'S, for every register, and refused exactly where SD has none
+  pub capacity : AsSd (firstFault csd) (countOf csd) (sdCapacity csd)
+  unfolding countOf sdCapacity capacityBy atFault isReserved by-structure
   capacity =
       rw (listed structures by-structure 4 structure-codes (csdStructure csd) (mod-lt (csd / 2 ^ 126) (lit< {n = 4} tt)))
       (by (eqb (csdStructure csd) 0) (eqb (csdStructure csd) 1))
     where
       by : (one two : Bool)
-          → cond one
-          (cond (ltb (readBlLen csd) 9 || ltb 11 (readBlLen csd)) (Count.Refused (UnsupportedCardType BlockLength))
-          (blocks ((cSize1 csd + 1) * 2 ^ (cSizeMult csd + 2 + (readBlLen csd - 9)))))
-          (cond two (blocks ((cSize2 csd + 1) * 1024)) (Count.Refused (UnsupportedCardType CsdVersion)))
-          ≡ blocksBy csd (cond one (means version1) (cond two (means version2) reserved))
+          → AsSd (cond (isReserved (cond one (means version1) (cond two (means version2) reserved))) CsdVersion BlockLength)
+          (cond one (cond (ltb (readBlLen csd) 9 || ltb 11 (readBlLen csd)) (refused BlockLength) count1)
+          (cond two (cond (eqb (readBlLen csd) 9) count2 (refused BlockLength)) (refused CsdVersion)))
+          (capacityBy csd (cond one (means version1) (cond two (means version2) reserved)))
       by true two = version-1
-      by false true = ap blocks (sym (half-megabytes (cSize2 csd + 1)))
-      by false false = refl
+      by false true = version-2
+      by false false = has-none
 
 -- Rate.
 
@@ -154,19 +180,27 @@ pub data CountFault (csd : ℕ) : Error → Type 0 where
   of-version : atFault CsdVersion csd ≡ true → CountFault csd (UnsupportedCardType CsdVersion)
   of-length : atFault BlockLength csd ≡ true → CountFault csd (UnsupportedCardType BlockLength)
 
-pub count-fault : (csd : ℕ) (e : Error) → countOf csd ≡ Count.Refused e → CountFault csd e
-unfolding sdCount blocksBy blocks1 atFault lengthFault isReserved
-count-fault csd e r = by (codeIn structures (csdStructure csd)) refl (sym (capacity csd) ∙ r)
-  where
-    length : (code : Code ℕ) → codeIn blockLengths (readBlLen csd) ≡ code → codeIn structures (csdStructure csd) ≡ means version1
-        → blocks1 csd code ≡ Count.Refused e → CountFault csd e
-    length reserved c v r = let same : UnsupportedCardType BlockLength ≡ e = cc in rw (← same) (of-length (rw (v, c)))
-    length (means n) c v r = let z : _≡_ {A = ℕ} 0 1 = cc in absurd (omega arith)
+-- refused, then SD has none, and the field is that one
+refused-as : {field : Field} {a : CountAnswer} {c : Code ℕ} {e : Error} → AsSd field a c → a ≡ Count.Refused e
+    → (UnsupportedCardType field ≡ e) × (c ≡ reserved)
+refused-as (has n) r = let z : _≡_ {A = ℕ} 0 1 = cc in absurd (omega arith)
+refused-as has-none r = (cc, refl)
 
-    by : (code : Code Version) → codeIn structures (csdStructure csd) ≡ code → blocksBy csd code ≡ Count.Refused e → CountFault csd e
-    by reserved c r = let same : UnsupportedCardType CsdVersion ≡ e = cc in rw (← same) (of-version (rw c))
-    by (means version1) c r = length (codeIn blockLengths (readBlLen csd)) refl c r
-    by (means version2) c r = let z : _≡_ {A = ℕ} 0 1 = cc in absurd (omega arith)
+pub count-fault : (csd : ℕ) (e : Error) → countOf csd ≡ Count.Refused e → CountFault csd e
+unfolding sdCapacity capacityBy bytesBy atFault lengthFault isReserved
+count-fault csd e r =
+    let f = refused-as (capacity csd) r in
+    rw (← f .0) (by (codeIn structures (csdStructure csd)) refl (f .1))
+  where
+    length : (version : Version) (code : Code ℕ) → bytesBy csd version code ≡ reserved → isReserved code ≡ true
+    length version reserved r = refl
+    length version1 (means n) r = let z : _≡_ {A = ℕ} 0 1 = cc in absurd (omega arith)
+    length version2 (means n) r = let z : _≡_ {A = ℕ} 0 1 = cc in absurd (omega arith)
+
+    by : (code : Code Version) → codeIn structures (csdStructure csd) ≡ code → capacityBy csd code ≡ reserved
+        → CountFault csd (UnsupportedCardType (cond (isReserved code) CsdVersion BlockLength))
+    by reserved c r = of-version (rw c)
+    by (means version) c r = of-length (rw c (length version (codeIn (blockLengths version) (readBlLen csd)) r))
 
 pub data RateFault (csd : ℕ) : Error → Type 0 where
   of-reserved-bit : atFault RateReservedBit csd ≡ true → RateFault csd (UnsupportedCardType RateReservedBit)

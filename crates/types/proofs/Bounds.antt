@@ -31,7 +31,7 @@ most false = 4_294_967_296
 
 pub count-most : (csd : ℕ) (n : BlockCount) → countOf csd ≡ Blocks n → n .0 ≤ most (eqb (bits csd 127 126) 0)
 unfolding countOf
-count-most csd n e = by (eqb (bits csd 127 126) 0) (ltb (bits csd 83 80) 9) (ltb 11 (bits csd 83 80)) (eqb (bits csd 127 126) 1) refl e
+count-most csd n e = by (eqb (bits csd 127 126) 0) (ltb (bits csd 83 80) 9) (ltb 11 (bits csd 83 80)) (eqb (bits csd 127 126) 1) (eqb (bits csd 83 80) 9) refl e
   where
     one : ℕ
     one = (bits csd 73 62 + 1) * 2 ^ (bits csd 49 47 + 2 + (bits csd 83 80 - 9))
@@ -39,18 +39,20 @@ count-most csd n e = by (eqb (bits csd 127 126) 0) (ltb (bits csd 83 80) 9) (ltb
     two : ℕ
     two = (bits csd 69 48 + 1) * 1024
 
-    by : (v short long w : Bool) → ltb 11 (bits csd 83 80) ≡ long
-        → cond v (cond (short || long) (Refused (UnsupportedCardType F.BlockLength)) (Blocks (record { 0 = one }))) (cond w (Blocks (record { 0 = two })) (Refused (UnsupportedCardType F.CsdVersion))) ≡ Blocks n
+    by : (v short long w nine : Bool) → ltb 11 (bits csd 83 80) ≡ long
+        → cond v (cond (short || long) (Refused (UnsupportedCardType F.BlockLength)) (Blocks (record { 0 = one })))
+        (cond w (cond nine (Blocks (record { 0 = two })) (Refused (UnsupportedCardType F.BlockLength))) (Refused (UnsupportedCardType F.CsdVersion))) ≡ Blocks n
         → n .0 ≤ most v
-    by true true long w h e = let z : _≡_ {A = ℕ} 0 1 = cc in absurd (omega arith)
-    by true false true w h e = let z : _≡_ {A = ℕ} 0 1 = cc in absurd (omega arith)
-    by true false false w h e =
+    by true true long w nine h e = let z : _≡_ {A = ℕ} 0 1 = cc in absurd (omega arith)
+    by true false true w nine h e = let z : _≡_ {A = ℕ} 0 1 = cc in absurd (omega arith)
+    by true false false w nine h e =
         let same : one ≡ n .0 = cc in
         rw (← same) (standard (bits csd 73 62) (bits csd 49 47) (bits csd 83 80) (omega arith) (omega arith) (ltb-false 11 (bits csd 83 80) h))
-    by false short long true h e =
+    by false short long true true h e =
         let same : two ≡ n .0 = cc in
         rw (← same) (high (bits csd 69 48) (omega arith))
-    by false short long false h e = let z : _≡_ {A = ℕ} 0 1 = cc in absurd (omega arith)
+    by false short long true false h e = let z : _≡_ {A = ℕ} 0 1 = cc in absurd (omega arith)
+    by false short long false nine h e = let z : _≡_ {A = ℕ} 0 1 = cc in absurd (omega arith)
 
 pub field-most : (field : Field) → (1 ≤ fieldNumber field) × (fieldNumber field ≤ 8)
 unfolding fieldNumber

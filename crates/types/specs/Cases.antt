@@ -1,5 +1,6 @@
 -- Document 01, 'Cases on each side': K1 to K11, as one table of what the definitions give and what is due: with the field at 13, of a
--- CSD of structure 2 and of 3 too, and of rates that break two rules or three; and the bound of a card's size.
+-- CSD of structure 2 and of 3 too, and of rates that break two rules or three; beside K6 the bargain card of P6; and the bound of a
+-- card's size.
 use Prim.Native.Nat.{ℕ, _+_, _*_, _^_}
 use mathlib.Core.Bool.{true, false}
 use mathlib.Core.List.{List, [], _∷_, map}
@@ -37,6 +38,7 @@ table =
     ∷ (countTold (countOf (csd1 12 0 0)) due told 13 (2 ∷ []))
     ∷ (countTold (countOf (csd2 9 0)) due told 0 (1_024 ∷ []))
     ∷ (countTold (countOf (csd2 9 0x3f_ffff)) due told 0 (4_294_967_296 ∷ []))
+    ∷ (countTold (countOf (csd2 10 0)) due told 13 (2 ∷ []))
     ∷ (rateTold (rateOf 0x32) due told 0 (25_000_000 ∷ []))
     ∷ (rateTold (rateOf 0x5a) due told 0 (50_000_000 ∷ []))
     ∷ (rateTold (rateOf 0x02) due told 13 (4 ∷ []))

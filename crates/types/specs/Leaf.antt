@@ -66,14 +66,16 @@ dataOf status =
     (rule 0x8 E.Timeout ∷ rule 0x2 E.Crc ∷ rule 0x20 E.Overrun ∷ rule 0x10 E.Underrun ∷ rule 0x200 E.StBitErr ∷ [])
 
 -- Capacity. Bits 127:126 = 0: bits 83:80 = L in 9 to 11, else 13 (block length); count = (bits 73:62 + 1) * 2^(bits 49:47 + 2 + L - 9).
--- 127:126 = 1: (bits 69:48 + 1) * 1024. Otherwise 13 (CSD version)
+-- 127:126 = 1: L = 9, else 13 (block length; P6); (bits 69:48 + 1) * 1024. Otherwise 13 (CSD version)
 unfoldable pub countOf : ℕ → CountAnswer
 countOf csd =
     let l = bits csd 83 80 in
     cond (eqb (bits csd 127 126) 0)
     (cond (ltb l 9 || ltb 11 l) (Count.Refused (E.UnsupportedCardType F.BlockLength))
     (Count.Blocks (record { 0 = (bits csd 73 62 + 1) * 2 ^ (bits csd 49 47 + 2 + (l - 9)) })))
-    (cond (eqb (bits csd 127 126) 1) (Count.Blocks (record { 0 = (bits csd 69 48 + 1) * 1024 }))
+    (cond (eqb (bits csd 127 126) 1)
+    (cond (eqb l 9) (Count.Blocks (record { 0 = (bits csd 69 48 + 1) * 1024 }))
+    (Count.Refused (E.UnsupportedCardType F.BlockLength)))
     (Count.Refused (E.UnsupportedCardType F.CsdVersion)))
 
 -- Rate, of the byte in CSD bits 103:96

@@ -31,13 +31,15 @@ dataRule status =
     (cond (not (clear 0x10 status)) (told 6 [])
     (cond (not (clear 0x200 status)) (told 4 []) (told 0 [])))))
 
--- Capacity: blocks of 512 bytes. 127:126 = 0: bits 83:80 = L in 9 to 11, else 13, field 2. 127:126 = 1. Otherwise 13, field 1
+-- Capacity: blocks of 512 bytes. 127:126 = 0: bits 83:80 = L in 9 to 11, else 13, field 2. 127:126 = 1: L = 9, else 13, field 2 (P6).
+-- Otherwise 13, field 1
 unfoldable pub countRule : ℕ → Told
 countRule csd =
     cond (eqb (bits csd 127 126) 0)
     (cond (leb 9 (bits csd 83 80) && leb (bits csd 83 80) 11)
     (told 0 (((bits csd 73 62 + 1) * 2 ^ (bits csd 49 47 + 2 + (bits csd 83 80 - 9))) ∷ [])) (told 13 (2 ∷ [])))
-    (cond (eqb (bits csd 127 126) 1) (told 0 (((bits csd 69 48 + 1) * 1024) ∷ [])) (told 13 (1 ∷ [])))
+    (cond (eqb (bits csd 127 126) 1)
+    (cond (eqb (bits csd 83 80) 9) (told 0 (((bits csd 69 48 + 1) * 1024) ∷ [])) (told 13 (2 ∷ []))) (told 13 (1 ∷ [])))
 
 -- Rate: bits a second. Bit 7 set: 13, field 5. Low three bits over 3: 13, field 3. Bits 6:3 zero: 13, field 4. Else unit
 -- divided by 10, times the value

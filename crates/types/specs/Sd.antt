@@ -3,15 +3,15 @@
 use Prim.Native.Nat.{ℕ, _+_, _*_, _/_, _^_}
 use mathlib.Core.Bool.{Bool, true, false, cond, _&&_}
 use mathlib.Core.List.{List, [], _∷_}
+use mathlib.Core.Path.{_≡_}
 use lib.Dec.{eqb}
 use lib.ListN.{getD}
+use Rattle.types.specs.declared.card.Card.{Card}
 use Rattle.types.specs.declared.card.CardCapacity.{CardCapacity}
 use Rattle.types.specs.declared.card.CardCapacity.the-variants.{SDSC, SDHC}
 use Rattle.types.specs.declared.error.Error.the-variants.{UnsupportedCardType}
 use Rattle.types.specs.declared.error.Field.{Field}
 use Rattle.types.specs.declared.error.Field.the-variants.{CsdVersion, BlockLength, RateUnit, RateValue, RateReservedBit, CsdAndOcr, Voltage, AppCommand}
-use Rattle.types.specs.declared.register.CountAnswer.{CountAnswer}
-use Rattle.types.specs.declared.register.CountAnswer.the-variants as Count
 use Rattle.types.specs.declared.register.RateAnswer.{RateAnswer}
 use Rattle.types.specs.declared.register.RateAnswer.the-variants as Rate
 use Rattle.types.specs.declared.register.Wide.{Wide}
@@ -44,22 +44,26 @@ csdStructure csd = bits csd 127 126
 abbrev pub structures : List (Code Version)
 structures = means version1 ∷ means version2 ∷ reserved ∷ reserved ∷ []
 
--- CSD version 1.0. READ_BL_LEN: 0 to 8 reserved, 512, 1024 and 2048 bytes, 12 to 15 reserved
+-- READ_BL_LEN, by the version. In 1.0: 0 to 8 reserved, 512, 1024 and 2048 bytes, 12 to 15 reserved. In 2.0 it is fixed at 9, 512
+-- bytes
 abbrev pub readBlLen : ℕ → ℕ
 readBlLen csd = bits csd 83 80
 
-abbrev pub blockLengths : List (Code ℕ)
-blockLengths =
+abbrev pub blockLengths : Version → List (Code ℕ)
+blockLengths version1 =
     reserved ∷ reserved ∷ reserved ∷ reserved ∷ reserved ∷ reserved ∷ reserved ∷ reserved
     ∷ reserved ∷ means 512 ∷ means 1024 ∷ means 2048 ∷ reserved ∷ reserved ∷ reserved ∷ reserved ∷ []
+blockLengths version2 =
+    reserved ∷ reserved ∷ reserved ∷ reserved ∷ reserved ∷ reserved ∷ reserved ∷ reserved
+    ∷ reserved ∷ means 512 ∷ reserved ∷ reserved ∷ reserved ∷ reserved ∷ reserved ∷ reserved ∷ []
 
+-- CSD version 1.0. memory capacity = BLOCKNR * BLOCK_LEN bytes, where BLOCKNR = (C_SIZE + 1) * MULT, MULT = 2 ^ (C_SIZE_MULT + 2)
 abbrev pub cSize1 : ℕ → ℕ
 cSize1 csd = bits csd 73 62
 
 abbrev pub cSizeMult : ℕ → ℕ
 cSizeMult csd = bits csd 49 47
 
--- memory capacity = BLOCKNR * BLOCK_LEN bytes, where BLOCKNR = (C_SIZE + 1) * MULT, MULT = 2 ^ (C_SIZE_MULT + 2)
 unfoldable pub bytes1 : ℕ → ℕ → ℕ
 bytes1 csd blockLen = (cSize1 csd + 1) * 2 ^ (cSizeMult csd + 2) * blockLen
 
@@ -70,18 +74,22 @@ cSize2 csd = bits csd 69 48
 unfoldable pub bytes2 : ℕ → ℕ
 bytes2 csd = (cSize2 csd + 1) * (512 * 1024)
 
--- the capacity in blocks of 512 bytes; a card with a reserved code is of no supported type, by the field that has it
-unfoldable pub blocks1 : ℕ → Code ℕ → CountAnswer
-blocks1 csd reserved = Count.Refused (UnsupportedCardType BlockLength)
-blocks1 csd (means blockLen) = Count.Blocks (record { 0 = bytes1 csd blockLen / 512 })
+-- THE CAPACITY in bytes: SD has none where the code of the version or of the block length is reserved
+unfoldable pub bytesBy : ℕ → Version → Code ℕ → Code ℕ
+bytesBy csd version reserved = reserved
+bytesBy csd version1 (means blockLen) = means (bytes1 csd blockLen)
+bytesBy csd version2 (means blockLen) = means (bytes2 csd)
 
-unfoldable pub blocksBy : ℕ → Code Version → CountAnswer
-blocksBy csd reserved = Count.Refused (UnsupportedCardType CsdVersion)
-blocksBy csd (means version1) = blocks1 csd (codeIn blockLengths (readBlLen csd))
-blocksBy csd (means version2) = Count.Blocks (record { 0 = bytes2 csd / 512 })
+unfoldable pub capacityBy : ℕ → Code Version → Code ℕ
+capacityBy csd reserved = reserved
+capacityBy csd (means version) = bytesBy csd version (codeIn (blockLengths version) (readBlLen csd))
 
-unfoldable pub sdCount : ℕ → CountAnswer
-sdCount csd = blocksBy csd (codeIn structures (csdStructure csd))
+unfoldable pub sdCapacity : ℕ → Code ℕ
+sdCapacity csd = capacityBy csd (codeIn structures (csdStructure csd))
+
+-- a record counts what SD has for the CSD in it: so many blocks of 512 bytes
+abbrev pub Counts : Card → Type 0
+Counts card = sdCapacity (wideOf (card .csd)) ≡ means (card .«block_count» .0 * 512)
 
 -- TRAN_SPEED, in both versions: the unit in bits 2:0, the time value in bits 6:3, bit 7 reserved
 abbrev pub tranSpeed : ℕ → ℕ
@@ -109,12 +117,11 @@ sdRate byte =
     cond (bit byte 7) (Rate.Refused (UnsupportedCardType RateReservedBit))
     (rateBy (codeIn transferUnits (bits byte 2 0)) (codeIn timeValues (bits byte 6 3)))
 
--- Which fields of a CSD are at fault: the code of one is reserved, or the reserved bit is set. READ_BL_LEN is looked at in
--- version 1.0; three of P4's fields are none of a CSD
+-- Which fields of a CSD are at fault: the code of one is reserved, or the reserved bit is set. READ_BL_LEN is that of its version;
+-- three of P4's fields are none of a CSD
 unfoldable pub lengthFault : ℕ → Code Version → Bool
 lengthFault csd reserved = false
-lengthFault csd (means version1) = isReserved (codeIn blockLengths (readBlLen csd))
-lengthFault csd (means version2) = false
+lengthFault csd (means version) = isReserved (codeIn (blockLengths version) (readBlLen csd))
 
 unfoldable pub atFault : Field → ℕ → Bool
 atFault CsdVersion csd = isReserved (codeIn structures (csdStructure csd))
@@ -125,6 +132,10 @@ atFault RateReservedBit csd = bit (tranSpeed csd) 7
 atFault CsdAndOcr csd = false
 atFault Voltage csd = false
 atFault AppCommand csd = false
+
+-- why a card has no capacity: the version is looked at first, since the block length goes by it
+abbrev pub firstFault : ℕ → Field
+firstFault csd = cond (atFault CsdVersion csd) CsdVersion BlockLength
 
 -- the argument of a read counts bytes on a standard capacity card, blocks of 512 bytes on all others
 abbrev pub unitBytes : CardCapacity → ℕ

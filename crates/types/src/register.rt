@@ -133,6 +133,10 @@ pub fn block_count(csd: Wide) -> CountAnswer
         return CountAnswer::Blocks(BlockCount(size << shift));
     }
     if version == 1 {
+        // SD fixes it there; the Rust does not look.
+        if csd.block_length() != 9 {
+            return CountAnswer::Refused(Error::UnsupportedCardType(Field::BlockLength));
+        }
         let size = csd.size_2() + 1;
         return CountAnswer::Blocks(BlockCount(size * 1024));
     }

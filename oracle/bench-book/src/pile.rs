@@ -25,6 +25,11 @@ pub fn read_book(pile: &mut impl Read) -> io::Result<Option<Vec<u8>>> {
     Ok(Some(book))
 }
 
+/// The books of a pile in their order.
+pub fn books(mut pile: impl Read) -> impl Iterator<Item = io::Result<Vec<u8>>> {
+    std::iter::from_fn(move || read_book(&mut pile).transpose())
+}
+
 fn cut_short() -> io::Error {
     io::Error::new(ErrorKind::UnexpectedEof, "the pile is cut short")
 }

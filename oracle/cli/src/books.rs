@@ -1,9 +1,9 @@
-//! Piles, their traces and their events.
+//! Piles, their traces and their events, and in how many of their calls the Rust is not asked.
 
 use std::io::{self, BufReader, BufWriter, Read, Write};
 
 use oracle_bench_book::{pile, MOST_ROOM};
-use oracle_model::generate;
+use oracle_model::{aside, generate};
 
 use crate::written;
 
@@ -15,17 +15,12 @@ pub fn pile(seed: u64, count: u64) -> Result<(), String> {
 
 /// Prints each book of a pile with this room: `print` is `trace` or `events` of some host.
 pub fn each(room: Option<&str>, print: fn(&[u8], usize, &mut Vec<u8>)) -> Result<(), String> {
-    let room = match room {
-        None => MOST_ROOM,
-        Some(word) => room_of(word).ok_or(format!("oracle: {word} is no number of rows up to {MOST_ROOM}"))?,
-    };
-    let mut input = BufReader::with_capacity(1 << 16, io::stdin().lock());
+    let room = room_of(room)?;
     let mut out = BufWriter::with_capacity(1 << 16, io::stdout().lock());
     let mut text = Vec::new();
-    for k in 1.. {
-        let book = match pile::read_book(&mut input) {
-            Ok(Some(book)) => book,
-            Ok(None) => break,
+    for (k, book) in (1..).zip(pile::books(input())) {
+        let book = match book {
+            Ok(book) => book,
             Err(error) => {
                 written(out.flush())?;
                 return Err(format!("oracle: {error}"));
@@ -41,10 +36,27 @@ pub fn each(room: Option<&str>, print: fn(&[u8], usize, &mut Vec<u8>)) -> Result
     written(out.flush())
 }
 
-fn room_of(word: &str) -> Option<usize> {
+/// Prints in how many calls of a pile, each with this room, the Rust is not asked.
+pub fn aside(room: Option<&str>) -> Result<(), String> {
+    let room = room_of(room)?;
+    let mut calls = 0;
+    for book in pile::books(input()) {
+        calls += aside::calls(&book.map_err(|error| format!("oracle: {error}"))?, room);
+    }
+    written(writeln!(io::stdout(), "{calls}"))
+}
+
+fn input() -> impl Read {
+    BufReader::with_capacity(1 << 16, io::stdin().lock())
+}
+
+fn room_of(word: Option<&str>) -> Result<usize, String> {
+    let Some(word) = word else {
+        return Ok(MOST_ROOM);
+    };
     let digits = word.bytes().all(|byte| byte.is_ascii_digit());
-    let room = word.parse().ok().filter(|_| digits)?;
-    (room <= MOST_ROOM).then_some(room)
+    let room = word.parse().ok().filter(|room| digits && *room <= MOST_ROOM);
+    room.ok_or(format!("oracle: {word} is no number of rows up to {MOST_ROOM}"))
 }
 
 /// Prints one book.

@@ -17,6 +17,13 @@ pub fn wide_rates(seed: u64, count: u64) -> Result<(), String> {
     print(|line| each_wide_rate(seed, count, |rate| line(format!("rate {rate} {}", answer(rate)))))
 }
 
+/// How many inputs the Rust is not asked about.
+pub fn aside(seed: u64, count: u64) -> Result<(), String> {
+    let mut inputs = 0u64;
+    each(seed, count, |leaf| inputs += u64::from(leaf.beyond_the_rust()));
+    written(writeln!(io::stdout(), "{inputs}"))
+}
+
 fn print(all: impl FnOnce(&mut dyn FnMut(String))) -> Result<(), String> {
     let mut out = BufWriter::with_capacity(1 << 16, io::stdout().lock());
     let mut result = Ok(());

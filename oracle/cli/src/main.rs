@@ -10,7 +10,7 @@ mod wrong;
 use std::process::ExitCode;
 
 use oracle_bench_book::{events, lines, trace};
-use oracle_driver::right;
+use oracle_paper::asked;
 
 const USAGE: &str = "\
 oracle pile SEED COUNT        write COUNT books as a pile
@@ -18,6 +18,11 @@ oracle trace [ROOM] < PILE    what the Rust does with each book of a pile
 oracle events [ROOM] < PILE   the Rust's readings and rows of each book, in their order
 oracle book < BOOK            the lines of one book
 oracle leaves SEED COUNT      inputs of the plain functions with the Rust's answers
+                              of these four, what the Rust is not asked (about a CSD of version 1 with another block
+                              length than 9, which the documents refuse) is the documents', without the field
+oracle aside [ROOM] < PILE    in how many calls of a pile the Rust is not asked
+oracle leaves-aside SEED COUNT
+                              about how many inputs of the plain functions it is not
 oracle paper-trace [ROOM] < PILE
 oracle paper-events [ROOM] < PILE
 oracle paper-book < BOOK
@@ -28,7 +33,7 @@ oracle coverage SEED COUNT    what such a pile reaches
 oracle sample SEED COUNT [KEPT]
                               the books of the pile KEPT, and of such a pile those that reach something new
 oracle wrong [SEED COUNT]     which wrong hosts such a pile catches
-oracle paper SEED COUNT       does the Rust do what document 01 says, on such a pile";
+oracle paper SEED COUNT       does the Rust, where it is asked, do what the documents say, on such a pile";
 
 fn main() -> ExitCode {
     let words: Vec<String> = std::env::args().skip(1).collect();
@@ -46,10 +51,12 @@ fn run(words: &[&str]) -> Result<(), String> {
     let room = words.get(1).copied();
     match *words {
         ["pile", seed, count] => seeded(seed, count, books::pile),
-        ["trace"] | ["trace", _] => books::each(room, trace::<right::Host>),
-        ["events"] | ["events", _] => books::each(room, events::<right::Host>),
-        ["book"] => books::book(lines::<right::Host>),
-        ["leaves", seed, count] => seeded(seed, count, leaves::leaves::<right::Leaves>),
+        ["trace"] | ["trace", _] => books::each(room, trace::<asked::Host>),
+        ["events"] | ["events", _] => books::each(room, events::<asked::Host>),
+        ["book"] => books::book(lines::<asked::Host>),
+        ["leaves", seed, count] => seeded(seed, count, leaves::leaves::<asked::Leaves>),
+        ["aside"] | ["aside", _] => books::aside(room),
+        ["leaves-aside", seed, count] => seeded(seed, count, leaves::aside),
         ["paper-trace"] | ["paper-trace", _] => books::each(room, trace::<oracle_paper::Host>),
         ["paper-events"] | ["paper-events", _] => books::each(room, events::<oracle_paper::Host>),
         ["paper-book"] => books::book(lines::<oracle_paper::Host>),

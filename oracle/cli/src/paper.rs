@@ -1,10 +1,11 @@
-//! Compares the Rust with the host written from document 01, in all but the fields,
-//! which the Rust does not have.
+//! Compares the Rust, where it is asked, with the host made from the documents, in all
+//! but the fields, which the Rust does not have.
 
 use oracle_bench_book::{events, trace, MOST_ROOM};
-use oracle_driver::{right, Host};
-use oracle_model::{generate, leaves, rng::Rng};
+use oracle_driver::Host;
+use oracle_model::{aside, generate, leaves, rng::Rng};
 use oracle_paper as paper;
+use oracle_paper::asked;
 use oracle_paper::telling::without_fields;
 
 /// What a call gives, and the order in which it went.
@@ -16,28 +17,46 @@ fn text<H: Host>(book: &[u8], room: usize) -> Vec<u8> {
 }
 
 pub fn paper(seed: u64, count: u64) -> Result<(), String> {
+    let calls = on_books(seed, count)?;
+    let (inputs, aside) = on_leaves(seed, count)?;
+    println!(
+        "the Rust and the documents agree on {count} books, each with two rooms, and on {inputs} leaf inputs; \
+         the Rust was not asked in {calls} calls and about {aside} inputs"
+    );
+    Ok(())
+}
+
+/// The number of calls in which the Rust was not asked.
+fn on_books(seed: u64, count: u64) -> Result<u64, String> {
+    let mut aside = 0;
     for k in 1..=count {
         let book = generate::book(seed, k);
         let little = Rng::nth(!seed, k).below(120) as usize;
         for room in [MOST_ROOM, little] {
-            if text::<right::Host>(&book, room) != without_fields(|| text::<paper::Host>(&book, room)) {
+            if text::<asked::Host>(&book, room) != without_fields(|| text::<paper::Host>(&book, room)) {
                 return Err(format!(
                     "oracle: they differ on book {k} of seed {seed} with room {room}"
                 ));
             }
+            aside += aside::calls(&book, room);
         }
     }
-    let mut inputs = 0u64;
+    Ok(aside)
+}
+
+/// The number of inputs, and of those about which the Rust was not asked.
+fn on_leaves(seed: u64, count: u64) -> Result<(u64, u64), String> {
+    let (mut inputs, mut aside) = (0, 0);
     let mut different = None;
     leaves::each(seed, count, |leaf| {
         inputs += 1;
-        if leaf.answer::<right::Leaves>() != without_fields(|| leaf.answer::<paper::Leaves>()) {
+        aside += u64::from(leaf.beyond_the_rust());
+        if leaf.answer::<asked::Leaves>() != without_fields(|| leaf.answer::<paper::Leaves>()) {
             different = different.or(Some(leaf));
         }
     });
-    if let Some(leaf) = different {
-        return Err(format!("oracle: they differ on {leaf:?}"));
+    match different {
+        Some(leaf) => Err(format!("oracle: they differ on {leaf:?}")),
+        None => Ok((inputs, aside)),
     }
-    println!("the Rust and document 01 agree on {count} books, each with two rooms, and on {inputs} leaf inputs");
-    Ok(())
 }

@@ -36,10 +36,6 @@ pub fn sample(seed: u64, count: u64, kept: Option<&str>) -> Result<(), String> {
 
 fn books(path: &str) -> Result<Vec<Vec<u8>>, String> {
     let fault = |error: io::Error| format!("oracle: {path}: {error}");
-    let mut input = BufReader::new(File::open(path).map_err(fault)?);
-    let mut books = Vec::new();
-    while let Some(book) = pile::read_book(&mut input).map_err(fault)? {
-        books.push(book);
-    }
-    Ok(books)
+    let input = BufReader::new(File::open(path).map_err(fault)?);
+    pile::books(input).collect::<io::Result<_>>().map_err(fault)
 }

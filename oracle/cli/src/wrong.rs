@@ -3,11 +3,11 @@
 use std::panic::{catch_unwind, set_hook, take_hook};
 
 use oracle_bench_book::{events, trace, MOST_ROOM};
-use oracle_driver::{right, switchable, wrong};
+use oracle_driver::{switchable, wrong};
 use oracle_model::leaves::{each, Leaf};
 use oracle_model::{generate, rng::Rng};
 use oracle_paper as paper;
-use oracle_paper::telling;
+use oracle_paper::asked;
 use oracle_paper::wrong::Wrong;
 
 pub const SEED: u64 = 1;
@@ -24,6 +24,9 @@ struct Case {
     right: Vec<u8>,
 }
 
+/// The Rust with its switches, asked as the right one is: a call in which neither is asked does not tell them apart.
+type Switched = asked::Host<switchable::Host>;
+
 /// What is printed of a book with this room.
 type Print = fn(&[u8], usize, &mut Vec<u8>);
 
@@ -38,7 +41,7 @@ fn both(print: Print, book: &[u8], room: usize) -> Vec<u8> {
 fn case(seed: u64, k: u64) -> Case {
     let book = generate::book(seed, k);
     let room = Rng::nth(seed ^ 0x5eed, k).below(120) as usize;
-    let right = both(trace::<right::Host>, &book, room);
+    let right = both(trace::<asked::Host>, &book, room);
     Case { book, room, right }
 }
 
@@ -51,20 +54,20 @@ fn differs(which: u16, print: Print, case: &Case, right: &[u8]) -> bool {
 /// Where a switched host first differs from the right one. Events come last, so that they are named only where nothing
 /// else tells: the host reads another register, and a script has the same word for it.
 fn caught(which: u16, cases: &[Case], leaves: &[(Leaf, u64)]) -> Option<String> {
-    let traced = |case: &Case| differs(which, trace::<switchable::Host>, case, &case.right);
+    let traced = |case: &Case| differs(which, trace::<Switched>, case, &case.right);
     if let Some(at) = cases.iter().position(traced) {
         return Some(format!("book {}", at + 1));
     }
     let leaf = leaves.iter().find(|(leaf, right)| {
-        let run = || wrong::with(which, || leaf.answer::<switchable::Leaves>());
+        let run = || wrong::with(which, || leaf.answer::<asked::Leaves<switchable::Leaves>>());
         catch_unwind(run).map_or(true, |answer| answer != *right)
     });
     if let Some((leaf, _)) = leaf {
         return Some(format!("leaf {leaf:?}"));
     }
     let stepped = |case: &Case| {
-        let right = both(events::<right::Host>, &case.book, case.room);
-        differs(which, events::<switchable::Host>, case, &right)
+        let right = both(events::<asked::Host>, &case.book, case.room);
+        differs(which, events::<Switched>, case, &right)
     };
     cases
         .iter()
@@ -72,16 +75,14 @@ fn caught(which: u16, cases: &[Case], leaves: &[(Leaf, u64)]) -> Option<String> 
         .map(|at| format!("events of book {}", at + 1))
 }
 
-/// Where a model that tells a wrong field first differs from the right one: a book, a leaf input, or one of each.
-fn told_wrongly(wrong: &Wrong, cases: &[Case], leaves: &[(Leaf, u64)]) -> Option<String> {
+/// Where a wrong model first differs from the right one: a book, a leaf input, or one of each.
+fn modelled_wrongly(wrong: &Wrong, cases: &[Case], leaves: &[(Leaf, u64)]) -> Option<String> {
     let text = |case: &Case| both(trace::<paper::Host>, &case.book, case.room);
-    let book = cases
-        .iter()
-        .position(|case| text(case) != telling::with(wrong.tell, || text(case)));
+    let book = cases.iter().position(|case| text(case) != wrong.with(|| text(case)));
     let answer = |leaf: Leaf| leaf.answer::<paper::Leaves>();
     let leaf = leaves
         .iter()
-        .find(|(leaf, _)| answer(*leaf) != telling::with(wrong.tell, || answer(*leaf)));
+        .find(|(leaf, _)| answer(*leaf) != wrong.with(|| answer(*leaf)));
     let book = book.map(|at| format!("book {}", at + 1));
     let leaf = leaf.map(|(leaf, _)| format!("leaf {leaf:?}"));
     let places: Vec<String> = book.into_iter().chain(leaf).collect();
@@ -91,7 +92,7 @@ fn told_wrongly(wrong: &Wrong, cases: &[Case], leaves: &[(Leaf, u64)]) -> Option
 pub fn wrong(seed: u64, count: u64) -> Result<(), String> {
     let cases: Vec<Case> = (1..=count).map(|k| case(seed, k)).collect();
     let mut leaves = Vec::new();
-    each(seed, LEAVES, |leaf| leaves.push((leaf, leaf.answer::<right::Leaves>())));
+    each(seed, LEAVES, |leaf| leaves.push((leaf, leaf.answer::<asked::Leaves>())));
     if let Some(place) = caught(0, &cases, &leaves) {
         return Err(format!(
             "oracle: the switchable host differs with no switch on: {place}"
@@ -107,9 +108,7 @@ pub fn wrong(seed: u64, count: u64) -> Result<(), String> {
     let hosts = wrong::ALL
         .iter()
         .map(|(which, name, what)| (*name, *what, caught(*which, &cases, &leaves)));
-    let models = paper::wrong::ALL
-        .iter()
-        .map(|wrong| (wrong.name, wrong.what, told_wrongly(wrong, &cases, &leaves)));
+    let models = paper::wrong::all().map(|wrong| (wrong.name, wrong.what, modelled_wrongly(wrong, &cases, &leaves)));
     let found: Vec<_> = hosts.chain(models).collect();
     set_hook(hook);
     report(&found)

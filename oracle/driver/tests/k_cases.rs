@@ -43,6 +43,15 @@ fn capacities() {
 }
 
 #[test]
+fn a_capacity_that_request_p6_refuses() {
+    // Version 1 with any block length but 9. The Rust does not look at it: a difference that is wanted.
+    for length in 0..16 {
+        assert_eq!(count(1 << 126 | length << 80), 1_024, "{length}");
+    }
+    assert_eq!(count(1 << 126 | 10 << 80 | 0x3f_ffff << 48), 4_294_967_296);
+}
+
+#[test]
 fn rates() {
     // K7
     assert_eq!(Leaves::rate(0x32), 25_000_000);

@@ -130,15 +130,22 @@ fn words(site: &'static str, answer: u8, outcome: &Outcome) -> Arm {
 fn csd(outcome: &Outcome) -> &'static str {
     let high = word_of(outcome, 41, 0) >> 30 & 1 == 1;
     let length = word_of(outcome, 9, 1) >> 16 & 15;
-    match (high, word_of(outcome, 9, 0) >> 30) {
-        (true, 0) => "OCR high, CSD 0",
-        (true, 2) => "OCR high, CSD 2",
-        (true, 3) => "OCR high, CSD 3",
-        (false, 1) => "OCR standard, CSD 1",
-        (false, 2) => "OCR standard, CSD 2",
-        (false, 3) => "OCR standard, CSD 3",
-        (false, 0) if length < 9 => "block length under 9",
-        (false, 0) if length > 11 => "block length over 11",
+    match (high, word_of(outcome, 9, 0) >> 30, length) {
+        (true, 0, _) => "OCR high, CSD 0",
+        (true, 2, _) => "OCR high, CSD 2",
+        (true, 3, _) => "OCR high, CSD 3",
+        // The comparison comes before the block length.
+        (false, 1, 9) => "OCR standard, CSD 1",
+        (false, 1, _) => "OCR standard, CSD 1, block length not 9",
+        (false, 2, _) => "OCR standard, CSD 2",
+        (false, 3, _) => "OCR standard, CSD 3",
+        (false, 0, ..=8) => "CSD 0: block length under 9",
+        (false, 0, 12..) => "CSD 0: block length over 11",
+        (true, 1, ..=8) => "CSD 1: block length under 9",
+        // Version 0 may have these two.
+        (true, 1, 10) => "CSD 1: block length 10",
+        (true, 1, 11) => "CSD 1: block length 11",
+        (true, 1, 12..) => "CSD 1: block length over 11",
         _ => "unknown",
     }
 }

@@ -162,9 +162,10 @@ fn rate(rng: &mut Rng) -> u128 {
     u128::from(byte) << 96
 }
 
-/// Noise outside the fields that count: version, rate, block length, size.
-fn csd_noise(rng: &mut Rng, fields: u128) -> u128 {
-    rng.wide() & !(3 << 126 | 0xff << 96 | fields)
+/// Noise outside the fields that count: version, rate, block length and those of the
+/// size.
+fn csd_noise(rng: &mut Rng, size: u128) -> u128 {
+    rng.wide() & !(3 << 126 | 0xff << 96 | 15 << 80 | size)
 }
 
 fn csd_standard(rng: &mut Rng) -> u128 {
@@ -176,12 +177,11 @@ fn csd_standard(rng: &mut Rng) -> u128 {
         0 => rng.pick(&[0, 1, 3, 4, 0x7ff, 0x800, 0xffe, 0xfff]),
         _ => rng.below(0x1000),
     };
-    let fields = 15 << 80 | 0xfff << 62 | 7 << 47;
     let version = match rng.below(48) {
         0 => rng.below(4),
         _ => 0,
     };
-    csd_noise(rng, fields)
+    csd_noise(rng, 0xfff << 62 | 7 << 47)
         | u128::from(version) << 126
         | rate(rng)
         | u128::from(length) << 80
@@ -200,7 +200,27 @@ fn csd_high(rng: &mut Rng) -> u128 {
         0 => rng.below(4),
         _ => 1,
     };
-    csd_noise(rng, 0x3f_ffff << 48) | u128::from(version) << 126 | rate(rng) | u128::from(size) << 48
+    csd_noise(rng, 0x3f_ffff << 48)
+        | u128::from(version) << 126
+        | rate(rng)
+        | u128::from(length_high(rng)) << 80
+        | u128::from(size) << 48
+}
+
+/// SD has 9. Of the others those beside it are met most, and those that a card of
+/// standard capacity may have.
+fn length_high(rng: &mut Rng) -> u64 {
+    match rng.below(40) {
+        0 | 1 => rng.pick(&[10, 11]),
+        2 => rng.pick(&[8, 12]),
+        3 => other_length(rng),
+        _ => 9,
+    }
+}
+
+/// Any of the fifteen that are not 9.
+pub fn other_length(rng: &mut Rng) -> u64 {
+    rng.between(10, 24) % 16
 }
 
 pub fn scr(rng: &mut Rng) -> u64 {

@@ -5,9 +5,9 @@ use std::collections::BTreeMap;
 use oracle_bench_book::{Book, Fault, MOST_ROOM};
 use oracle_driver::bench::{Event, Feed};
 use oracle_driver::host::{SCRIPT_ENDED, TRACE_FULL, UNSUPPORTED};
-use oracle_driver::right::Host;
 use oracle_driver::{Call, Host as _, Outcome, Settings, State};
 use oracle_paper as paper;
+use oracle_paper::asked::Host;
 
 use crate::arms::{self, Arm};
 use crate::closing;

@@ -129,10 +129,15 @@ pub const SITES: &[Site] = &[
             "OCR high, CSD 2",
             "OCR high, CSD 3",
             "OCR standard, CSD 1",
+            "OCR standard, CSD 1, block length not 9",
             "OCR standard, CSD 2",
             "OCR standard, CSD 3",
-            "block length under 9",
-            "block length over 11",
+            "CSD 0: block length under 9",
+            "CSD 0: block length over 11",
+            "CSD 1: block length under 9",
+            "CSD 1: block length 10",
+            "CSD 1: block length 11",
+            "CSD 1: block length over 11",
         ],
         &WITHOUT_ECHO,
     ),
@@ -185,16 +190,16 @@ pub fn arms() -> Vec<Arm> {
     SITES.iter().flat_map(of).collect()
 }
 
-/// The field that goes with an arm whose answer is 13, by document 02's request P4;
-/// none: the arm has another answer.
+/// The field that goes with an arm whose answer is 13, by document 02's requests P4 and
+/// P6; none: the arm has another answer.
 pub fn field((_, cause): Arm) -> Option<u8> {
     match cause {
         "OCR standard, CSD 2" | "OCR standard, CSD 3" => Some(1),
-        "block length under 9" | "block length over 11" => Some(2),
+        _ if cause.starts_with("CSD 0: block length") || cause.starts_with("CSD 1: block length") => Some(2),
         "rate: unit" | "rate: unit, value" => Some(3),
         "rate: value" => Some(4),
         _ if cause.starts_with("rate: reserved bit") => Some(5),
-        "OCR high, CSD 0" | "OCR high, CSD 2" | "OCR high, CSD 3" | "OCR standard, CSD 1" => Some(6),
+        _ if cause.starts_with("OCR high, CSD") || cause.starts_with("OCR standard, CSD 1") => Some(6),
         _ if cause.starts_with("voltage") => Some(7),
         _ if cause.starts_with("not taken") => Some(8),
         _ => None,

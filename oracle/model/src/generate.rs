@@ -5,8 +5,9 @@ use std::rc::Rc;
 
 use oracle_bench_book::book::{self, Book, Entry};
 use oracle_driver::bench::{Event, Feed, Reading};
-use oracle_driver::right::{Host, Snapshot};
+use oracle_driver::right::Snapshot;
 use oracle_driver::{Call, Host as _, Outcome, Settings};
+use oracle_paper::asked;
 
 use crate::card::{self, Card};
 use crate::damage;
@@ -54,10 +55,11 @@ pub fn book(seed: u64, k: u64) -> Vec<u8> {
     }
 }
 
-/// A host, the card before it and the book so far.
+/// The Rust's host, kept in step with the documents, the card before it and the book so
+/// far.
 struct Maker {
     rng: Rng,
-    host: Host,
+    host: asked::Host,
     player: Rc<RefCell<Player>>,
     book: Book,
     /// Words that the book takes so far.
@@ -71,7 +73,7 @@ impl Maker {
         let player = Player::new(card, inner, settings.poll_limit, settings.ready_attempts);
         Self {
             rng,
-            host: Host::make(&settings).expect("good settings make a host"),
+            host: asked::Host::make(&settings).expect("good settings make a host"),
             player: Rc::new(RefCell::new(player)),
             book: Book {
                 settings,

@@ -3,6 +3,7 @@
 //! comes often.
 
 use oracle_driver::host::Leaves;
+use oracle_paper as paper;
 
 use crate::rng::Rng;
 
@@ -49,6 +50,11 @@ impl Leaf {
             } => L::address(high_capacity, blocks, index, count as usize),
             Leaf::Data { status } => L::data_error(status).into(),
         }
+    }
+
+    /// Whether the Rust is not asked about this input.
+    pub fn beyond_the_rust(self) -> bool {
+        matches!(self, Leaf::Count { high, low } if paper::Leaves::beyond_the_rust(high, low))
     }
 
     /// The line of a call and its result.
@@ -156,12 +162,17 @@ fn fixed(emit: &mut impl FnMut(Leaf)) {
             }
         }
     }
+    for version in 0..4 {
+        for length in 0..16 {
+            emit(csd(version << 126 | length << 80));
+            emit(csd(version << 126 | length << 80 | 0x3f_ffff << 48));
+        }
+    }
     for size in (0..22)
         .flat_map(|bit| [1 << bit, (1 << bit) - 1])
         .chain([0x3f_ffff, 0x3f_fffe])
     {
         emit(csd(1 << 126 | 9 << 80 | size << 48));
-        emit(csd(1 << 126 | size << 48));
     }
     for status in 0..1024 {
         emit(Leaf::Data { status });
@@ -264,6 +275,8 @@ fn block_count(rng: &mut Rng) -> Leaf {
     let version: u128 = rng.pick(&[0, 0, 0, 1, 1, 2, 3]);
     let length: u128 = match rng.below(3) {
         0 => rng.below(16).into(),
+        // The one length with which version 1 has a count.
+        1 if version == 1 => 9,
         _ => rng.between(8, 12).into(),
     };
     csd(bits | version << 126 | length << 80)

@@ -2,6 +2,7 @@
 //! damage, and the count of what was reached.
 
 pub mod arms;
+pub mod aside;
 pub mod card;
 pub mod closing;
 pub mod coverage;

@@ -3,7 +3,7 @@
 
 use oracle_driver::bench::Reading;
 
-use crate::card::{Command, Response};
+use crate::card::{other_length, Command, Response};
 use crate::player::{completion, Player, Stage};
 use crate::rng::Rng;
 
@@ -110,6 +110,7 @@ fn response(command: Command, place: u8, natural: u32, rng: &mut Rng) -> (u32, O
     }
     let word = match command.response {
         Response::R2 if place == 0 => first_of_long(natural, rng),
+        Response::R2 if place == 1 && rng.one_in(2) => another_length(natural, rng),
         Response::R2 => match rng.below(2) {
             0 => natural ^ rng.bit_of(!0),
             _ => rng.word(),
@@ -140,6 +141,11 @@ fn first_of_long(natural: u32, rng: &mut Rng) -> u32 {
         2 => natural & !0xff | rng.pick(&[0x02, 0xb2, 0x34, 0x08, 0x09, 0x7b, 0x0b, 0x80]),
         _ => natural ^ rng.bit_of(!0),
     }
+}
+
+/// The second word of a CSD with another block length than 9.
+fn another_length(natural: u32, rng: &mut Rng) -> u32 {
+    natural & !(15 << 16) | (other_length(rng) as u32) << 16
 }
 
 /// Answers to CMD8 on each side of "version 1".

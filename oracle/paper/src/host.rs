@@ -3,7 +3,8 @@
 use oracle_driver::bench::Feed;
 use oracle_driver::host::{self, Call, Outcome, Record, Settings, State};
 
-use crate::leaf::{address, bits, capacity, clock, rate};
+use crate::judging::{slips, Slip};
+use crate::leaf::{address, bits, block_length, capacity, clock, rate, version};
 use crate::steps::{Bench, Kind};
 use crate::tape::{refuse, unsupported, Refusal, Step, Stop, Tape, DELAY, POWER};
 use crate::unsupported::Cause;
@@ -11,6 +12,7 @@ use crate::unsupported::Cause;
 pub struct Host {
     settings: Settings,
     state: State,
+    beyond_the_rust: bool,
 }
 
 /// What an accepted call gives.
@@ -48,6 +50,7 @@ impl host::Host for Host {
                 clkcr: 0,
                 record: None,
             },
+            beyond_the_rust: false,
         })
     }
 
@@ -56,6 +59,7 @@ impl host::Host for Host {
             unimplemented!("this host only follows scripts");
         };
         let before = self.state;
+        self.beyond_the_rust = false;
         let mut tape = Tape::new(script, room, self.state.clkcr, watched);
         let ended = match call {
             Call::Initialise { frequency } => self.initialise(&mut tape, frequency),
@@ -99,6 +103,12 @@ impl host::Host for Host {
 }
 
 impl Host {
+    /// Whether the last call was refused where the Rust goes on. It need not have been
+    /// answered so: it is answered 22 if its reset rows found no room.
+    pub fn beyond_the_rust(&self) -> bool {
+        self.beyond_the_rust
+    }
+
     fn bench<'t, 'a>(&self, tape: &'t mut Tape<'a>) -> Bench<'t, 'a> {
         Bench {
             tape,
@@ -111,9 +121,17 @@ impl Host {
         if frequency == 0 || frequency > 50_000_000 {
             return refuse(17);
         }
+        let old = self.state.record;
         let within = self.initialise_within(tape, frequency);
-        tape.guarded(within)?;
-        Ok(Given::default())
+        self.beyond_the_rust = within.is_err_and(|stop| stop.beyond_the_rust());
+        // Only wrong models slip.
+        if slips(Slip::OldRecord, &within) {
+            self.state.record = old;
+        }
+        if !slips(Slip::NoReset, &within) {
+            tape.guarded(within)?;
+        }
+        within.map(|()| Given::default())
     }
 
     fn initialise_within(&mut self, tape: &mut Tape<'_>, frequency: u32) -> Step<()> {
@@ -256,12 +274,15 @@ fn identify(bench: &mut Bench<'_, '_>, ocr: u32) -> Step<Record> {
     }
     let csd = long(bench.command(9, u32::from(rca) << 16, Kind::R2)?);
     let high_capacity = ocr >> 30 & 1 == 1;
-    let version = bits(csd, 127, 126);
-    // Before the capacity, which has something to say of the version too.
+    let (version, length) = (version(csd), block_length(csd));
+    // Before the capacity, which has something to say of both too.
     if high_capacity != (version == 1) {
-        return unsupported(Cause::Disagreement { version });
+        return unsupported(Cause::Disagreement { version, length });
     }
-    let blocks = capacity(csd)?;
+    let blocks = capacity(csd);
+    if !slips(Slip::AfterCmd7, &blocks) {
+        blocks?;
+    }
     bench.command(7, u32::from(rca) << 16, Kind::R1)?;
     Ok(Record {
         high_capacity,
@@ -271,6 +292,6 @@ fn identify(bench: &mut Bench<'_, '_>, ocr: u32) -> Step<Record> {
         csd,
         scr: 0,
         status: [0; 16],
-        blocks,
+        blocks: blocks?,
     })
 }

@@ -2,6 +2,7 @@
 
 use oracle_driver::host;
 
+use crate::judging::{allows, slips, Slip};
 use crate::tape::{refuse, unsupported, Step, Stop};
 use crate::unsupported::Cause;
 
@@ -47,15 +48,31 @@ pub fn bits(number: u128, high: u32, low: u32) -> u64 {
     (number >> low) as u64 & ((1 << (high - low + 1)) - 1)
 }
 
+/// Version, block length, count, in this order.
 pub fn capacity(csd: u128) -> Step<u64> {
-    match bits(csd, 127, 126) {
-        0 => match bits(csd, 83, 80) {
-            length @ 9..=11 => Ok((bits(csd, 73, 62) + 1) * (1 << (bits(csd, 49, 47) + 2 + length - 9))),
-            _ => unsupported(Cause::BlockLength),
-        },
-        1 => Ok((bits(csd, 69, 48) + 1) * 1024),
-        _ => unsupported(Cause::Version),
+    let (version, length) = (version(csd), block_length(csd));
+    if version > 1 {
+        return unsupported(Cause::Version);
     }
+    if !allows(version, length) {
+        let refused = unsupported(Cause::BlockLength { version, length });
+        return match slips(Slip::AnotherNumber, &refused) {
+            true => refuse(12),
+            false => refused,
+        };
+    }
+    Ok(match version {
+        0 => (bits(csd, 73, 62) + 1) * (1 << (bits(csd, 49, 47) + 2 + length - 9)),
+        _ => (bits(csd, 69, 48) + 1) * 1024,
+    })
+}
+
+pub fn version(csd: u128) -> u64 {
+    bits(csd, 127, 126)
+}
+
+pub fn block_length(csd: u128) -> u64 {
+    bits(csd, 83, 80)
 }
 
 pub fn rate(byte: u8) -> Step<u32> {
@@ -107,6 +124,15 @@ impl Leaves {
     pub fn wide_rate(number: u32) -> u64 {
         packed(wide_rate(number).map(u64::from))
     }
+
+    /// Whether the Rust counts blocks where the documents refuse.
+    pub fn beyond_the_rust(high: u64, low: u64) -> bool {
+        capacity(joined(high, low)).is_err_and(|stop| stop.beyond_the_rust())
+    }
+}
+
+fn joined(high: u64, low: u64) -> u128 {
+    u128::from(high) << 64 | u128::from(low)
 }
 
 fn packed(result: Step<u64>) -> u64 {
@@ -126,7 +152,7 @@ impl host::Leaves for Leaves {
     }
 
     fn count(high: u64, low: u64) -> u64 {
-        packed(capacity(u128::from(high) << 64 | u128::from(low)))
+        packed(capacity(joined(high, low)))
     }
 
     fn rate(byte: u8) -> u64 {

@@ -16,6 +16,13 @@ pub enum Stop {
     TraceFull,
 }
 
+impl Stop {
+    /// Whether the call stops where the Rust goes on.
+    pub fn beyond_the_rust(&self) -> bool {
+        matches!(self, Stop::Refused(Refusal::Unsupported(cause)) if cause.beyond_the_rust())
+    }
+}
+
 /// A refusal with what it says besides its number.
 #[derive(Clone, Copy, Debug, Eq, PartialEq)]
 pub enum Refusal {

@@ -4,6 +4,7 @@
 
 use std::cell::Cell;
 
+use crate::switch;
 use crate::unsupported::{Cause, Field};
 
 /// The field of a cause, if one is told.
@@ -24,14 +25,7 @@ pub(crate) fn told(cause: Cause) -> Option<Field> {
 
 /// Acts with another way of telling, and goes back whatever happens.
 pub fn with<R>(tell: Tell, act: impl FnOnce() -> R) -> R {
-    struct Back(Tell);
-    impl Drop for Back {
-        fn drop(&mut self) {
-            TELL.set(self.0);
-        }
-    }
-    let _back = Back(TELL.replace(tell));
-    act()
+    switch::with(&TELL, tell, act)
 }
 
 /// Acts without fields, so that the rest can be held to the Rust.

@@ -1,16 +1,22 @@
-//! Which field made a card unsupported: document 02's request P4, for answer 13.
+//! Which field made a card unsupported: document 02's request P4, for answer 13, and
+//! P6, which refuses a block length that the Rust takes.
 
 /// What the step that answers 13 has seen. This is more than the field, so that
 /// one function holds the whole rule, and a wrong one can stand in for it.
 #[derive(Clone, Copy, Debug, Eq, PartialEq)]
 pub enum Cause {
-    /// OCR and CSD do not agree on high capacity; the version in the CSD.
+    /// OCR and CSD do not agree on high capacity; version and block length in the CSD.
     Disagreement {
         version: u64,
+        length: u64,
     },
     /// They agree, and the CSD's version is one that has no capacity.
     Version,
-    BlockLength,
+    /// A block length that the CSD's version does not have.
+    BlockLength {
+        version: u64,
+        length: u64,
+    },
     /// Which of its three rules a rate breaks.
     Rate {
         reserved: bool,
@@ -57,7 +63,7 @@ impl Cause {
         match self {
             Cause::Disagreement { .. } => Field::CsdAgainstOcr,
             Cause::Version => Field::CsdVersion,
-            Cause::BlockLength => Field::BlockLength,
+            Cause::BlockLength { .. } => Field::BlockLength,
             // Of several broken rules the first of this order is told.
             Cause::Rate { reserved: true, .. } => Field::RateReservedBit,
             Cause::Rate { unit: true, .. } => Field::RateUnit,
@@ -65,5 +71,11 @@ impl Cause {
             Cause::Voltage => Field::Voltage,
             Cause::NotTaken { .. } => Field::ApplicationCommand,
         }
+    }
+
+    /// Request P6: the Rust does not look at the block length of a CSD of version 1,
+    /// and goes on.
+    pub fn beyond_the_rust(self) -> bool {
+        matches!(self, Cause::BlockLength { version: 1, .. })
     }
 }

@@ -1,139 +1,43 @@
-//! Models that are wrong in the field alone, to show what tells them from the right
-//! one.
+//! Models that are wrong in one thing that the Rust does not have, to show what tells
+//! them from the right one.
 
-use crate::telling::{rightly, Tell};
-use crate::unsupported::{Cause, Field};
+mod fields;
+mod lengths;
+
+use crate::judging::{self, Judging};
+use crate::telling::{self, Tell};
 
 pub struct Wrong {
     pub name: &'static str,
     pub what: &'static str,
-    pub tell: Tell,
+    how: How,
 }
 
-const fn wrong(name: &'static str, what: &'static str, tell: Tell) -> Wrong {
-    Wrong { name, what, tell }
+enum How {
+    Tells(Tell),
+    Judges(Judging),
 }
 
-/// Each is the right rule but for the causes that it names.
-pub const ALL: &[Wrong] = &[
-    wrong(
-        "field-unit-and-value-exchanged",
-        "a rate's unit is told as 4, its value as 3",
-        |cause| match cause.field() {
-            Field::RateUnit => Some(Field::RateValue),
-            Field::RateValue => Some(Field::RateUnit),
-            field => Some(field),
-        },
-    ),
-    wrong(
-        "field-value-before-unit",
-        "a rate's value is looked at before its unit",
-        |cause| match cause {
-            Cause::Rate {
-                reserved: false,
-                value: true,
-                ..
-            } => Some(Field::RateValue),
-            _ => rightly(cause),
-        },
-    ),
-    wrong(
-        "field-value-before-reserved",
-        "a rate's value is looked at first",
-        |cause| match cause {
-            Cause::Rate { value: true, .. } => Some(Field::RateValue),
-            _ => rightly(cause),
-        },
-    ),
-    wrong(
-        "field-reserved-last",
-        "a rate's reserved bit is looked at last",
-        |cause| match cause {
-            Cause::Rate { unit: true, .. } => Some(Field::RateUnit),
-            Cause::Rate { value: true, .. } => Some(Field::RateValue),
-            _ => rightly(cause),
-        },
-    ),
-    wrong("field-always-1", "every 13 has field 1", |_| Some(Field::CsdVersion)),
-    wrong("field-lost", "no 13 has a field", |_| None),
-    wrong(
-        "field-lost-on-the-way",
-        "CMD55's 13 has no field",
-        |cause| match cause {
-            Cause::NotTaken { .. } => None,
-            _ => rightly(cause),
-        },
-    ),
-    wrong(
-        "field-disagreement-as-version",
-        "CSD against OCR is told as 1",
-        |cause| match cause {
-            Cause::Disagreement { .. } => Some(Field::CsdVersion),
-            _ => rightly(cause),
-        },
-    ),
-    wrong(
-        "field-version-before-comparison",
-        "the CSD's version is looked at before the OCR",
-        |cause| match cause {
-            Cause::Disagreement { version: 2.. } => Some(Field::CsdVersion),
-            _ => rightly(cause),
-        },
-    ),
-    wrong(
-        "field-comparison-for-version",
-        "a CSD's version is told as 6",
-        |cause| match cause {
-            Cause::Version => Some(Field::CsdAgainstOcr),
-            _ => rightly(cause),
-        },
-    ),
-    wrong(
-        "field-block-length-as-version",
-        "a block length is told as 1",
-        |cause| match cause {
-            Cause::BlockLength => Some(Field::CsdVersion),
-            _ => rightly(cause),
-        },
-    ),
-    wrong(
-        "field-voltage-as-not-taken",
-        "a voltage is told as 8",
-        |cause| match cause {
-            Cause::Voltage => Some(Field::ApplicationCommand),
-            _ => rightly(cause),
-        },
-    ),
-    wrong(
-        "field-acmd41-as-voltage",
-        "CMD55's 13 before ACMD41 has field 7",
-        |cause| match cause {
-            Cause::NotTaken { command: 41 } => Some(Field::Voltage),
-            _ => rightly(cause),
-        },
-    ),
-    wrong(
-        "field-acmd51-as-version",
-        "CMD55's 13 before ACMD51 has field 1",
-        |cause| match cause {
-            Cause::NotTaken { command: 51 } => Some(Field::CsdVersion),
-            _ => rightly(cause),
-        },
-    ),
-    wrong(
-        "field-acmd6-as-voltage",
-        "CMD55's 13 before ACMD6 has field 7",
-        |cause| match cause {
-            Cause::NotTaken { command: 6 } => Some(Field::Voltage),
-            _ => rightly(cause),
-        },
-    ),
-    wrong(
-        "field-status-as-version",
-        "CMD55's 13 of a status call has field 1",
-        |cause| match cause {
-            Cause::NotTaken { command: 13 } => Some(Field::CsdVersion),
-            _ => rightly(cause),
-        },
-    ),
-];
+const fn tells(name: &'static str, what: &'static str, tell: Tell) -> Wrong {
+    let how = How::Tells(tell);
+    Wrong { name, what, how }
+}
+
+const fn judges(name: &'static str, what: &'static str, judging: Judging) -> Wrong {
+    let how = How::Judges(judging);
+    Wrong { name, what, how }
+}
+
+pub fn all() -> impl Iterator<Item = &'static Wrong> {
+    fields::ALL.iter().chain(lengths::ALL)
+}
+
+impl Wrong {
+    /// Acts with this model in place of the right one.
+    pub fn with<R>(&self, act: impl FnOnce() -> R) -> R {
+        match self.how {
+            How::Tells(tell) => telling::with(tell, act),
+            How::Judges(judging) => judging::with(judging, act),
+        }
+    }
+}

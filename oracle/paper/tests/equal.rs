@@ -1,9 +1,9 @@
-//! Document 01 and the Rust say the same, but for the fields, which are document 02's.
+//! The documents and the Rust, where it is asked, say the same, but for the fields, which the Rust does not have.
 
 use oracle_bench_book::{events, trace, MOST_ROOM};
-use oracle_driver::right;
 use oracle_model::{generate, leaves, rng::Rng};
 use oracle_paper as paper;
+use oracle_paper::asked;
 use oracle_paper::telling::without_fields;
 
 #[test]
@@ -13,8 +13,8 @@ fn on_books_with_much_and_with_little_room() {
         let little = Rng::nth(98, k).below(120) as usize;
         for room in [MOST_ROOM, little] {
             let (mut rust, mut document) = (Vec::new(), Vec::new());
-            trace::<right::Host>(&book, room, &mut rust);
-            events::<right::Host>(&book, room, &mut rust);
+            trace::<asked::Host>(&book, room, &mut rust);
+            events::<asked::Host>(&book, room, &mut rust);
             without_fields(|| {
                 trace::<paper::Host>(&book, room, &mut document);
                 events::<paper::Host>(&book, room, &mut document);
@@ -28,6 +28,6 @@ fn on_books_with_much_and_with_little_room() {
 fn on_the_plain_functions() {
     leaves::each(99, 20_000, |leaf| {
         let document = without_fields(|| leaf.line::<paper::Leaves>());
-        assert_eq!(leaf.line::<right::Leaves>(), document);
+        assert_eq!(leaf.line::<asked::Leaves>(), document);
     });
 }

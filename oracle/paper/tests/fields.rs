@@ -1,84 +1,29 @@
 //! The field of an answer 13, place by place.
 
+mod card;
+
 use oracle_bench_book::{events, lines, trace, Book, Entry};
-use oracle_driver::bench::Feed;
 use oracle_driver::host::Leaves;
-use oracle_driver::script::{data, initialisation, long, short};
-use oracle_driver::{right, Call, Host, Outcome, Settings};
+use oracle_driver::script::{initialisation, long, short};
+use oracle_driver::{right, Call};
 use oracle_model::generate;
 use oracle_paper as paper;
+use oracle_paper::asked;
+use oracle_paper::judging::{self, Judging};
 use oracle_paper::telling::{self, without_fields};
 use oracle_paper::unsupported::{Cause, Field};
 
-const SETTINGS: Settings = Settings {
-    source: 48_000_000,
-    poll_limit: 2,
-    ready_attempts: 3,
-    data_timeout: 7,
-    software_timeout: 9,
-    bypass: false,
-    wide: true,
-};
-const CALL: Call = Call::Initialise { frequency: 24_000_000 };
+use card::{run, Card, CALL, GOOD, SETTINGS};
 
 /// 13 and its field, as the C functions have them.
 fn refused(field: u64) -> u64 {
     13 << 56 | field
 }
 
-/// A card as it answers CMD55 before each application command, ACMD41 and CMD9; all else is well.
-#[derive(Clone, Copy)]
-struct Card {
-    taken: [u32; 3],
-    ocr: u32,
-    csd: [u32; 2],
-}
-
-const GOOD: Card = Card {
-    taken: [0x20; 3],
-    ocr: 0xc030_0000,
-    csd: [0x4000_0032, 0x0009_0000],
-};
-
-impl Card {
-    /// A card of standard capacity is asked for its block length besides.
-    fn script(self) -> Vec<u32> {
-        let blocks = if self.ocr >> 30 & 1 == 0 {
-            short(16, 0)
-        } else {
-            Vec::new()
-        };
-        [
-            vec![0, 0, 0x80],
-            short(8, 0x1aa),
-            short(55, self.taken[0]),
-            long([self.ocr, 0, 0, 0]),
-            long([1, 2, 3, 4]),
-            short(3, 0x1234_0000),
-            long([self.csd[0], self.csd[1], 0, 0]),
-            short(7, 0),
-            short(13, 0x900),
-            blocks,
-            short(55, self.taken[1]),
-            data(51, &[0x0000_0500, 0]),
-            short(13, 0x900),
-            short(55, self.taken[2]),
-            short(6, 0),
-            vec![0],
-        ]
-        .concat()
-    }
-}
-
-fn run<H: Host>(script: &[u32]) -> Outcome {
-    let mut host = H::make(&SETTINGS).ok().unwrap();
-    host.call(CALL, Feed::Script(script), 4_096, true)
-}
-
-/// Answer and field; the Rust has all but the field.
+/// Answer and field; the Rust, where it is asked, has all but the field.
 fn told(script: &[u32]) -> (u8, Option<u8>) {
     let document = run::<paper::Host>(script);
-    let rust = run::<right::Host>(script);
+    let rust = run::<asked::Host>(script);
     assert_eq!(rust, without_fields(|| run::<paper::Host>(script)));
     assert_eq!(rust.field, None);
     (document.answer, document.field)
@@ -140,44 +85,47 @@ fn of_a_rate_that_is_no_byte() {
     }
 }
 
+/// Both come before the block length, so this may be any.
 #[test]
 fn of_csd_version_and_ocr() {
-    let table = [
-        (true, [(13, Some(6)), (0, None), (13, Some(6)), (13, Some(6))]),
-        (false, [(0, None), (13, Some(6)), (13, Some(1)), (13, Some(1))]),
-    ];
-    for (high, versions) in table {
-        for (version, due) in (0..).zip(versions) {
-            let card = Card {
-                ocr: 0x8030_0000 | u32::from(high) << 30,
-                csd: [version << 30 | 0x32, 0x0009_0000],
-                ..GOOD
-            };
-            assert_eq!(told(&card.script()), due, "high {high}, version {version}");
-        }
+    let (version, comparison) = ((13, Some(1)), (13, Some(6)));
+    for length in 0..16 {
+        let of = |high, versions: [u32; 3]| versions.map(|version| told(&Card::of(high, version, length).script()));
+        assert_eq!(of(true, [0, 2, 3]), [comparison; 3], "{length}");
+        assert_eq!(of(false, [1, 2, 3]), [comparison, version, version], "{length}");
     }
 }
 
 #[test]
 fn of_the_block_length() {
     for length in 0..16 {
-        let well = (9..=11).contains(&length);
-        let high = |version: u64| version << 62 | length << 16;
-        let answer = paper::Leaves::count(high(0), 0);
-        assert_eq!(answer >> 56 == 0, well);
-        assert!(well || answer == refused(2));
-        assert_eq!(paper::Leaves::count(high(1), 0) >> 56, 0);
-        assert_eq!(
-            [2, 3].map(|version| paper::Leaves::count(high(version), 0)),
-            [refused(1); 2]
-        );
-        let card = Card {
-            ocr: 0x8030_0000,
-            csd: [0x32, (length as u32) << 16],
-            ..GOOD
-        };
-        let due = if well { (0, None) } else { (13, Some(2)) };
-        assert_eq!(told(&card.script()), due, "{length}");
+        for (version, well) in [(0, (9..=11).contains(&length)), (1, length == 9)] {
+            let due = if well { (0, None) } else { (13, Some(2)) };
+            let script = Card::of(version == 1, version, length).script();
+            assert_eq!(told(&script), due, "version {version}, {length}");
+        }
+    }
+}
+
+#[test]
+fn of_version_and_block_length_in_the_plain_function() {
+    for length in 0..16 {
+        for size in [0, 0x3f_ffff] {
+            let count = |version: u128| {
+                let csd = version << 126 | length << 80 | size << 48;
+                paper::Leaves::count((csd >> 64) as u64, csd as u64)
+            };
+            match length {
+                9..=11 => assert_eq!(count(0) >> 56, 0, "{length}"),
+                _ => assert_eq!(count(0), refused(2), "{length}"),
+            }
+            let high = match length {
+                9 => (size as u64 + 1) * 1_024,
+                _ => 0x0d00_0000_0000_0002,
+            };
+            assert_eq!(count(1), high, "{length}");
+            assert_eq!([count(2), count(3)], [refused(1); 2], "{length}");
+        }
     }
 }
 
@@ -258,4 +206,17 @@ fn a_wrong_way_of_telling_ends_with_what_it_was_for() {
     let caught = std::panic::catch_unwind(|| telling::with::<u8>(tell, || panic!("within")));
     assert!(caught.is_err());
     assert_eq!(paper::Leaves::rate(0x04), refused(3));
+}
+
+#[test]
+fn a_wrong_way_of_judging_ends_with_what_it_was_for() {
+    let unseen = Judging {
+        allows: |_, _| true,
+        ..judging::RIGHTLY
+    };
+    let count = || paper::Leaves::count(1 << 62 | 10 << 16, 0);
+    assert_eq!((judging::with(unseen, count), count()), (1_024, refused(2)));
+    let caught = std::panic::catch_unwind(|| judging::with::<u8>(unseen, || panic!("within")));
+    assert!(caught.is_err());
+    assert_eq!(count(), refused(2));
 }

@@ -32,12 +32,20 @@ returns-3 c =
 returns-4 : tie.Need-returns-4
 unfolding countOf
 returns-4 c =
-    let tests = c .before in
-    rw (← tests .before .before .structure .ensures, ne-eqb _ _ (tests .before .if1 .left), eq-eqb _ _ (tests .if4 .taken), c .size-2 .ensures)
+    let length = c .before in
+    let tests = length .before in
+    rw (← tests .before .before .structure .ensures, ne-eqb _ _ (tests .before .if1 .left), eq-eqb _ _ (tests .if4 .taken), ← length .block-length2 .ensures, ne-eqb (length .block-length2 .result) 9 (λ e. c .if5 .taken (omega (arith, e))))
 
 returns-5 : tie.Need-returns-5
 unfolding countOf
-returns-5 c = rw (← c .before .before .structure .ensures, ne-eqb _ _ (c .before .if1 .left), ne-eqb _ _ (c .if4 .left))
+returns-5 c =
+    let length = c .before .before in
+    let tests = length .before in
+    rw (← tests .before .before .structure .ensures, ne-eqb _ _ (tests .before .if1 .left), eq-eqb _ _ (tests .if4 .taken), ← length .block-length2 .ensures, eq-eqb (length .block-length2 .result) 9 (omega (arith, c .before .if5 .left)), c .size-2 .ensures)
+
+returns-6 : tie.Need-returns-6
+unfolding countOf
+returns-6 c = rw (← c .before .before .structure .ensures, ne-eqb _ _ (c .before .if1 .left), ne-eqb _ _ (c .if4 .left))
 
 pub block-count-spec : {M : Type 1} → statement M
-block-count-spec = tie.close (tie.spec (λ c κs. search needs) (λ c κs. search needs) returns returns-2 (λ c κs. search needs) (λ c. search needs) (λ c κs. search needs) (λ c. search needs) (λ c. search needs) (λ c. search needs) returns-3 (λ c κs. search needs) (λ c. search needs) (λ c. search needs) returns-4 returns-5)
+block-count-spec = tie.close (tie.spec (λ c κs. search needs) (λ c κs. search needs) returns returns-2 (λ c κs. search needs) (λ c. search needs) (λ c κs. search needs) (λ c. search needs) (λ c. search needs) (λ c. search needs) returns-3 (λ c κs. search needs) returns-4 (λ c κs. search needs) (λ c. search needs) (λ c. search needs) returns-5 returns-6)
