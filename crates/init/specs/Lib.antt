@@ -1,4 +1,3 @@
 pub mod Initialise
-pub mod Cases
 pub mod Fields
 pub mod Lent

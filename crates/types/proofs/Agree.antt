@@ -70,6 +70,9 @@ pub data AsSd (field : Field) : CountAnswer → Code ℕ → Type 0 where
   has : (n : ℕ) → AsSd field (blocks n) (means (n * 512))
   has-none : AsSd field (refused field) reserved
 
+as-many : {field : Field} (n : ℕ) {bytes : ℕ} → bytes ≡ n * 512 → AsSd field (blocks n) (means bytes)
+as-many n e = rw e (has n)
+
 module _ (csd : ℕ) where
   abbrev length-code : Version → Code ℕ
   length-code version = codeIn (blockLengths version) (readBlLen csd)
@@ -91,14 +94,14 @@ module _ (csd : ℕ) where
           → AsSd BlockLength (cond (short || long) (refused BlockLength) count1) (bytesBy csd version1 (cond (short || long) reserved (means (2 ^ readBlLen csd))))
       by true long t = has-none
       by false true t = has-none
-      by false false t = rw (whole-blocks (cSize1 csd + 1) (cSizeMult csd + 2) (readBlLen csd) (ltb-false (readBlLen csd) 9 t)) (has _)
+      by false false t = as-many _ (whole-blocks (cSize1 csd + 1) (cSizeMult csd + 2) (readBlLen csd) (ltb-false (readBlLen csd) 9 t))
 
   version-2 : AsSd BlockLength (cond (eqb (readBlLen csd) 9) count2 (refused BlockLength)) (bytesBy csd version2 (length-code version2))
   unfolding bytesBy bytes2 by-length
   version-2 = rw (length-is version2) (by (eqb (readBlLen csd) 9))
     where
       by : (nine : Bool) → AsSd BlockLength (cond nine count2 (refused BlockLength)) (bytesBy csd version2 (cond nine (means (2 ^ readBlLen csd)) reserved))
-      by true = rw (half-megabytes (cSize2 csd + 1)) (has _)
+      by true = as-many _ (half-megabytes (cSize2 csd + 1))
       by false = has-none
 
   -- THE CAPACITY IS SD'S, for every register, and refused exactly where SD has none

@@ -34,14 +34,14 @@ unfolding countOf
 returns-4 c =
     let length = c .before in
     let tests = length .before in
-    rw (← tests .before .before .structure .ensures, ne-eqb _ _ (tests .before .if1 .left), eq-eqb _ _ (tests .if4 .taken), ← length .block-length2 .ensures, ne-eqb (length .block-length2 .result) 9 (λ e. c .if5 .taken (omega (arith, e))))
+    rw (← tests .before .before .structure .ensures, ne-eqb _ _ (tests .before .if1 .left), eq-eqb _ _ (tests .if4 .taken), ← length .block-length2 .ensures, ne-eqb (length .block-length2 .result) 9 (c .if5 .taken))
 
 returns-5 : tie.Need-returns-5
 unfolding countOf
 returns-5 c =
     let length = c .before .before in
     let tests = length .before in
-    rw (← tests .before .before .structure .ensures, ne-eqb _ _ (tests .before .if1 .left), eq-eqb _ _ (tests .if4 .taken), ← length .block-length2 .ensures, eq-eqb (length .block-length2 .result) 9 (omega (arith, c .before .if5 .left)), c .size-2 .ensures)
+    rw (← tests .before .before .structure .ensures, ne-eqb _ _ (tests .before .if1 .left), eq-eqb _ _ (tests .if4 .taken), ← length .block-length2 .ensures, eq-eqb (length .block-length2 .result) 9 (c .before .if5 .left), c .size-2 .ensures)
 
 returns-6 : tie.Need-returns-6
 unfolding countOf
