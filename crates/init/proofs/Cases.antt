@@ -1,6 +1,6 @@
 -- What is made of a CSD beside an OCR, before CMD7, computed as one table: the comparison comes first (field 6), then the CSD's
 -- version (field 1) and its block length (field 2), which SD fixes at 9 in structure 1 (P6).
-use Prim.Native.Nat.{ℕ, _+_, _*_, _^_}
+use Prim.Native.Nat.{ℕ, _*_, _^_}
 use mathlib.Core.Bool.{Bool, true, false, cond}
 use mathlib.Core.List.{List, [], _∷_, map}
 use mathlib.Core.Path.{_≡_, refl}

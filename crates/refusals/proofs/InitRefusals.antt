@@ -1,11 +1,10 @@
 -- Document 01's table of refusals, line 3 and the end of line 5: refused in initialisation.
-use Prim.Native.Nat.{ℕ, _*_, _-_, _^_, _≤_}
+use Prim.Native.Nat.{ℕ, _≤_}
 use mathlib.Core.Bool.{Bool, true, false, not, _&&_}
 use mathlib.Core.List.{List, []}
 use mathlib.Core.Path.{_≡_, refl, ap, sym, _∙_}
 use native.Mathlib.Omega.{arith}
 use lib.Dec.{eqb, ltb}
-use lib.ListN.{replicate}
 use borrow.Author.Tests.{ne-eqb, le-ltb}
 use Rattle.types.proofs.Least.{refused-none}
 use Rattle.types.specs.declared.card.Card.{Card}
@@ -13,12 +12,11 @@ use Rattle.types.specs.declared.clock.Clock.{Clock}
 use Rattle.types.specs.declared.clock.ClockAnswer.{ClockAnswer}
 use Rattle.types.specs.declared.clock.ClockAnswer.the-variants as Clocked
 use Rattle.types.specs.declared.error.Answer.the-variants as Answered
-use Rattle.types.specs.declared.error.Error.the-variants as E
 use Rattle.types.specs.Leaf.{clockOf}
 use Rattle.types.specs.Sd.{sdSpec, tranSpeed, wideOf}
 use Rattle.tape.specs.declared.progress.Pace.the-variants.{Going, Stopped}
 use Rattle.tape.specs.declared.rows.Row.{Row}
-use Rattle.tape.specs.Plan.{Nothing, Cause, Plan, refuse, guard, ensure}
+use Rattle.tape.specs.Plan.{Nothing, Cause, Plan, guard}
 use Rattle.tape.specs.Run.{State, at, After, haltOf, run, runFrom}
 use Rattle.tape.specs.Steps.{resetController}
 use Rattle.tape.proofs.Values.{run-gives}
@@ -26,13 +24,12 @@ use Rattle.host.proofs.Ran.{begun}
 use Rattle.refusals.proofs.Guards.{one-cause, Guarded, guard-refused, Inside, inside-refused, here, first, later}
 use Rattle.refusals.proofs.Reset.{ends-refused, ends-accepted, ResetAfter, reset-after}
 use Rattle.bus.specs.declared.transfer.Transfer.{Transfer}
-use Rattle.bus.specs.declared.response.Response.the-variants.{R1, R2}
-use Rattle.bus.specs.Command.{command, appCommand}
+use Rattle.bus.specs.Command.{appCommand}
 use Rattle.bus.specs.Ready.{waitReady}
 use Rattle.bus.specs.Transfer.{blockingData, transferData}
 use Rattle.init.specs.declared.settings.Settings.{Settings}
-use Rattle.init.specs.Initialise.{sourceOf, limitOf, noCard, beginInit, waitPowerUp, publish, cardOf, select, identify}
-use Rattle.init.specs.Initialise.{scrTransfer, blockLength, readScr, setWidth, transferClock, switchTransfer, offered, takeSwitch, askSwitch, switchSpeed, withScr, settleCard, initCard, initialise}
+use Rattle.init.specs.Initialise.{sourceOf, limitOf, noCard, beginInit, waitPowerUp, identify}
+use Rattle.init.specs.Initialise.{scrTransfer, blockLength, readScr, setWidth, transferClock, switchTransfer, offered, takeSwitch, askSwitch, switchSpeed, settleCard, initCard, initialise}
 use Rattle.init.proofs.Found.{Found, initialise-given}
 use Rattle.host.specs.Calls.{Came, came, holding, dropped, freshLine, initFrom, initialised}
 use Rattle.host.specs.declared.host.Sdmmc.{Sdmmc}
