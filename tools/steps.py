@@ -8,7 +8,9 @@ lines that begin with `row ` or `read `, all from two spaces on).
 
 With --traced EXPECTED is what cardtrace prints of each book, which knows rows and no order of readings. Then the rows, the
 lines of calls and the states have to be the same, and the rest is held to the book itself: a call begins as the book has it,
-and its readings are the first words of its script, as many as its line says. Where the script ended (answer 21) one more has no
+and its readings are the first words of its script, as many as its line says. A write's script comes behind its data words in
+the book's body; these are rows of the FIFO, which stand behind the row of DCTRL that has direction off and before any reading,
+all of them, or the first of them where the room ended (answer 22). Where the script ended (answer 21) one more reading has no
 word, and behind it come the rows that close the call: CLKCR off at most once, then the reset rows, twice at most, and no other;
 where these found no room (answer 22), the first of them.
 
@@ -28,6 +30,8 @@ LINE = re.compile(r"\d+ answer (\d+)(?:(?<= 13) field [1-8])? words (\d+) rows \
 # What may close a call whose script ended.
 RESET = [f"row {register} 0" for register in (9, 10, 7, 4, 1, 2, 3, 5, 6)] + [f"row 8 {0xC007FF}"]
 CLKCR = re.compile(r"row 2 (\d+)")
+# A write: its kind, the words of a block, the row behind which it sends them.
+WRITE, BLOCK, ARMED = 4, 128, "row 7 153"
 # What only cardtrace tells.
 TRACE_ALONE = ("carried ", "status ", "block ")
 BEFORE = 5
@@ -82,17 +86,19 @@ def same(theirs, ours):
 
 
 def calls(book):
-    """What each call of a book begins with, and its script; the book has been found to be one."""
+    """What each call of a book begins with, its data and its script; the book has been found to be one."""
     words = [word for (word,) in struct.iter_unpack("<I", book)]
     place = 7 + 4 * words[6]
     for k in range(words[6]):
         kind, a, b, length = words[7 + 4 * k : 11 + 4 * k]
-        yield f"{k + 1} {kind} {a} {b}", words[place : place + length]
+        body = words[place : place + length]
+        data = BLOCK * b if kind == WRITE else 0
+        yield f"{k + 1} {kind} {a} {b}", body[:data], body[data:]
         place += length
 
 
-def held_to_script(events, line, script):
-    """A call's events and its line against its script."""
+def held_to_body(events, line, data, script):
+    """A call's events and its line against its data and its script."""
     told = LINE.fullmatch(line)
     if not told:
         raise Differs(f"no line of a call: {line}")
@@ -100,6 +106,8 @@ def held_to_script(events, line, script):
     for event in events:
         if not (READ.fullmatch(event) or ROW.fullmatch(event)):
             raise Differs(f"no event: {event}")
+    if not sends(events, data, answer == 22):
+        raise Differs(f"the data words are not sent behind DCTRL, or not as the book has them: {line}")
     ends = next((k for k, event in enumerate(events) if event.endswith(" none")), None)
     if ends is not None:
         if answer not in (21, 22) or used != len(script) or not closes(events[ends + 1 :], answer == 21):
@@ -110,6 +118,17 @@ def held_to_script(events, line, script):
     readings = [event for event in events if event.startswith("read ")]
     if [READ.fullmatch(reading)[1] for reading in readings] != [f"{word:08x}" for word in script[:used]]:
         raise Differs(f"the readings are not the first words of the script: {line}")
+
+
+def sends(events, data, full):
+    """Whether these events send the data, if any, behind DCTRL at once; in part only where they end for want of room."""
+    rows = [event for event in events if event.startswith("row 12 ")]
+    if not data or ARMED not in events:
+        return not rows
+    first = events.index(ARMED) + 1
+    sent = [f"row 12 {word}" for word in data[: len(rows)]]
+    wholly = len(rows) == len(data) or full and first + len(rows) == len(events)
+    return wholly and events[first : first + len(rows)] == sent
 
 
 def closes(events, wholly):
@@ -124,13 +143,13 @@ def closes(events, wholly):
 def as_traced(lines, book):
     """The lines of a host that was made in cardtrace's order, the readings held to the book and left out."""
     traced, rest = lines[:2], iter(lines[2:])
-    for begins, script in calls(book):
+    for begins, data, script in calls(book):
         if (line := next(rest, "(the end)")) != begins:
             raise Differs(f"a call begins with {begins!r} and not with {line!r}")
         events = []
         while (line := next(rest, "(the end)")).startswith(("row ", "read ")):
             events.append(line)
-        held_to_script(events, line, script)
+        held_to_body(events, line, data, script)
         traced += [line, *(event for event in events if event.startswith("row ")), next(rest, "(the end)")]
     return traced + list(rest)
 

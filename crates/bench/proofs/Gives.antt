@@ -12,7 +12,7 @@ use Rattle.text.specs.Ink.{Laid}
 use Rattle.text.proofs.Ink.{and-then}
 use Rattle.host.specs.declared.host.Called.{Called}
 use Rattle.host.specs.declared.host.Sdmmc.{Sdmmc}
-use Rattle.host.specs.Calls.{Came, calledOf}
+use Rattle.host.specs.Calls.{Came, calledOf, blocksFilled}
 use Rattle.calls.specs.Serve as S
 use Rattle.calls.specs.Serve.{comes}
 use Rattle.book.specs.Layout as L
@@ -20,7 +20,7 @@ use Rattle.book.specs.Lines.{callLine}
 use Rattle.book.specs.declared.layout.Asked.{Asked}
 use Rattle.book.specs.Readers.{callAsked}
 use Rattle.report.specs.Report.{rowsText, carriedText, stateText, statusText, blocksText}
-use Rattle.bench.specs.Bench.{callWith, asking, bufferAfter, whereAccepted}
+use Rattle.bench.specs.Bench.{callWith, asking, bufferAfter, cameLine, whereAccepted}
 use Rattle.bench.specs.Trace.{kindText, givenText, tracedText}
 
 none : (a : Answer) → whereAccepted a [] ≡ []
@@ -31,22 +31,29 @@ none Answered.ScriptEnded = refl
 none Answered.TraceFull = refl
 none Answered.BadBook = refl
 
-pub gave : (l : List Row) (bytes : ℕ) (c : L.Call) (x : Came) (buffer : List ℕ)
-    → whereAccepted (x .answer) (kindText (c .kind) (x .host) (bytes / 512) buffer) ≡ givenText (callWith l bytes c) x buffer
+-- with one buffer before the call, and one after it
+pub gave : (l : List Row) (lent : List ℕ) (c : L.Call) (x : Came) (buffer : List ℕ)
+    → whereAccepted (x .answer) (kindText (c .kind) (x .host) (length lent / 512) buffer) ≡ givenText (callWith l lent c) x buffer
 unfolding givenText
-gave l bytes c x buffer = by (eqb (c .kind) 1) (eqb (c .kind) 2)
+gave l lent c x buffer = by (eqb (c .kind) 1) (eqb (c .kind) 2) (eqb (c .kind) 4)
   where
-    by : (one two : Bool)
-        → whereAccepted (x .answer) (cond one [] (cond two (blocksText (bytes / 512) buffer) (statusText (x .host .card .status))))
-        ≡ givenText (cond one (S.initialise (c .a) (c .script) l) (cond two (S.read (c .a) bytes (c .script) l) (S.status (c .script) l))) x buffer
-    by true two = none (x .answer)
-    by false true = refl
-    by false false = refl
+    by : (one two four : Bool)
+        → whereAccepted (x .answer) (cond one [] (cond two (blocksText (length lent / 512) buffer) (cond four [] (statusText (x .host .card .status)))))
+        ≡ givenText (cond one (S.initialise (c .a) (c .script) l) (cond two (S.read (c .a) (length lent) (c .script) l) (cond four (S.write (c .a) (blocksFilled (c .«data») lent) (c .script) l) (S.status (c .script) l)))) x buffer
+    by true two four = none (x .answer)
+    by false true four = refl
+    by false false true = none (x .answer)
+    by false false false = refl
+
+-- the line of a call that came to this
+its-line : (number : ℕ) (x : Came) {called : Called} {out : List ℕ} {at : ℕ} {out′ : List ℕ} → called ≡ calledOf x
+    → Laid 0 (callLine number (called .answer) (called .words) (called .rows)) out at out′ → Laid 0 (cameLine number x) out at out′
+its-line number x e line = rw e at line
 
 -- what is printed of a call, put together from what it came to
 module _ (number : ℕ) (host : Sdmmc) (l : List Row) (buffer ws : List ℕ) (asked : Asked) where
   abbrev call : S.Call
-  call = asking l (length buffer) ws asked
+  call = asking l buffer ws asked
 
   pub traced : {called : Called} {l′ : List Row} {buffer′ out : List ℕ} {at₁ : ℕ} {out₁ : List ℕ} {at₂ : ℕ} {out₂ : List ℕ} {at₃ : ℕ} {out₃ : List ℕ}
       → called ≡ calledOf (comes host call) → l′ ≡ comes host call .list → buffer′ ≡ bufferAfter call (comes host call) buffer
@@ -57,5 +64,5 @@ module _ (number : ℕ) (host : Sdmmc) (l : List Row) (buffer ws : List ℕ) (as
   traced {at₂ = at₂} {out₂ = out₂} {at₃ = at₃} {out₃ = out₃} ec el eb line happened given =
       let given′ = rw (ec, eb) at given in
       let last = subst (λ (t : List ℕ). Laid at₂ t out₂ at₃ out₃)
-      (gave l (length buffer) (callAsked ws asked) (comes host call) (bufferAfter call (comes host call) buffer)) given′ in
-      and-then (and-then (rw ec at line) (rw (ec, el) at happened)) last
+      (gave l buffer (callAsked ws asked) (comes host call) (bufferAfter call (comes host call) buffer)) given′ in
+      and-then (and-then (its-line number (comes host call) ec line) (rw (ec, el) at happened)) last

@@ -1,4 +1,5 @@
 pub mod Asks
+pub mod Writes
 pub mod Gives
 pub mod Hosts
 pub mod Opens

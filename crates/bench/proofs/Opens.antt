@@ -11,9 +11,11 @@ use Rattle.text.specs.Ink.{inked}
 use Rattle.text.proofs.Ink.{ink-length}
 use Rattle.book.specs.declared.layout.Opened.{Opened}
 use Rattle.book.specs.declared.layout.Opened.the-variants as Opened′
-use Rattle.book.specs.Layout.{wordsOf, badWords, badBook}
+use Rattle.types.specs.Words.{wordsOf}
+use Rattle.book.specs.Layout.{badWords, badBook}
 use Rattle.book.specs.Readers.{openedOf}
-use Rattle.book.proofs.Load.{length-words, loaded}
+use Rattle.types.proofs.Back.{length-words}
+use Rattle.book.proofs.Load.{loaded}
 use Rattle.book.proofs.Opening.{opened-some}
 use Rattle.bench.specs.declared.trace.Opening.{Opening}
 use Rattle.bench.specs.Opens.{OpensAs}

@@ -14,7 +14,7 @@ use Rattle.book.specs.Layout as L
 use Rattle.book.specs.Layout.{countOf, contentsOf, bookIn}
 use Rattle.book.specs.Readers.{askedAt, callAsked}
 use Rattle.book.proofs.Rows.{rowAt}
-use Rattle.book.proofs.Reached.{Reached, callsLeft, script-within, all-calls, one-call, none-left}
+use Rattle.book.proofs.Reached.{Reached, callsLeft, body-within, all-calls, one-call, none-left}
 use Rattle.bench.specs.Bench.{settingsOf, callOf, whereAccepted}
 use Rattle.bench.specs.Opens.{headOf}
 use Rattle.bench.specs.Trace.{bytesAt, placeAfter, callAt, callText, callsText, headText, bookText}
@@ -40,7 +40,7 @@ module _ (ws : List ℕ) (k place room : ℕ) (reached : Reached ws k place) (fi
   last-piece h host = rw (none-left ws k place reached h)
 
   module _ (h : k < countOf ws) (few : askedAt ws k place .b ≤ 16) where
-    -- a call of the book keeps to 16 blocks and its room, and its script lies within the words
+    -- a call of the book keeps to 16 blocks and its room, and its body lies within the words
     pub bytes-of : bytesAt ws k place ≡ 512 * askedAt ws k place .b
     bytes-of =
         let all : min (askedAt ws k place .b) 16 ≡ askedAt ws k place .b = omega arith in
@@ -53,7 +53,7 @@ module _ (ws : List ℕ) (k place room : ℕ) (reached : Reached ws k place) (fi
         rw (blocks, rows)
 
     pub place-of : placeAfter ws k place ≡ place + getD ws (rowAt k + 3) 0
-    place-of = omega (arith, script-within ws k place reached h)
+    place-of = omega (arith, body-within ws k place reached h)
 
     pub one-piece : (host : Sdmmc)
         → callsText room (k + 1) host (callsLeft ws k place)

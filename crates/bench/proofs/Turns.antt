@@ -1,39 +1,21 @@
 -- A book's calls one after the other: after k of them, what the rest prints completes what all print.
 use Prim.Native.Nat.{ℕ, suc, _+_, _-_, _≤_, _<_}
-use mathlib.Core.Bool.{Bool, true, false, cond, not, _||_}
+use mathlib.Core.Bool.{false, _||_}
 use mathlib.Core.List.{List, map}
 use mathlib.Core.Path.{_≡_, refl, sym, _∙_}
 use native.Mathlib.Nat.{sub-zero}
 use native.Mathlib.Omega.{arith}
-use lib.Dec.{eqb, ltb}
 use lib.ListN.{length, getD, drop}
-use borrow.Author.Tests.{ltb-false, eqb-true}
 use Rattle.text.specs.Ink.{next, Laid}
 use Rattle.text.proofs.Ink.{ink-length, ink-nil, and-then}
 use Rattle.host.specs.declared.host.Sdmmc.{Sdmmc}
 use Rattle.calls.specs.Serve.{serve}
-use Rattle.book.specs.Layout.{countOf, contentsOf, badRow, badRows, bookIn}
+use Rattle.book.specs.Layout.{countOf, contentsOf, badRows, bookIn}
 use Rattle.book.specs.Readers.{askedAt}
-use Rattle.book.proofs.Causes.{Good, or-left, or-right}
+use Rattle.book.proofs.Causes.{Good, or-left, or-right, few-blocks}
 use Rattle.book.proofs.Rows.{rowAt, badAsked, bad-next}
 use Rattle.book.proofs.Reached.{Reached, callsLeft, reached-first, reached-next, all-calls, none-left, one-call}
 use Rattle.bench.specs.Bench.{callOf, linesFrom, lineOf, hostAfter}
-
--- a row that is not bad asks for at most 16 blocks
-pub few-blocks : (kind a b : ℕ) → badRow kind a b ≡ false → b ≤ 16
-unfolding badRow
-few-blocks kind a b good = by (eqb kind 1) (eqb kind 2) (eqb kind 3) good
-  where
-    zero : (e : Bool) → eqb b 0 ≡ e → not e ≡ false → b ≤ 16
-    zero true e n = let none = eqb-true b 0 e in omega arith
-    zero false e n = let z : _≡_ {A = ℕ} 0 1 = cc in absurd (omega arith)
-
-    by : (one two three : Bool)
-        → cond one (not (eqb b 0)) (cond two (ltb 16 b) (cond three (not (eqb a 0) || not (eqb b 0)) true)) ≡ false → b ≤ 16
-    by true two three e = zero (eqb b 0) refl e
-    by false true three e = ltb-false 16 b e
-    by false false true e = zero (eqb b 0) refl (or-right (not (eqb a 0)) (not (eqb b 0)) e)
-    by false false false e = let z : _≡_ {A = ℕ} 0 1 = cc in absurd (omega arith)
 
 -- what is printed of the calls from k on
 abbrev pub rest : List ℕ → ℕ → ℕ → Sdmmc → List ℕ
@@ -68,7 +50,7 @@ module _ {ws : List ℕ} {host₀ : Sdmmc} {at₀ : ℕ} {out₀ : List ℕ} whe
         sym (bad-next ws k (countOf ws - (k + 1))) ∙ rw more at (t .good)
 
     pub blocks-of : k < countOf ws → getD ws (rowAt k + 2) 0 ≤ 16
-    blocks-of h = few-blocks _ _ _ (or-left _ _ (goods h))
+    blocks-of h = few-blocks _ _ _ _ (or-left _ _ (goods h))
 
     pub next-turn : {host′ : Sdmmc} {place′ at′ : ℕ} {out′ : List ℕ} → k < countOf ws
         → host′ ≡ hostAfter host ws k place → place′ ≡ place + getD ws (rowAt k + 3) 0 → Laid at (lineOf host ws k place) out at′ out′

@@ -3,7 +3,7 @@ use Prim.Native.Nat.{ℕ, _+_, _-_, _≤_}
 use mathlib.Core.List.{List}
 use mathlib.Core.Path.{_≡_, ap, sym, _∙_}
 use native.Mathlib.Omega.{arith}
-use lib.ListN.{length, take, replicate, length-replicate, replicate-append-replicate}
+use lib.ListN.{take, replicate, length-replicate, replicate-append-replicate}
 use lib.Seq.{take-at}
 use Rattle.tape.specs.declared.rows.Row.{Row}
 use Rattle.tape.specs.Layout.{rowsIn}
@@ -21,9 +21,9 @@ part-of-zeros n m h =
     ∙ take-at {A = ℕ} (replicate n 0) (replicate (m - n) 0) n (length-replicate {A = ℕ} n 0)
 
 module _ (ws : List ℕ) (asked : Asked) (rows bytes : ℕ) {l : List Row} {buffer : List ℕ} (e : l ≡ rowsIn (replicate rows 0)) (f : buffer ≡ replicate bytes 0) where
-  pub zeros-call : asking l (length buffer) ws asked ≡ callWith (rowsIn (replicate rows 0)) bytes (callAsked ws asked)
-  zeros-call = ap (λ (k : List Row). asking k (length buffer) ws asked) e ∙ ap (λ (n : ℕ). asking (rowsIn (replicate rows 0)) n ws asked) (ap (length {A = ℕ}) f ∙ length-replicate {A = ℕ} bytes 0)
+  pub zeros-call : asking l buffer ws asked ≡ callWith (rowsIn (replicate rows 0)) (replicate bytes 0) (callAsked ws asked)
+  zeros-call = ap (λ (k : List Row). asking k buffer ws asked) e ∙ ap (λ (b : List ℕ). asking (rowsIn (replicate rows 0)) b ws asked) f
 
   pub zeros-text : (number : ℕ) (host : Sdmmc)
-      → tracedText number host l buffer ws asked ≡ callText number host bytes (callWith (rowsIn (replicate rows 0)) bytes (callAsked ws asked))
-  zeros-text number host = rw (e, f, length-replicate {A = ℕ} bytes 0)
+      → tracedText number host l buffer ws asked ≡ callText number host bytes (callWith (rowsIn (replicate rows 0)) (replicate bytes 0) (callAsked ws asked))
+  zeros-text number host = rw (e, f)

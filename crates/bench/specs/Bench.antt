@@ -1,10 +1,11 @@
--- Document 01, 'The bench book and its program': what a book's calls come to, and the lines that are printed of them.
+-- Document 01, 'The bench book and its program', with request P5's writes: what a book's calls come to, and the lines that are
+-- printed of them.
 use Prim.Native.Nat.{ℕ, _+_, _*_, _/_, _%_}
 use mathlib.Core.Bool.{cond}
 use mathlib.Core.List.{List, [], _∷_, _++_, map}
 use mathlib.Core.Option.{Option, none, some}
 use lib.Dec.{eqb}
-use lib.ListN.{replicate}
+use lib.ListN.{length, replicate}
 use Rattle.types.specs.declared.error.Answer.{Answer}
 use Rattle.types.specs.declared.error.Answer.the-variants as Answered
 use Rattle.types.specs.Answer.{answerTold}
@@ -12,7 +13,7 @@ use Rattle.tape.specs.declared.rows.Row.{Row}
 use Rattle.tape.specs.Layout.{rowsIn}
 use Rattle.init.specs.declared.settings.Settings.{Settings}
 use Rattle.host.specs.declared.host.Sdmmc.{Sdmmc}
-use Rattle.host.specs.Calls.{Came, bufferOf, made}
+use Rattle.host.specs.Calls.{Came, blocksFilled, bufferOf, made}
 use Rattle.calls.specs.Serve as S
 use Rattle.calls.specs.Serve.{comes, serve}
 use Rattle.book.specs.Layout as L
@@ -45,26 +46,28 @@ settingsOf book = settingsWith (book .source) (book .pollLimit) (book .readyAtte
 abbrev pub settingsIn : Heading → Settings
 settingsIn h = settingsWith (h .source) (h .«poll_limit») (h .«ready_attempts») (h .«data_timeout») (h .«software_timeout») (h .flags)
 
--- kind (1 initialise, 2 read, 3 status), a (frequency, index, 0), b (0, blocks, 0), its script; with a row list, and a buffer
--- of so many bytes
-abbrev pub callWith : List Row → ℕ → L.Call → S.Call
-callWith l bytes c =
+-- kind (1 initialise, 2 read, 3 status, 4 write), a (frequency, index, 0, index), b (0, blocks, 0, blocks), its script; with a
+-- row list, and a buffer: a read is of its bytes, and of a write the data words are laid into it, little-endian
+abbrev pub callWith : List Row → List ℕ → L.Call → S.Call
+callWith l buffer c =
     cond (eqb (c .kind) 1) (S.initialise (c .a) (c .script) l)
-    (cond (eqb (c .kind) 2) (S.read (c .a) bytes (c .script) l) (S.status (c .script) l))
+    (cond (eqb (c .kind) 2) (S.read (c .a) (length buffer) (c .script) l)
+    (cond (eqb (c .kind) 4) (S.write (c .a) (blocksFilled (c .«data») buffer) (c .script) l) (S.status (c .script) l)))
 
 -- a call of a book's words
-abbrev pub asking : List Row → ℕ → List ℕ → Asked → S.Call
-asking l bytes ws asked = callWith l bytes (callAsked ws asked)
+abbrev pub asking : List Row → List ℕ → List ℕ → Asked → S.Call
+asking l buffer ws asked = callWith l buffer (callAsked ws asked)
 
--- so many rows of room a call
+-- so many rows of room a call, and a buffer of its blocks
 abbrev pub callOf : ℕ → L.Call → S.Call
-callOf room c = callWith (rowsIn (replicate room 0)) (512 * c .b) c
+callOf room c = callWith (rowsIn (replicate room 0)) (replicate (512 * c .b) 0) c
 
--- the buffer after it: only a read fills it
+-- the buffer after it: a read fills it, and a write's bytes lie in it
 unfoldable pub bufferAfter : S.Call → Came → List ℕ → List ℕ
 bufferAfter (S.initialise frequency s l) x buffer = buffer
 bufferAfter (S.read index bytes s l) x buffer = bufferOf x buffer
 bufferAfter (S.status s l) x buffer = buffer
+bufferAfter (S.write index bytes s l) x buffer = bytes
 
 abbrev pub numberOf : Answer → ℕ
 numberOf answer = answerTold answer .number
@@ -77,7 +80,7 @@ unfoldable pub linesFrom : ℕ → List Came → List ℕ
 linesFrom k [] = []
 linesFrom k (x ∷ xs) = cameLine k x ++ linesFrom (k + 1) xs
 
--- of call k of a book's words, counted from 0, whose script starts at a place: what it comes to, its line, the host after it
+-- of call k of a book's words, counted from 0, whose body starts at a place: what it comes to, its line, the host after it
 abbrev pub cameOf : Sdmmc → List ℕ → ℕ → ℕ → Came
 cameOf host ws k place = comes host (callOf 4096 (callAsked ws (askedAt ws k place)))
 

@@ -13,19 +13,19 @@ use Rattle.bench.specs.declared.trace.Opening.{Opening}
 use Rattle.bench.specs.Bench.{settingsOf, numberOf}
 use Rattle.bench.specs.Trace.{callsServed, headText}
 
--- of good words: the host that is made, the calls where there is one, all the words, and where the scripts begin
+-- of good words: the host that is made, the calls where there is one, all the words, and where the bodies begin
 pub record Opens (ws : List ℕ) (r : Opening) : Type 0 where
   pub host : r .host ≡ made (settingsOf (bookIn ws)) .host
   pub calls : r .calls ≡ callsServed (made (settingsOf (bookIn ws)) .answer) (countOf ws)
   pub words : r .words ≡ length ws
-  pub place : r .«script_at» ≡ contentsOf ws
+  pub place : r .«body_at» ≡ contentsOf ws
 
 -- of what is no book: nothing
 pub record OpensNone (r : Opening) : Type 0 where
   pub host : r .host ≡ noHost
   pub calls : r .calls ≡ 0
   pub words : r .words ≡ 0
-  pub place : r .«script_at» ≡ 0
+  pub place : r .«body_at» ≡ 0
 
 unfoldable pub OpensAs : Opened → List ℕ → Opening → Type 0
 OpensAs (Opening′.Words n) ws r = Opens ws r

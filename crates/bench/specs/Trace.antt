@@ -27,11 +27,13 @@ unfoldable pub givenText : S.Call → Came → List ℕ → List ℕ
 givenText (S.initialise frequency s l) x buffer = []
 givenText (S.read index bytes s l) x buffer = whereAccepted (x .answer) (blocksText (bytes / 512) buffer)
 givenText (S.status s l) x buffer = whereAccepted (x .answer) (statusText (x .host .card .status))
+givenText (S.write index bytes s l) x buffer = []
 
 -- the same of a kind, as a book numbers them
 abbrev pub kindText : ℕ → Sdmmc → ℕ → List ℕ → List ℕ
 kindText kind host count buffer =
-    cond (eqb kind 1) [] (cond (eqb kind 2) (blocksText count buffer) (statusText (host .card .status)))
+    cond (eqb kind 1) []
+    (cond (eqb kind 2) (blocksText count buffer) (cond (eqb kind 4) [] (statusText (host .card .status))))
 
 -- its line; every row; the word that its answer carries; the host's state; what it gave
 abbrev pub traceText : ℕ → S.Call → Came → List ℕ → List ℕ
@@ -41,7 +43,7 @@ traceText k c x buffer =
 -- the same of a call of a book's words, from the row list and the buffer before it
 abbrev pub tracedText : ℕ → Sdmmc → List Row → List ℕ → List ℕ → Asked → List ℕ
 tracedText k host l buffer ws asked =
-    let c = asking l (length buffer) ws asked in
+    let c = asking l buffer ws asked in
     traceText k c (comes host c) (bufferAfter c (comes host c) buffer)
 
 -- a call with a buffer of zeros
@@ -60,17 +62,18 @@ callsServed Answered.ScriptEnded n = 0
 callsServed Answered.TraceFull n = 0
 callsServed Answered.BadBook n = 0
 
--- call k of a book's words, counted from 0, whose script starts at a place: with at most 4,096 rows of room and 16 blocks,
+-- call k of a book's words, counted from 0, whose body starts at a place: with at most 4,096 rows of room and 16 blocks,
 -- which every call of a book keeps to
 abbrev pub bytesAt : List ℕ → ℕ → ℕ → ℕ
 bytesAt ws k place = 512 * min (askedAt ws k place .b) 16
 
--- where the next script starts, as far as the words go
+-- where the next body starts, as far as the words go
 abbrev pub placeAfter : List ℕ → ℕ → ℕ → ℕ
-placeAfter ws k place = min (place + askedAt ws k place .«script_len») (length ws)
+placeAfter ws k place = min (place + askedAt ws k place .«body_len») (length ws)
 
 abbrev pub callAt : List ℕ → ℕ → ℕ → ℕ → S.Call
-callAt ws k place room = callWith (rowsIn (replicate (min room 4096) 0)) (bytesAt ws k place) (callAsked ws (askedAt ws k place))
+callAt ws k place room =
+    callWith (rowsIn (replicate (min room 4096) 0)) (replicate (bytesAt ws k place) 0) (callAsked ws (askedAt ws k place))
 
 -- WHAT IS PRINTED OF A BOOK, with so many rows of room a call
 unfoldable pub callsText : ℕ → ℕ → Sdmmc → List L.Call → List ℕ

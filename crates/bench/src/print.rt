@@ -15,10 +15,10 @@ use book::lines;
 use host::host::Sdmmc;
 use types::error::Answer;
 
-// A call was served: the next host, where the next script lies, and where the next text goes.
+// A call was served: the next host, where the next body lies, and where the next text goes.
 pub struct Turn {
     pub host: Sdmmc,
-    pub script_at: usize,
+    pub body_at: usize,
     pub at: usize,
 }
 
@@ -26,20 +26,20 @@ pub struct Turn {
 fn serve_call(host: Sdmmc, words: &[u32], k: u32, place: usize, out: &mut [u8], at: usize) -> Turn
     requires { ⌜ (k < 64) × (getD (now words) (7 + 4 * k + 2) 0 ≤ 16) × (place + getD (now words) (7 + 4 * k + 3) 0 ≤ length (now words)) ⌝ }
     ensures served { λ r. ⌜ r .host ≡ hostAfter host (now (words .entry)) k place ⌝ }
-    ensures passed { λ r. ⌜ r .«script_at» ≡ place + getD (now (words .entry)) (7 + 4 * k + 3) 0 ⌝ }
+    ensures passed { λ r. ⌜ r .«body_at» ≡ place + getD (now (words .entry)) (7 + 4 * k + 3) 0 ⌝ }
     ensures printed { λ r. ⌜ Laid at (lineOf host (now (words .entry)) k place) (now (out .entry)) (r .at) (now (out .exit)) ⌝ }
 {
     let mut rows = [0u64; 4096];
     let mut buffer = [0u8; 8192];
     let asked = layout::call_at(words, k, place);
-    let end = asked.script_at + asked.script_len;
+    let end = asked.body_at + asked.body_len;
     let called = serve::ask_in(host, words, asked, &mut rows, &mut buffer);
     let answer = called.answer;
     let next = called.host;
     let place = lines::put_call(out, at, k + 1, answer, called.words, called.rows);
     Turn {
         host: next,
-        script_at: end,
+        body_at: end,
         at: place,
     }
 }
@@ -52,13 +52,13 @@ fn serve_calls(words: &[u32], host: Sdmmc, out: &mut [u8], at: usize) -> usize
     let calls = layout::word(words, 6);
     let mut turn = Turn {
         host: host,
-        script_at: layout::contents(words),
+        body_at: layout::contents(words),
         at: at,
     };
     let mut k = 0;
     while k < calls {
         let next = turn.host;
-        turn = serve_call(next, words, k, turn.script_at, out, turn.at);
+        turn = serve_call(next, words, k, turn.body_at, out, turn.at);
         k = k + 1;
     }
     turn.at

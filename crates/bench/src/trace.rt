@@ -12,7 +12,8 @@ ghost use Rattle.types.specs.declared.error.Answer.the-variants.{BadBook};
 ghost use Rattle.report.specs.Report.{rowsText, carriedText, stateText};
 ghost use Rattle.host.specs.Calls.{made};
 ghost use Rattle.calls.specs.Serve.{comes};
-ghost use Rattle.book.specs.Layout.{wordsOf, badWords, bookIn};
+ghost use Rattle.types.specs.Words.{wordsOf};
+ghost use Rattle.book.specs.Layout.{badWords, bookIn};
 ghost use Rattle.book.specs.Lines.{hostLine};
 ghost use Rattle.bench.specs.Bench.{settingsOf, asking, numberOf, whereAccepted};
 ghost use Rattle.bench.specs.Trace.{kindText, tracedText, bytesAt, placeAfter, callAt, callText, headText, callsServed};
@@ -65,6 +66,9 @@ fn put_kind(out: &mut [u8], at: usize, kind: u32, host: Sdmmc, buffer: &[u8], co
     if kind == 2 {
         return blocks::put_blocks(out, at, buffer, count);
     }
+    if kind == 4 {
+        return pen::least(at, out.len());
+    }
     status::put_status(out, at, words)
 }
 
@@ -99,7 +103,7 @@ fn trace_exact(
     buffer: &mut [u8],
     out: &mut [u8],
 ) -> Traced
-    ensures served { λ r. ⌜ r .host ≡ comes host (asking (rowsIn (now (list .entry))) (length (now (buffer .entry))) (now (words .entry)) asked) .host ⌝ }
+    ensures served { λ r. ⌜ r .host ≡ comes host (asking (rowsIn (now (list .entry))) (now (buffer .entry)) (now (words .entry)) asked) .host ⌝ }
     ensures traced { λ r. ⌜ Laid 0 (tracedText number host (rowsIn (now (list .entry))) (now (buffer .entry)) (now (words .entry)) asked) (now (out .entry)) (r .at) (now (out .exit)) ⌝ }
 {
     let kind = asked.kind;
@@ -134,19 +138,19 @@ fn trace_in(
     host: Sdmmc,
     words: &[u32],
     k: u16,
-    script_at: usize,
+    body_at: usize,
     room: usize,
     list: &mut [u64],
     buffer: &mut [u8],
     out: &mut [u8],
 ) -> Turn
     requires { ⌜ (4096 ≤ length (now list)) × (8192 ≤ length (now buffer)) ⌝ }
-    ensures served { λ r. ⌜ r .host ≡ comes host (asking (rowsIn (take (min room 4096) (now (list .entry)))) (length (take (bytesAt (now (words .entry)) k «script_at») (now (buffer .entry)))) (now (words .entry)) (askedAt (now (words .entry)) k «script_at»)) .host ⌝ }
-    ensures passed { λ r. ⌜ r .«script_at» ≡ placeAfter (now (words .entry)) k «script_at» ⌝ }
-    ensures traced { λ r. ⌜ Laid 0 (tracedText (k + 1) host (rowsIn (take (min room 4096) (now (list .entry)))) (take (bytesAt (now (words .entry)) k «script_at») (now (buffer .entry))) (now (words .entry)) (askedAt (now (words .entry)) k «script_at»)) (now (out .entry)) (r .at) (now (out .exit)) ⌝ }
+    ensures served { λ r. ⌜ r .host ≡ comes host (asking (rowsIn (take (min room 4096) (now (list .entry)))) (take (bytesAt (now (words .entry)) k «body_at») (now (buffer .entry))) (now (words .entry)) (askedAt (now (words .entry)) k «body_at»)) .host ⌝ }
+    ensures passed { λ r. ⌜ r .«body_at» ≡ placeAfter (now (words .entry)) k «body_at» ⌝ }
+    ensures traced { λ r. ⌜ Laid 0 (tracedText (k + 1) host (rowsIn (take (min room 4096) (now (list .entry)))) (take (bytesAt (now (words .entry)) k «body_at») (now (buffer .entry))) (now (words .entry)) (askedAt (now (words .entry)) k «body_at»)) (now (out .entry)) (r .at) (now (out .exit)) ⌝ }
 {
-    let asked = layout::call_at(words, k as u32, script_at);
-    let end = behind(words, asked.script_at, asked.script_len);
+    let asked = layout::call_at(words, k as u32, body_at);
+    let end = behind(words, asked.body_at, asked.body_len);
     let rows = pen::least(room, 4096);
     let bytes = 512 * pen::least(asked.b as usize, 16);
     let done = trace_exact(
@@ -161,36 +165,36 @@ fn trace_in(
     let next = done.host;
     Turn {
         host: next,
-        script_at: end,
+        body_at: end,
         at: done.at,
     }
 }
 
-// Serves call k, counted from 0, whose script starts at a place, with so many rows of room, and prints what happened.
+// Serves call k, counted from 0, whose body starts at a place, with so many rows of room, and prints what happened.
 pub fn trace_call(
     host: Sdmmc,
     words: &[u32],
     k: u16,
-    script_at: usize,
+    body_at: usize,
     room: usize,
     out: &mut [u8],
 ) -> Turn
-    ensures served { λ r. ⌜ r .host ≡ comes host (callAt (now (words .entry)) k «script_at» room) .host ⌝ }
-    ensures passed { λ r. ⌜ r .«script_at» ≡ placeAfter (now (words .entry)) k «script_at» ⌝ }
-    ensures traced { λ r. ⌜ Laid 0 (callText (k + 1) host (bytesAt (now (words .entry)) k «script_at») (callAt (now (words .entry)) k «script_at» room)) (now (out .entry)) (r .at) (now (out .exit)) ⌝ }
+    ensures served { λ r. ⌜ r .host ≡ comes host (callAt (now (words .entry)) k «body_at» room) .host ⌝ }
+    ensures passed { λ r. ⌜ r .«body_at» ≡ placeAfter (now (words .entry)) k «body_at» ⌝ }
+    ensures traced { λ r. ⌜ Laid 0 (callText (k + 1) host (bytesAt (now (words .entry)) k «body_at») (callAt (now (words .entry)) k «body_at» room)) (now (out .entry)) (r .at) (now (out .exit)) ⌝ }
 {
     let mut list = [0u64; 4096];
     let mut buffer = [0u8; 8192];
-    trace_in(host, words, k, script_at, room, &mut list, &mut buffer, out)
+    trace_in(host, words, k, body_at, room, &mut list, &mut buffer, out)
 }
 
-// A book was opened: its host, its calls (none where there is no host), its words, where the first script starts, and where
+// A book was opened: its host, its calls (none where there is no host), its words, where the first body starts, and where
 // the next text goes.
 pub struct Opening {
     pub host: Sdmmc,
     pub calls: u16,
     pub words: usize,
-    pub script_at: usize,
+    pub body_at: usize,
     pub at: usize,
 }
 
@@ -239,7 +243,7 @@ fn open_good(words: &[u32], out: &mut [u8]) -> Opening
         host: host,
         calls: count as u16,
         words: words.len(),
-        script_at: layout::contents(words),
+        body_at: layout::contents(words),
         at: at,
     }
 }
@@ -265,7 +269,7 @@ fn open_bad(out: &mut [u8]) -> Opening
         host: host,
         calls: 0,
         words: 0,
-        script_at: 0,
+        body_at: 0,
         at: lines::put_host(out, 0, 23),
     }
 }

@@ -2,7 +2,7 @@
 -- a book are that book's bytes.
 use Prim.Native.Nat.{ℕ, _+_, _*_, _-_, _%_, _<_}
 use mathlib.Core.Bool.{Bool, true, false, cond, not}
-use mathlib.Core.List.{List, [], _∷_, _++_}
+use mathlib.Core.List.{List, _∷_, _++_}
 use mathlib.Core.Option.{none, some}
 use mathlib.Core.Path.{_≡_, refl, ap, sym, _∙_}
 use native.Mathlib.Omega.{arith}
@@ -10,36 +10,31 @@ use borrow.Author.Tests.{eqb-true, not-false, eq-eqb}
 use lib.Dec.{eqb}
 use lib.ListN.{length, getD, take, drop, length-append, length-drop, take-append-drop}
 use lib.Seq.{drop-at, drop-drop, drop-cons, take-all}
-use Rattle.types.specs.Words.{bytesOf}
-use Rattle.book.specs.Layout.{Book, Call, rowsIn, scriptsIn, wordsIn, encode, countOf, contentsOf, callsOf, bookIn, scriptWords, badWords, badBook, bookOf, wordsOf, WellFormed}
-use Rattle.book.proofs.Bytes.{words-back, bytes-back, words-fit}
+use Rattle.types.specs.Words.{bytesOf, wordsOf}
+use Rattle.types.proofs.Back.{words-back, bytes-back, words-fit}
+use Rattle.types.proofs.Bytes.{length-bytes}
+use Rattle.book.specs.Layout.{Book, Call, rowsIn, bodiesIn, wordsIn, encode, countOf, contentsOf, callsOf, bookIn, bodyWords, badWords, badBook, bookOf, WellFormed}
 use Rattle.book.proofs.Causes.{or-left, or-right, fills, Good, good-words}
-use Rattle.book.proofs.Written.{length-rows, read-calls, read-bad, read-words, length-calls, write-rows, write-scripts, write-bad}
-
--- four bytes a word
-length-bytes : (ws : List ℕ) → length (bytesOf ws) ≡ 4 * length ws
-unfolding bytesOf
-length-bytes [] = refl
-length-bytes (w ∷ ws) = omega (arith, length-bytes ws)
+use Rattle.book.proofs.Written.{length-rows, read-calls, read-bad, read-words, length-calls, write-rows, write-bodies, write-bad}
 
 -- WRITTEN AND READ
 module _ (book : Book) (well : WellFormed book) where
-  long : length (wordsIn book) ≡ 7 + 4 * length (book .calls) + length (scriptsIn (book .calls))
+  long : length (wordsIn book) ≡ 7 + 4 * length (book .calls) + length (bodiesIn (book .calls))
   unfolding wordsIn
   long = rw (length-append, length-rows) (omega arith)
 
-  behind : drop (7 + 4 * length (book .calls)) (wordsIn book) ≡ scriptsIn (book .calls)
+  behind : drop (7 + 4 * length (book .calls)) (wordsIn book) ≡ bodiesIn (book .calls)
   unfolding wordsIn
   behind =
       sym (drop-drop (4 * length (book .calls)) 7 (wordsIn book))
-      ∙ drop-at (rowsIn (book .calls)) (scriptsIn (book .calls)) (4 * length (book .calls)) (length-rows (book .calls))
+      ∙ drop-at (rowsIn (book .calls)) (bodiesIn (book .calls)) (4 * length (book .calls)) (length-rows (book .calls))
 
   good : badWords (wordsIn book) ≡ false
   unfolding wordsIn
   good =
       let cs = book .calls in
-      let all : scriptWords (length cs) (rowsIn cs ++ scriptsIn cs) ≡ length (wordsIn book) - (7 + 4 * length cs) = read-words (scriptsIn cs) cs ∙ rw long (omega arith) in
-      fills (wordsIn book) (well .long) (rw long (omega arith)) (well .flags) (well .attempts) (well .least) (well .most) (read-bad (scriptsIn cs) cs ∙ well .calls)
+      let all : bodyWords (length cs) (rowsIn cs ++ bodiesIn cs) ≡ length (wordsIn book) - (7 + 4 * length cs) = read-words (bodiesIn cs) cs ∙ rw long (omega arith) in
+      fills (wordsIn book) (well .long) (rw long (omega arith)) (well .flags) (well .attempts) (well .least) (well .most) (read-bad (bodiesIn cs) cs (well .calls))
       ∙ simp (eq-eqb _ _ all)
 
   same : bookIn (wordsIn book) ≡ book
@@ -47,7 +42,7 @@ module _ (book : Book) (well : WellFormed book) where
   same =
       let cs = book .calls in
       let whole : List Call → Book = λ l. record { source = book .source; pollLimit = book .pollLimit; readyAttempts = book .readyAttempts; dataTimeout = book .dataTimeout; softwareTimeout = book .softwareTimeout; flags = book .flags; calls = l } in
-      ap whole (ap (λ (l : List ℕ). callsOf (length cs) (rowsIn cs ++ scriptsIn cs) l) behind ∙ read-calls (scriptsIn cs) cs)
+      ap whole (ap (λ (l : List ℕ). callsOf (length cs) (rowsIn cs ++ bodiesIn cs) l) behind ∙ read-calls (bodiesIn cs) cs (well .calls))
 
   pub written-read : bookOf (encode book) ≡ some book
   unfolding encode badBook bookOf
@@ -70,19 +65,19 @@ module _ (ws : List ℕ) (g : Good ws) where
         ← drop-cons ws 0 0 (at 0 (omega arith)),
       )
 
-  rest-again : take (4 * countOf ws) (drop 7 ws) ++ take (scriptWords (countOf ws) (drop 7 ws)) (drop (contentsOf ws) ws) ≡ drop 7 ws
+  rest-again : take (4 * countOf ws) (drop 7 ws) ++ take (bodyWords (countOf ws) (drop 7 ws)) (drop (contentsOf ws) ws) ≡ drop 7 ws
   rest-again =
-      rw (take-all (scriptWords (countOf ws) (drop 7 ws)) (drop (contentsOf ws) ws) (rw length-drop (omega (arith, g .filled))), ← drop-drop (4 * countOf ws) 7 ws, take-append-drop)
+      rw (take-all (bodyWords (countOf ws) (drop 7 ws)) (drop (contentsOf ws) ws) (rw length-drop (omega (arith, g .filled))), ← drop-drop (4 * countOf ws) 7 ws, take-append-drop)
 
   words-again : wordsIn (bookIn ws) ≡ ws
   unfolding wordsIn bookIn
   words-again =
       let n = countOf ws in
-      let scripts = drop (contentsOf ws) ws in
+      let bodies = drop (contentsOf ws) ws in
       rw (
-        length-calls n (drop 7 ws) scripts,
-        write-rows n (drop 7 ws) scripts (rw length-drop (omega (arith, g .short))) (rw length-drop (omega (arith, g .filled))),
-        write-scripts n (drop 7 ws) scripts,
+        length-calls n (drop 7 ws) bodies,
+        write-rows n (drop 7 ws) bodies (rw length-drop (omega (arith, g .short))) (rw length-drop (omega (arith, g .filled))),
+        write-bodies n (drop 7 ws) bodies,
         rest-again,
       ) seven
 
@@ -122,5 +117,5 @@ module _ (bytes : List ℕ) (book : Book) (fit : (i : ℕ) → getD bytes i 0 < 
         attempts = g .attempts;
         least = rw length-calls (g .least);
         most = rw length-calls (g .most);
-        calls = write-bad _ _ _ ∙ g .rows;
+        calls = write-bad _ _ _ (rw length-drop (omega (arith, g .filled))) (g .rows);
       })

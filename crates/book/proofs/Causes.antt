@@ -1,15 +1,15 @@
 -- Each cause makes words bad by itself; words that are not bad have none of them.
-use Prim.Native.Nat.{ℕ, _-_, _≤_, _<_}
-use mathlib.Core.Bool.{Bool, true, false, not, _||_}
+use Prim.Native.Nat.{ℕ, _*_, _-_, _≤_, _<_}
+use mathlib.Core.Bool.{Bool, true, false, cond, not, _||_}
 use mathlib.Core.List.{List}
 use mathlib.Core.Logic.{⊎-elim}
 use mathlib.Core.Path.{_≡_, refl, sym, _∙_}
 use native.Mathlib.Omega.{arith}
-use borrow.Author.Tests.{lt-ltb, le-ltb, eq-eqb, ne-eqb, eqb-true, not-false}
-use lib.Dec.{eqb}
+use borrow.Author.Tests.{lt-ltb, le-ltb, eq-eqb, ne-eqb, eqb-true, ltb-false, not-false}
+use lib.Dec.{eqb, ltb}
 use lib.ListN.{length, getD, drop}
 use Rattle.text.proofs.Orders.{either}
-use Rattle.book.specs.Layout.{countOf, contentsOf, badRows, scriptWords, badWords}
+use Rattle.book.specs.Layout.{dataCount, countOf, contentsOf, badRow, badRows, bodyWords, badWords}
 
 pub or-true : (t : Bool) → t || true ≡ true
 or-true true = refl
@@ -53,7 +53,7 @@ module _ (ws : List ℕ) where
   unfolding badWords
   bad-row h = simp (h, or-true)
 
-  pub fills : length ws ≤ 4096 → contentsOf ws ≤ length ws → getD ws 5 0 ≤ 3 → getD ws 2 0 ≤ 65535 → 0 < countOf ws → countOf ws ≤ 64 → badRows (countOf ws) (drop 7 ws) ≡ false → badWords ws ≡ not (eqb (scriptWords (countOf ws) (drop 7 ws)) (length ws - contentsOf ws))
+  pub fills : length ws ≤ 4096 → contentsOf ws ≤ length ws → getD ws 5 0 ≤ 3 → getD ws 2 0 ≤ 65535 → 0 < countOf ws → countOf ws ≤ 64 → badRows (countOf ws) (drop 7 ws) ≡ false → badWords ws ≡ not (eqb (bodyWords (countOf ws) (drop 7 ws)) (length ws - contentsOf ws))
   unfolding badWords
   fills long short flags attempts some most rows =
       simp (
@@ -87,7 +87,7 @@ pub record Good (ws : List ℕ) : Type 0 where
   pub least : 0 < countOf ws
   pub most : countOf ws ≤ 64
   pub rows : badRows (countOf ws) (drop 7 ws) ≡ false
-  pub filled : scriptWords (countOf ws) (drop 7 ws) ≡ length ws - contentsOf ws
+  pub filled : bodyWords (countOf ws) (drop 7 ws) ≡ length ws - contentsOf ws
 
 pub good-words : (ws : List ℕ) → badWords ws ≡ false → Good ws
 good-words ws e =
@@ -108,3 +108,35 @@ good-words ws e =
       rows = rows;
       filled = eqb-true _ _ (not-false _ (sym (fills ws long short flags attempts least most rows) ∙ e));
     }
+
+-- what a row that is not bad fulfils: at most 16 blocks, and a body that holds the data words
+module _ (kind a b len : ℕ) (good : badRow kind a b len ≡ false) where
+  zero : (e : Bool) → eqb b 0 ≡ e → not e ≡ false → b ≤ 16
+  zero true e n = let none = eqb-true b 0 e in omega arith
+  zero false e n = let z : _≡_ {A = ℕ} 0 1 = cc in absurd (omega arith)
+
+  pub few-blocks : b ≤ 16
+  unfolding badRow
+  few-blocks = by (eqb kind 1) (eqb kind 2) (eqb kind 3) (eqb kind 4) good
+    where
+      by : (one two three four : Bool)
+          → cond one (not (eqb b 0))
+          (cond two (ltb 16 b) (cond three (not (eqb a 0) || not (eqb b 0)) (cond four (ltb 16 b || ltb len (128 * b)) true))) ≡ false
+          → b ≤ 16
+      by true two three four e = zero (eqb b 0) refl e
+      by false true three four e = ltb-false 16 b e
+      by false false true four e = zero (eqb b 0) refl (or-right (not (eqb a 0)) (not (eqb b 0)) e)
+      by false false false true e = ltb-false 16 b (or-left (ltb 16 b) (ltb len (128 * b)) e)
+      by false false false false e = let z : _≡_ {A = ℕ} 0 1 = cc in absurd (omega arith)
+
+  long-body : kind ≡ 4 → 128 * b ≤ len
+  unfolding badRow
+  long-body four = ltb-false len (128 * b) (or-right (ltb 16 b) (ltb len (128 * b)) (rw four at good))
+
+  pub data-within : dataCount kind b ≤ len
+  unfolding dataCount
+  data-within = by (eqb kind 4) refl
+    where
+      by : (four : Bool) → eqb kind 4 ≡ four → cond four (128 * b) 0 ≤ len
+      by true e = long-body (eqb-true kind 4 e)
+      by false e = omega arith

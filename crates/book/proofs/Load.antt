@@ -1,8 +1,8 @@
--- Words out of bytes: how many, each by itself, and laid into a list one after the other.
-use Prim.Native.Nat.{ℕ, zero, suc, _+_, _*_, _-_, _/_, _≤_, _<_, min}
+-- Words out of bytes, laid into a list one after the other.
+use Prim.Native.Nat.{ℕ, _+_, _-_, _/_, _≤_, _<_, min}
 use mathlib.Core.List.{List, [], _∷_}
 use mathlib.Core.Logic.{⊎-elim}
-use mathlib.Core.Path.{_≡_, refl, sym, _∙_}
+use mathlib.Core.Path.{_≡_, sym, _∙_}
 use native.Mathlib.Nat.{zero-add, sub-zero}
 use native.Mathlib.Omega.{arith}
 use lib.ListN.{length, getD, set, take, drop, length-take}
@@ -10,31 +10,8 @@ use lib.Seq.{take-all, take-append-seam}
 use Rattle.text.specs.Ink.{inked, next}
 use Rattle.text.proofs.Ink.{ink-sets, ink-length, ink-more, ink-cut}
 use Rattle.text.proofs.Orders.{either}
-use Rattle.book.specs.Layout.{word4, wordsOf}
-
-pub length-words : (bytes : List ℕ) → length (wordsOf bytes) ≡ length bytes / 4
-unfolding wordsOf
-length-words [] = refl
-length-words (a ∷ []) = refl
-length-words (a ∷ b ∷ []) = refl
-length-words (a ∷ b ∷ c ∷ []) = refl
-length-words (a ∷ b ∷ c ∷ d ∷ bytes) = omega (arith, length-words bytes)
-
--- word i, of its four bytes
-abbrev pub wordAt : List ℕ → ℕ → ℕ
-wordAt bytes at = word4 (getD bytes at 0) (getD bytes (at + 1) 0) (getD bytes (at + 2) 0) (getD bytes (at + 3) 0)
-
-pub word-is : (i : ℕ) (bytes : List ℕ) → 4 * i + 4 ≤ length bytes → getD (wordsOf bytes) i 0 ≡ wordAt bytes (4 * i)
-unfolding wordsOf
-word-is i [] h = absurd (omega arith)
-word-is i (a ∷ []) h = absurd (omega arith)
-word-is i (a ∷ b ∷ []) h = absurd (omega arith)
-word-is i (a ∷ b ∷ c ∷ []) h = absurd (omega arith)
-word-is zero (a ∷ b ∷ c ∷ d ∷ bytes) h = refl
-word-is (suc i) (a ∷ b ∷ c ∷ d ∷ bytes) h =
-    let first : 4 * suc i ≡ suc (suc (suc (suc (4 * i)))) = omega arith in
-    let past : (m : ℕ) → suc (suc (suc (suc (4 * i)))) + m ≡ suc (suc (suc (suc (4 * i + m)))) = λ m. omega arith in
-    rw (first, past 1, past 2, past 3) (word-is i bytes (omega arith))
+use Rattle.types.specs.Words.{wordsOf}
+use Rattle.types.proofs.Back.{length-words}
 
 module _ (text buffer : List ℕ) where
   -- a store more

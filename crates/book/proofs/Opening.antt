@@ -9,10 +9,11 @@ use borrow.Author.Tests.{lt-ltb, le-ltb, eq-eqb, ne-eqb, ltb-true}
 use lib.Dec.{eqb, ltb}
 use lib.ListN.{length}
 use Rattle.book.specs.declared.layout.Opened.the-variants as Opening
-use Rattle.book.specs.Layout.{wordsOf, bookIn, badWords, badBook, bookOf}
+use Rattle.types.specs.Words.{wordsOf}
+use Rattle.book.specs.Layout.{bookIn, badWords, badBook, bookOf}
 use Rattle.book.specs.Readers.{openedOf}
 use Rattle.book.proofs.Causes.{or-true, or-right, too-long}
-use Rattle.book.proofs.Load.{length-words}
+use Rattle.types.proofs.Back.{length-words}
 
 module _ (bytes : List ℕ) (room : ℕ) where
   pub open-odd : (length bytes % 4 ≡ 0 → ⊥) → openedOf bytes room ≡ Opening.Bad

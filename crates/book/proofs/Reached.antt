@@ -1,4 +1,4 @@
--- For whoever goes through a book call by call: the place reached, that each script lies within the words, and that the calls
+-- For whoever goes through a book call by call: the place reached, that each body lies within the words, and that the calls
 -- are the book's.
 use Prim.Native.Nat.{ℕ, suc, _+_, _-_, _≤_, _<_}
 use mathlib.Core.List.{List, [], _∷_}
@@ -6,15 +6,15 @@ use mathlib.Core.Path.{_≡_}
 use native.Mathlib.Nat.{sub-zero}
 use native.Mathlib.Omega.{arith}
 use lib.ListN.{length, getD, drop}
-use Rattle.book.specs.Layout.{Call, countOf, contentsOf, callsOf, bookIn, scriptWords}
+use Rattle.book.specs.Layout.{Call, countOf, contentsOf, callsOf, bookIn, bodyWords}
 use Rattle.book.specs.Readers.{askedAt, callAsked, callsFrom}
 use Rattle.book.proofs.Causes.{Good}
 use Rattle.book.proofs.Rows.{rowAt, words-step, calls-next}
 
--- before call k, counted from 0, the scripts are read up to a place: those that are left fill the rest
+-- before call k, counted from 0, the bodies are read up to a place: those that are left fill the rest
 pub record Reached (ws : List ℕ) (k place : ℕ) : Type 0 where
   pub within : k ≤ countOf ws
-  pub left : place + scriptWords (countOf ws - k) (drop (rowAt k) ws) ≡ length ws
+  pub left : place + bodyWords (countOf ws - k) (drop (rowAt k) ws) ≡ length ws
 
 -- the calls that are left there
 abbrev pub callsLeft : List ℕ → ℕ → ℕ → List Call
@@ -36,9 +36,9 @@ module _ (ws : List ℕ) where
         rw none
 
     module _ (h : k < countOf ws) where
-      -- the script of call k lies within the words
-      pub script-within : place + getD ws (rowAt k + 3) 0 ≤ length ws
-      script-within = omega (arith, r .left, words-step ws k (countOf ws) h)
+      -- the body of call k lies within the words
+      pub body-within : place + getD ws (rowAt k + 3) 0 ≤ length ws
+      body-within = omega (arith, r .left, words-step ws k (countOf ws) h)
 
       pub reached-next : Reached ws (k + 1) (place + getD ws (rowAt k + 3) 0)
       reached-next = record { within = omega arith; left = omega (arith, r .left, words-step ws k (countOf ws) h) }

@@ -7,7 +7,7 @@ use native.Mathlib.Nat.{add-zero}
 use native.Mathlib.Omega.{arith}
 use lib.ListN.{getD, drop}
 use lib.Seq.{getD-drop, drop-drop}
-use Rattle.book.specs.Layout.{callsOf, badRow, badRows, scriptWords}
+use Rattle.book.specs.Layout.{callsOf, badRow, badRows, bodyWords}
 use Rattle.book.specs.declared.layout.Asked.{Asked}
 use Rattle.book.specs.Readers.{askedAt, callAsked, callsFrom}
 
@@ -16,7 +16,7 @@ abbrev pub rowAt : ℕ → ℕ
 rowAt k = 7 + 4 * k
 
 abbrev pub badAsked : Asked → Bool
-badAsked x = badRow (x .kind) (x .a) (x .b)
+badAsked x = badRow (x .kind) (x .a) (x .b) (x .«body_len»)
 
 module _ (ws : List ℕ) (k : ℕ) where
   behind : drop 4 (drop (rowAt k) ws) ≡ drop (rowAt (k + 1)) ws
@@ -29,10 +29,10 @@ module _ (ws : List ℕ) (k : ℕ) where
 
   pub bad-next : (m : ℕ) → badRows (suc m) (drop (rowAt k) ws) ≡ badAsked (askedAt ws k 0) || badRows m (drop (rowAt (k + 1)) ws)
   unfolding badRows
-  bad-next m = rw (first, getD-drop (rowAt k) ws 1 0, getD-drop (rowAt k) ws 2 0, behind)
+  bad-next m = rw (first, getD-drop (rowAt k) ws 1 0, getD-drop (rowAt k) ws 2 0, getD-drop (rowAt k) ws 3 0, behind)
 
-  words-next : (m : ℕ) → scriptWords (suc m) (drop (rowAt k) ws) ≡ getD ws (rowAt k + 3) 0 + scriptWords m (drop (rowAt (k + 1)) ws)
-  unfolding scriptWords
+  words-next : (m : ℕ) → bodyWords (suc m) (drop (rowAt k) ws) ≡ getD ws (rowAt k + 3) 0 + bodyWords m (drop (rowAt (k + 1)) ws)
+  unfolding bodyWords
   words-next m = rw (getD-drop (rowAt k) ws 3 0, behind)
 
   -- THE CALL OF ROW K IS THE FIRST OF THE CALLS FROM ROW K ON
@@ -52,7 +52,7 @@ module _ (ws : List ℕ) (k : ℕ) where
     pub bad-further : badAsked (askedAt ws k 0) ≡ false → badRows (n - k) (drop (rowAt k) ws) ≡ badRows (n - (k + 1)) (drop (rowAt (k + 1)) ws)
     bad-further e = rw (left, bad-next (n - (k + 1)), e)
 
-    pub words-step : scriptWords (n - k) (drop (rowAt k) ws) ≡ getD ws (rowAt k + 3) 0 + scriptWords (n - (k + 1)) (drop (rowAt (k + 1)) ws)
+    pub words-step : bodyWords (n - k) (drop (rowAt k) ws) ≡ getD ws (rowAt k + 3) 0 + bodyWords (n - (k + 1)) (drop (rowAt (k + 1)) ws)
     words-step = rw left (words-next (n - (k + 1)))
 
 -- no row is left
@@ -62,8 +62,8 @@ bad-none rows n k h =
     let none : n - k ≡ 0 = omega arith in
     rw none
 
-pub words-none : (rows : List ℕ) (n k : ℕ) → n ≤ k → scriptWords (n - k) rows ≡ 0
-unfolding scriptWords
+pub words-none : (rows : List ℕ) (n k : ℕ) → n ≤ k → bodyWords (n - k) rows ≡ 0
+unfolding bodyWords
 words-none rows n k h =
     let none : n - k ≡ 0 = omega arith in
     rw none

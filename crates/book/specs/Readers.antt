@@ -4,7 +4,7 @@ use mathlib.Core.Bool.{cond, _||_}
 use mathlib.Core.List.{List}
 use lib.Dec.{ltb}
 use lib.ListN.{length, getD, take, drop}
-use Rattle.book.specs.Layout.{Call, callsOf, badBook}
+use Rattle.book.specs.Layout.{Call, callIn, callsOf, badBook}
 use Rattle.book.specs.declared.layout.Asked.{Asked}
 use Rattle.book.specs.declared.layout.Heading.{Heading}
 use Rattle.book.specs.declared.layout.Opened.{Opened}
@@ -22,23 +22,22 @@ headingOf ws =
       calls = getD ws 6 0;
     }
 
--- row k, counted from 0, with its script from a place on
+-- row k, counted from 0, with its body from a place on
 abbrev pub askedAt : List ℕ → ℕ → ℕ → Asked
 askedAt ws k place =
     record {
       kind = getD ws (7 + 4 * k) 0;
       a = getD ws (7 + 4 * k + 1) 0;
       b = getD ws (7 + 4 * k + 2) 0;
-      «script_at» = place;
-      «script_len» = getD ws (7 + 4 * k + 3) 0;
+      «body_at» = place;
+      «body_len» = getD ws (7 + 4 * k + 3) 0;
     }
 
 -- the call that it is
 abbrev pub callAsked : List ℕ → Asked → Call
-callAsked ws x =
-    record { kind = x .kind; a = x .a; b = x .b; script = take (x .«script_len») (drop (x .«script_at») ws) }
+callAsked ws x = callIn (x .kind) (x .a) (x .b) (take (x .«body_len») (drop (x .«body_at») ws))
 
--- the m calls from row k on, with their scripts from a place on
+-- the m calls from row k on, with their bodies from a place on
 unfoldable pub callsFrom : List ℕ → ℕ → ℕ → ℕ → List Call
 callsFrom ws k place m = callsOf m (drop (7 + 4 * k) ws) (drop place ws)
 

@@ -1,11 +1,16 @@
 // The words of a bench book: loaded from bytes, judged, and read call by call. A word that is not there reads as 0, so no
 // reader asks anything of the words.
+ghost use mathlib.Core.Bool.{_||_};
 ghost use mathlib.Core.Path.{_≡_};
+ghost use Prim.Native.Nat.{_*_};
+ghost use lib.Dec.{ltb};
 ghost use lib.ListN.{length, getD, drop};
 ghost use Rattle.text.specs.Ink.{inked, Laid};
-ghost use Rattle.book.specs.Layout.{word4, wordsOf, contentsOf, badRow, badRows, scriptWords, badWords};
+ghost use Rattle.types.specs.Words.{wordsOf};
+ghost use Rattle.book.specs.Layout.{dataCount, contentsOf, badRow, badRows, bodyWords, badWords};
 ghost use Rattle.book.specs.Readers.{headingOf, askedAt, openedOf};
 use text::pen;
+use types::words;
 
 // The contents before the rows of the calls.
 pub struct Heading {
@@ -18,26 +23,19 @@ pub struct Heading {
     pub calls: u32,
 }
 
-// A call's row, and where its script lies.
+// A call's row, and where its body lies: the data words of a write, and the script.
 pub struct Asked {
     pub kind: u32,
     pub a: u32,
     pub b: u32,
-    pub script_at: usize,
-    pub script_len: usize,
+    pub body_at: usize,
+    pub body_len: usize,
 }
 
 // A file's bytes as a book: so many words of the list, or none.
 pub enum Opened {
     Words(usize),
     Bad,
-}
-
-// Four bytes as a word, the lowest first.
-fn little(a: u8, b: u8, c: u8, d: u8) -> u32
-    ensures { λ r. ⌜ r ≡ word4 a b c d ⌝ }
-{
-    a as u32 + b as u32 * 0x100 + c as u32 * 0x1_0000 + d as u32 * 0x100_0000
 }
 
 // Lays the bytes' words into the list, as far as they fit; gives how many.
@@ -48,7 +46,7 @@ pub fn load(bytes: &[u8], words: &mut [u32]) -> usize
     let mut i = 0;
     while i < n {
         let at = 4 * i;
-        words[i] = little(bytes[at], bytes[at + 1], bytes[at + 2], bytes[at + 3]);
+        words[i] = words::little(bytes[at], bytes[at + 1], bytes[at + 2], bytes[at + 3]);
         i = i + 1;
     }
     n
@@ -77,7 +75,7 @@ pub fn head(words: &[u32]) -> Heading
     }
 }
 
-// The call of row k, counted from 0, whose script starts at a place.
+// The call of row k, counted from 0, whose body starts at a place.
 pub fn call_at(words: &[u32], k: u32, place: usize) -> Asked
     ensures { λ r. ⌜ r ≡ askedAt (now (words .entry)) k place ⌝ }
 {
@@ -86,12 +84,12 @@ pub fn call_at(words: &[u32], k: u32, place: usize) -> Asked
         kind: word(words, row),
         a: word(words, row + 1),
         b: word(words, row + 2),
-        script_at: place,
-        script_len: word(words, row + 3) as usize,
+        body_at: place,
+        body_len: word(words, row + 3) as usize,
     }
 }
 
-// Where the scripts begin: behind the contents.
+// Where the bodies begin: behind the contents.
 pub fn contents(words: &[u32]) -> usize
     ensures { λ r. ⌜ r ≡ contentsOf (now (words .entry)) ⌝ }
 {
@@ -99,9 +97,29 @@ pub fn contents(words: &[u32]) -> usize
     7 + 4 * calls as usize
 }
 
-// An unknown kind, a or b nonzero where 0 is due, or over 16 blocks.
-fn row_is_bad(kind: u32, a: u32, b: u32) -> bool
-    ensures { λ r. ⌜ r ≡ badRow kind a b ⌝ }
+// How many of a body's words are data: 128 a block of a write.
+pub fn data_count(kind: u32, b: u32) -> usize
+    ensures { λ r. ⌜ r ≡ dataCount kind b ⌝ }
+{
+    if kind == 4 {
+        return 128 * b as usize;
+    }
+    0
+}
+
+// More blocks than a book may ask to write, or a body shorter than their data.
+fn write_is_bad(b: u32, len: usize) -> bool
+    ensures { λ r. ⌜ r ≡ ltb 16 b || ltb len (128 * b) ⌝ }
+{
+    if b > 16 {
+        return true;
+    }
+    len < 128 * b as usize
+}
+
+// An unknown kind, a or b nonzero where 0 is due, over 16 blocks, or a write's body shorter than its data.
+fn row_is_bad(kind: u32, a: u32, b: u32, len: usize) -> bool
+    ensures { λ r. ⌜ r ≡ badRow kind a b len ⌝ }
 {
     if kind == 1 {
         return b != 0;
@@ -115,6 +133,9 @@ fn row_is_bad(kind: u32, a: u32, b: u32) -> bool
         }
         return b != 0;
     }
+    if kind == 4 {
+        return write_is_bad(b, len);
+    }
     true
 }
 
@@ -125,7 +146,7 @@ fn rows_are_bad(words: &[u32], n: u32) -> bool
     let mut k = 0;
     while k < n {
         let row = call_at(words, k, 0);
-        if row_is_bad(row.kind, row.a, row.b) {
+        if row_is_bad(row.kind, row.a, row.b, row.body_len) {
             return true;
         }
         k = k + 1;
@@ -133,15 +154,15 @@ fn rows_are_bad(words: &[u32], n: u32) -> bool
     false
 }
 
-// The words of the scripts of the first n rows.
-fn script_words(words: &[u32], n: u32) -> usize
-    ensures { λ r. ⌜ r ≡ scriptWords n (drop 7 (now (words .entry))) ⌝ }
+// The words of the bodies of the first n rows.
+fn body_words(words: &[u32], n: u32) -> usize
+    ensures { λ r. ⌜ r ≡ bodyWords n (drop 7 (now (words .entry))) ⌝ }
 {
     let mut sum = 0;
     let mut k = 0;
     while k < n {
         let row = call_at(words, k, 0);
-        sum = sum + row.script_len;
+        sum = sum + row.body_len;
         k = k + 1;
     }
     sum
@@ -176,7 +197,7 @@ pub fn is_bad(words: &[u32]) -> bool
     if rows_are_bad(words, calls) {
         return true;
     }
-    script_words(words, calls) != words.len() - rest_at
+    body_words(words, calls) != words.len() - rest_at
 }
 
 // Loads a book, and judges it. A list of 4,096 words has room for every book.

@@ -2,7 +2,6 @@
 use Prim.Native.Nat.{ℕ, zero, suc, _+_, _*_, _-_, _≤_}
 use mathlib.Core.Path.{_≡_, refl, ap, sym, _∙_}
 use mathlib.Core.Bool.{Bool, true, false, not, _||_}
-use lib.Dec.{eqb}
 use mathlib.Core.List.{List, [], _∷_}
 use native.Mathlib.Omega.{arith}
 use lib.ListN.{length, take, drop, length-take, length-drop}
@@ -17,7 +16,7 @@ use Rattle.tape.specs.Plan.{refusing}
 use Rattle.tape.specs.Run.{State, Gave}
 use Rattle.tape.specs.Steps.{waitIdle, resetController, stopData, setClken}
 use Rattle.tape.proofs.Words.{AtMost, at-most-handle, at-most-give, at-most-fail, at-most-word, at-most-row, at-most-look}
-use Rattle.tape.proofs.Words.{at-most-test, at-most-ensure, at-most-then, at-most-after, at-most-until, at-most-data, taken}
+use Rattle.tape.proofs.Words.{at-most-test, at-most-ensure, at-most-then, at-most-after, at-most-until, at-most-data, at-most-send, taken}
 use Rattle.tape.proofs.Values.{Gives, gives-handle, gives-give, gives-then, gives-last, gives-refuse, gives-data, given}
 use Rattle.bus.specs.declared.response.Form.{Form}
 use Rattle.bus.specs.declared.response.Response.{Response}
@@ -25,8 +24,8 @@ use Rattle.bus.specs.Command.{formOf, zeros, issue, pollCompletion, wait
 use Rattle.bus.specs.Command.{complete, commandInner, command, appCommand}
 use Rattle.bus.specs.declared.transfer.Transfer.{Transfer}
 use Rattle.bus.specs.Ready.{retryDelay, readStatus, tryReady, waitReady}
-use Rattle.bus.specs.Transfer.{arm, startData, heeded, clean, pollTransfer, drained, settle, dataComplete, waitData}
-use Rattle.bus.specs.Transfer.{receive, closeGate, stopTransmission, endData, transferData, blockingData}
+use Rattle.bus.specs.Transfer.{Buffer, incoming, outgoing, arm, readyData, orderData, beforeCommand, afterCommand, landed, startData, heeded, clean, pollTransfer, drained, settle, dataComplete, waitData}
+use Rattle.bus.specs.Transfer.{receive, closeGate, ofMany, stopTransmission, endData, transferData, blockingData}
 
 idle-words : (limit : ℕ) (transfer : Bool) → AtMost limit (waitIdle limit transfer)
 unfolding waitIdle
@@ -121,17 +120,32 @@ stop-words : AtMost 0 stopData
 unfolding stopData
 stop-words = at-most-after (at-most-row _ _) (λ _. at-most-after (at-most-row _ _) (λ _. at-most-row _ _))
 
-start-words : (config : Config) (transfer : Transfer) → AtMost (3 * config .«poll_limit» + 5) (startData config transfer)
-unfolding startData arm
-start-words config transfer =
+arm-words : (timeout : ℕ) (transfer : Transfer) → AtMost 0 (arm timeout transfer)
+unfolding arm
+arm-words timeout transfer =
+    at-most-after (at-most-row _ _) (λ _. at-most-after stop-words (λ _. at-most-after (at-most-row _ _) (λ _. at-most-row _ _)))
+
+before-words : (buffer : Buffer) (transfer : Transfer) → AtMost 0 (beforeCommand buffer transfer)
+unfolding beforeCommand
+before-words incoming transfer = at-most-row _ _
+before-words (outgoing ws) transfer = at-most-give
+
+after-words : (buffer : Buffer) (transfer : Transfer) → AtMost 0 (afterCommand buffer transfer)
+unfolding afterCommand
+after-words incoming transfer = at-most-give
+after-words (outgoing ws) transfer = at-most-after (at-most-row _ _) (λ _. at-most-send ws 0 (transfer .words))
+
+start-words : (config : Config) (buffer : Buffer) (transfer : Transfer) → AtMost (3 * config .«poll_limit» + 5) (startData config buffer transfer)
+unfolding startData readyData orderData
+start-words config buffer transfer =
     let limit = config .«poll_limit» in
-    at-most-then limit (2 * limit + 5) (idle-words limit true)
-    (λ _. at-most-after
-    (at-most-after (at-most-row _ _)
-    (λ _. at-most-after stop-words
-    (λ _. at-most-after (at-most-row _ _) (λ _. at-most-after (at-most-row _ _) (λ _. at-most-row _ _)))))
-    (λ _. at-most-after (clken-words true)
-    (λ _. at-most-then (2 * limit + 5) 0 (inner-words limit _ _ _) (λ _. at-most-give) (omega arith))))
+    at-most-then limit (2 * limit + 5)
+    (at-most-then limit 0 (idle-words limit true) (λ _. arm-words _ transfer) (omega arith))
+    (λ _. at-most-after (before-words buffer transfer)
+    (λ _. at-most-then (2 * limit + 5) 0
+    (at-most-after (clken-words true) (λ _. at-most-then (2 * limit + 5) 0 (inner-words limit _ _ _) (λ _. at-most-give) (omega arith)))
+    (λ _. after-words buffer transfer)
+    (omega arith)))
     (omega arith)
 
 heeded-words : (a : DataAnswer) → AtMost 0 (heeded a)
@@ -158,12 +172,22 @@ complete-words : AtMost 5 dataComplete
 unfolding dataComplete
 complete-words = at-most-then 2 3 both-words (λ first. at-most-test (clear 0x4000_0000 (first .dma)) settle-words at-most-give) (omega arith)
 
-receive-words : (limit count : ℕ) → AtMost (5 * limit + count) (receive limit count)
+-- the data words of a phase: a write takes none
+unfoldable pub countIn : Buffer → ℕ → ℕ
+countIn incoming count = count
+countIn (outgoing ws) count = 0
+
+landed-words : (buffer : Buffer) (count : ℕ) → AtMost (countIn buffer count) (landed buffer count)
+unfolding landed countIn
+landed-words incoming count = at-most-data 0 count
+landed-words (outgoing ws) count = at-most-give
+
+receive-words : (limit : ℕ) (buffer : Buffer) (count : ℕ) → AtMost (5 * limit + countIn buffer count) (receive limit buffer count)
 unfolding receive waitData
-receive-words limit count =
-    at-most-then (5 * limit) count
+receive-words limit buffer count =
+    at-most-then (5 * limit) (countIn buffer count)
     (at-most-then (5 * limit) 0 (at-most-until 5 limit _ complete-words (omega arith)) (λ _. at-most-give) (omega arith))
-    (λ _. at-most-data 0 count)
+    (λ _. landed-words buffer count)
     (omega arith)
 
 end-words : (source : ℕ) (config : Config) (index rca : ℕ)
@@ -174,7 +198,7 @@ end-words source config index rca =
     at-most-after stop-words
     (λ _. at-most-after (at-most-look (λ line. at-most-test (line .gated) (clken-words false) at-most-give))
     (λ _. at-most-then (2 * limit + 5) (config .«card_ready_attempts» * (2 * limit + 5))
-    (at-most-test (eqb index 18) (at-most-then (2 * limit + 5) 0 (command-words limit 12 0 _) (λ _. at-most-give) (omega arith)) at-most-give)
+    (at-most-test (ofMany index) (at-most-then (2 * limit + 5) 0 (command-words limit 12 0 _) (λ _. at-most-give) (omega arith)) at-most-give)
     (λ _. ready-words source config rca)
     (omega arith)))
 
@@ -192,29 +216,35 @@ reset-words =
     (λ _. at-most-after (at-most-row _ _) (λ _. at-most-row _ _)))))))))
 
 -- A data phase: its own words, its polls, and its commands.
-pub data-words : (source : ℕ) (config : Config) (transfer : Transfer) (rca : ℕ)
-    → AtMost (transfer .words + 10 * config .«poll_limit» + 10 + config .«card_ready_attempts» * (2 * config .«poll_limit» + 5))
-    (blockingData source config transfer rca)
+pub data-words : (source : ℕ) (config : Config) (buffer : Buffer) (transfer : Transfer) (rca : ℕ)
+    → AtMost (countIn buffer (transfer .words) + 10 * config .«poll_limit» + 10 + config .«card_ready_attempts» * (2 * config .«poll_limit» + 5))
+    (blockingData source config buffer transfer rca)
 unfolding blockingData transferData
-data-words source config transfer rca =
+data-words source config buffer transfer rca =
     let limit = config .«poll_limit» in
     let attempts = config .«card_ready_attempts» * (2 * limit + 5) in
-    at-most-handle (transfer .words + 10 * limit + 10 + attempts) 0 (refusing resetController)
-    (at-most-then (3 * limit + 5) (transfer .words + 7 * limit + 5 + attempts) (start-words config transfer)
-    (λ _. at-most-then (5 * limit + transfer .words) (2 * limit + 5 + attempts) (receive-words limit (transfer .words))
+    let count = countIn buffer (transfer .words) in
+    at-most-handle (count + 10 * limit + 10 + attempts) 0 (refusing resetController)
+    (at-most-then (3 * limit + 5) (count + 7 * limit + 5 + attempts) (start-words config buffer transfer)
+    (λ _. at-most-then (5 * limit + count) (2 * limit + 5 + attempts) (receive-words limit buffer (transfer .words))
     (λ ws. at-most-then (2 * limit + 5 + attempts) 0 (end-words source config _ rca) (λ _. at-most-give) (omega arith))
     (omega arith)) (omega arith))
     (λ ws. at-most-give)
     (λ e. at-most-after reset-words (λ _. at-most-fail))
     (omega arith)
 
--- An accepted data phase gives as many words as were asked for,
-pub gives-words : (source : ℕ) (config : Config) (transfer : Transfer) (rca : ℕ)
-    → Gives (List ℕ) (λ ws. length ws ≡ transfer .words) (blockingData source config transfer rca)
+gives-landed : (buffer : Buffer) (count : ℕ) → Gives (List ℕ) (λ ws. length ws ≡ countIn buffer count) (landed buffer count)
+unfolding landed countIn
+gives-landed incoming count = gives-data 0 count
+gives-landed (outgoing ws) count = gives-give refl
+
+-- An accepted data phase gives as many words as were asked for, and none where they were sent,
+pub gives-words : (source : ℕ) (config : Config) (buffer : Buffer) (transfer : Transfer) (rca : ℕ)
+    → Gives (List ℕ) (λ ws. length ws ≡ countIn buffer (transfer .words)) (blockingData source config buffer transfer rca)
 unfolding blockingData transferData receive
-gives-words source config transfer rca =
+gives-words source config buffer transfer rca =
     gives-handle
-    (gives-last _ (λ _. gives-then (gives-last _ (λ _. gives-data 0 (transfer .words))) (λ ws h. gives-last _ (λ _. gives-give h))))
+    (gives-last _ (λ _. gives-then (gives-last _ (λ _. gives-landed buffer (transfer .words))) (λ ws h. gives-last _ (λ _. gives-give h))))
     (λ ws h. gives-give h)
     (λ c. gives-last _ (λ _. gives-refuse))
 
@@ -225,8 +255,9 @@ own-length (suc n) (x ∷ l) = ap (λ (r : List ℕ). x ∷ r) (own-length n l)
 
 -- which lie in the script from the place on that is handed back.
 pub data-place : (source : ℕ) (config : Config) (transfer : Transfer) (rca : ℕ) (s : List ℕ) (place count : ℕ) {w w′ : State}
-    → Gave s (List ℕ) [] (blockingData source config transfer rca) w (take count (drop place s)) w′ → w′ .progress .pace ≡ Going
+    → Gave s (List ℕ) [] (blockingData source config incoming transfer rca) w (take count (drop place s)) w′ → w′ .progress .pace ≡ Going
     → (take count (drop place s) ≡ take (transfer .words) (drop place s)) × (transfer .words ≤ length s - place)
+unfolding countIn
 data-place source config transfer rca s place count e g =
-    let long : length (take count (drop place s)) ≡ transfer .words = given (gives-words source config transfer rca) e g in
+    let long : length (take count (drop place s)) ≡ transfer .words = given (gives-words source config incoming transfer rca) e g in
     (sym (own-length count (drop place s)) ∙ ap (λ (n : ℕ). take n (drop place s)) long, omega (arith, long, length-take count (drop place s), length-drop place s))

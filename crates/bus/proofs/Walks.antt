@@ -19,7 +19,7 @@ use Rattle.tape.specs.Plan.{Nothing}
 use Rattle.tape.specs.declared.rows.Row.{Row}
 use Rattle.tape.specs.Rows.{ICR}
 use Rattle.tape.specs.Steps.{row, waitIdle, resetController, stopData, setClken}
-use Rattle.tape.proofs.Walk.{Rule, Obeys, RowsOnly, on-give, on-fail, on-then, on-look, on-test, on-word, on-row, on-ensure, on-until, on-data}
+use Rattle.tape.proofs.Walk.{Rule, Obeys, RowsOnly, on-give, on-fail, on-then, on-look, on-test, on-word, on-row, on-ensure, on-until, on-data, on-send}
 use Rattle.tape.proofs.Walk.{on-rows, on-closing, rows-row, rows-look, rows-then}
 use Rattle.bus.specs.declared.response.Form.{Form}
 use Rattle.bus.specs.declared.response.Response.{Response}
@@ -28,7 +28,7 @@ use Rattle.bus.specs.Clock.{configureClock}
 use Rattle.types.specs.declared.clock.Clock.{Clock}
 use Rattle.bus.specs.Command.{formOf, issue, pollCompletion, waitCompletion, echo, responseWords, judge, answer, complete, commandInner, command, appCommand}
 use Rattle.bus.specs.Ready.{retryDelay, readStatus, tryReady, waitReady}
-use Rattle.bus.specs.Transfer.{Polled, arm, startData, heeded, clean, pollTransfer, drained, settle, dataComplete, waitData, receive, closeGate, stopTransmission, endData, transferData, blockingData}
+use Rattle.bus.specs.Transfer.{Buffer, incoming, outgoing, Polled, arm, readyData, orderData, beforeCommand, afterCommand, landed, startData, heeded, clean, pollTransfer, drained, settle, dataComplete, waitData, receive, closeGate, ofMany, stopTransmission, endData, transferData, blockingData}
 
 -- an error other than UnsupportedCardType and BadClock
 abbrev pub Other : Error → Type 0
@@ -174,30 +174,46 @@ module _ (rule : Rule) (others : (e : Error) → Other e → rule .refuses e) (r
       (λ again. on-test (clear 0x100 (again .status) || not (clear 0x3000 (again .status))) on-give
       (on-then (on-then (on-ensure _ E.IncompleteTransfer incomplete) (λ _. on-then (on-word _) (λ w. on-ensure _ E.IncompleteTransfer incomplete))) (λ _. on-give)))
 
-  receive-obeys : (limit count : ℕ) → Obeys rule (List ℕ) (receive limit count)
+  landed-obeys : (buffer : Buffer) (count : ℕ) → Obeys rule (List ℕ) (landed buffer count)
+  unfolding landed
+  landed-obeys incoming count = on-data 0 count
+  landed-obeys (outgoing ws) count = on-give
+
+  receive-obeys : (limit : ℕ) (buffer : Buffer) (count : ℕ) → Obeys rule (List ℕ) (receive limit buffer count)
   unfolding receive waitData dataComplete
-  receive-obeys limit count =
+  receive-obeys limit buffer count =
       on-then (on-then (on-until limit _ late (on-then poll-obeys (λ first. on-test (clear 0x4000_0000 (first .dma)) settle-obeys on-give))) (λ _. on-give))
-      (λ _. on-data 0 count)
+      (λ _. landed-obeys buffer count)
 
   stop-obeys : Obeys rule Nothing stopData
   unfolding stopData
   stop-obeys = on-then (ordinary _ _ refl) (λ _. on-then (ordinary _ _ refl) (λ _. ordinary _ _ refl))
 
-  start-obeys : (config : Config) (transfer : Transfer) → Obeys rule Nothing (startData config transfer)
-  unfolding startData arm
-  start-obeys config transfer =
-      on-then (idle-obeys _ true)
-      (λ _. on-then
-      (on-then (ordinary _ _ refl) (λ _. on-then stop-obeys (λ _. on-then (ordinary _ _ refl) (λ _. on-then (ordinary _ _ refl) (λ _. ordinary _ _ refl)))))
-      (λ _. on-then (clken-obeys true) (λ _. on-then (inner-obeys _ _ _ _) (λ _. on-give))))
+  before-obeys : (buffer : Buffer) (transfer : Transfer) → Obeys rule Nothing (beforeCommand buffer transfer)
+  unfolding beforeCommand
+  before-obeys incoming transfer = ordinary _ _ refl
+  before-obeys (outgoing ws) transfer = on-give
+
+  after-obeys : (buffer : Buffer) (transfer : Transfer) → Obeys rule Nothing (afterCommand buffer transfer)
+  unfolding afterCommand
+  after-obeys incoming transfer = on-give
+  after-obeys (outgoing ws) transfer = on-then (ordinary _ _ refl) (λ _. on-send (λ value. rows _ refl) ws 0 (transfer .words))
+
+  start-obeys : (config : Config) (buffer : Buffer) (transfer : Transfer) → Obeys rule Nothing (startData config buffer transfer)
+  unfolding startData readyData orderData arm
+  start-obeys config buffer transfer =
+      on-then
+      (on-then (idle-obeys _ true)
+      (λ _. on-then (ordinary _ _ refl) (λ _. on-then stop-obeys (λ _. on-then (ordinary _ _ refl) (λ _. ordinary _ _ refl)))))
+      (λ _. on-then (before-obeys buffer transfer)
+      (λ _. on-then (on-then (clken-obeys true) (λ _. on-then (inner-obeys _ _ _ _) (λ _. on-give))) (λ _. after-obeys buffer transfer)))
 
   end-obeys : (source : ℕ) (config : Config) (index rca : ℕ) → Obeys rule Nothing (endData source config index rca)
   unfolding endData closeGate stopTransmission
   end-obeys source config index rca =
       on-then stop-obeys
       (λ _. on-then (on-look (λ line i. on-test (line .gated) (clken-obeys false) on-give))
-      (λ _. on-then (on-test (eqb index 18) (on-then (command-obeys _ 12 _ _) (λ _. on-give)) on-give)
+      (λ _. on-then (on-test (ofMany index) (on-then (command-obeys _ 12 _ _) (λ _. on-give)) on-give)
       (λ _. ready-obeys source config rca)))
 
   -- The reset rows are not ordinary.
@@ -208,10 +224,10 @@ module _ (rule : Rule) (others : (e : Error) → Other e → rule .refuses e) (r
       (λ _. rows-then (rows-row _ _ (any _)) (λ _. rows-then (rows-row _ _ (any _)) (λ _. rows-then (rows-row _ _ (any _)) (λ _. rows-then (rows-row _ _ (any _))
       (λ _. rows-then (rows-row _ _ (any _)) (λ _. rows-row _ _ (any _))))))))))
 
-  pub data-obeys : ((r : Row) → rule .writes r) → (source : ℕ) (config : Config) (transfer : Transfer) (rca : ℕ) → Obeys rule (List ℕ) (blockingData source config transfer rca)
+  pub data-obeys : ((r : Row) → rule .writes r) → (source : ℕ) (config : Config) (buffer : Buffer) (transfer : Transfer) (rca : ℕ) → Obeys rule (List ℕ) (blockingData source config buffer transfer rca)
   unfolding blockingData transferData
-  data-obeys any source config transfer rca =
+  data-obeys any source config buffer transfer rca =
       on-closing
-      (on-then (start-obeys config transfer)
-      (λ _. on-then (receive-obeys _ _) (λ ws. on-then (end-obeys source config _ rca) (λ _. on-give))))
+      (on-then (start-obeys config buffer transfer)
+      (λ _. on-then (receive-obeys _ buffer _) (λ ws. on-then (end-obeys source config _ rca) (λ _. on-give))))
       (λ ws. on-give) (reset-rows any)

@@ -14,13 +14,13 @@ use Rattle.tape.specs.declared.progress.Pace.the-variants.{Going, Stopped}
 use Rattle.tape.specs.Layout.{rowOf, rowsOfPairs}
 use Rattle.tape.specs.Plan.{Plan, handle, ensure, until}
 use Rattle.tape.specs.Run.{After, after, noted, run}
-use Rattle.tape.specs.Steps.{word, row, waitIdle, setClken, resetController, stopData, dataFrom}
+use Rattle.tape.specs.Steps.{word, row, waitIdle, setClken, resetController, stopData, dataFrom, sendFrom}
 use Rattle.bus.specs.declared.response.Response.the-variants.{R1}
 use Rattle.bus.specs.declared.transfer.Transfer.{Transfer}
 use Rattle.bus.specs.Command.{formOf, zeros, issue, pollCompletion, waitCompletion, echo, responseWords, judge, answer}
 use Rattle.bus.specs.Command.{complete, commandInner, command}
 use Rattle.bus.specs.Ready.{retryDelay, readStatus, tryReady, waitReady}
-use Rattle.bus.specs.Transfer.{arm, startData, clean, pollTransfer, drained, settle, dataComplete, waitData, receive}
+use Rattle.bus.specs.Transfer.{incoming, outgoing, arm, readyData, orderData, beforeCommand, afterCommand, landed, startData, clean, pollTransfer, drained, settle, dataComplete, waitData, receive}
 use Rattle.bus.specs.Transfer.{closeGate, stopTransmission, endData, transferData, blockingData}
 
 -- a host whose CLKCR is this, gated or not
@@ -84,7 +84,7 @@ abbrev scr : Transfer
 scr = record { index = 51; argument = 0; «block_size» = 3; words = 2 }
 
 abbrev cmd51 : Line → ℕ → List ℕ → After (List ℕ)
-cmd51 = on [] (blockingData 8_000_000 config scr 0x1234)
+cmd51 = on [] (blockingData 8_000_000 config incoming scr 0x1234)
 
 -- idle, the command's idle wait, its response
 abbrev begun : List ℕ
@@ -112,6 +112,39 @@ pub transfers :
     ∷ []
 unfolding run rowsOfPairs handle ensure until noted word row waitIdle setClken formOf issue pollCompletion waitCompletion echo
     responseWords judge answer complete commandInner command retryDelay readStatus tryReady waitReady resetController
-    stopData dataFrom dataOf firstMatch arm startData clean pollTransfer drained settle dataComplete waitData receive
+    stopData dataFrom dataOf firstMatch arm readyData orderData beforeCommand afterCommand landed startData clean pollTransfer drained settle dataComplete waitData receive
     closeGate stopTransmission endData transferData blockingData
 transfers = refl
+
+-- CMD25 with two words to send: DCTRL comes behind the command, and then a row for each word
+abbrev two : Transfer
+two = record { index = 25; argument = 7; «block_size» = 9; words = 2 }
+
+abbrev cmd25 : Line → ℕ → List ℕ → After (List ℕ)
+cmd25 = on [] (blockingData 8_000_000 config (outgoing (0xaa ∷ 0xbb ∷ [])) two 0x1234)
+
+abbrev orderedRows : List ℕ
+orderedRows = 10 ∷ 0 ∷ 9 ∷ 0 ∷ 7 ∷ 0 ∷ 8 ∷ 0x73a ∷ 5 ∷ 5_000_000 ∷ 6 ∷ 8 ∷ 2 ∷ 260 ∷ 8 ∷ 0xc5 ∷ 3 ∷ 7 ∷ 4 ∷ 1113 ∷ []
+
+abbrev ordered : List ℕ
+ordered = 0 ∷ 0 ∷ 0x40 ∷ 25 ∷ 0x900 ∷ 0 ∷ 0 ∷ 0 ∷ []
+
+-- accepted, with no word taken and CMD12 behind it; a command that is refused leaves no DCTRL and no word; the room ends behind
+-- the first word; words that remain
+pub sends :
+    cmd25 (host false 260) 22 (ordered ++ 0x100 ∷ 0 ∷ 0x100 ∷ 0 ∷ 0 ∷ 0 ∷ 0x40 ∷ 12 ∷ 0 ∷ 0 ∷ 0 ∷ 0 ∷ 0 ∷ 0x40 ∷ 13 ∷ 0x900 ∷ 0 ∷ 0 ∷ 0 ∷ [])
+    ∷ cmd25 (host true 4) 20 (0 ∷ 0 ∷ 0x4 ∷ [])
+    ∷ cmd25 (host true 4) 12 ordered
+    ∷ cmd25 (host true 4) 23 (ordered ++ 0x100 ∷ 0 ∷ 0x100 ∷ 1 ∷ [])
+    ∷ []
+    ≡ after [] Going 27 22 (host false 260)
+    (rowsOfPairs (orderedRows ++ 7 ∷ 153 ∷ 12 ∷ 0xaa ∷ 12 ∷ 0xbb ∷ 9 ∷ 0 ∷ 7 ∷ 0 ∷ 8 ∷ 0x73a ∷ 8 ∷ 0xc5 ∷ 3 ∷ 0 ∷ 4 ∷ 1100 ∷ cmd13Rows))
+    ∷ after [] (Stopped (Refused E.Timeout)) 3 20 (host true 0) (rowsOfPairs (orderedRows ++ resetRows))
+    ∷ after [] (Stopped TraceFull) 8 12 (host true 260) (rowsOfPairs (orderedRows ++ 7 ∷ 153 ∷ 12 ∷ 0xaa ∷ []))
+    ∷ after [] (Stopped (Refused E.IncompleteTransfer)) 12 23 (host true 0) (rowsOfPairs (orderedRows ++ 7 ∷ 153 ∷ 12 ∷ 0xaa ∷ 12 ∷ 0xbb ∷ resetRows))
+    ∷ []
+unfolding run rowsOfPairs handle ensure until noted word row waitIdle setClken formOf issue pollCompletion waitCompletion echo
+    responseWords judge answer complete commandInner command retryDelay readStatus tryReady waitReady resetController
+    stopData sendFrom dataOf firstMatch arm readyData orderData beforeCommand afterCommand landed startData clean pollTransfer drained settle dataComplete waitData receive
+    closeGate stopTransmission endData transferData blockingData
+sends = refl

@@ -1,7 +1,7 @@
 -- The data phase, as a plan (the Rust's `start_data`, `data_complete` and `blocking_data`).
 use Prim.Native.Nat.{ℕ, _*_, _%_, _^_}
 use mathlib.Core.Bool.{Bool, true, false, cond, not, _||_}
-use mathlib.Core.List.{List}
+use mathlib.Core.List.{List, []}
 use lib.Dec.{eqb}
 use Rattle.types.specs.declared.config.Config.{Config}
 use Rattle.types.specs.declared.error.Error.the-variants as E
@@ -13,29 +13,55 @@ use Rattle.tape.specs.declared.script.Reading.the-variants as Reading
 use Rattle.tape.specs.Plan.{Nothing, Plan, give, look, _then_, guard, fail, ensure, until}
 use Rattle.tape.specs.Run.{State, does}
 use Rattle.tape.specs.Rows.{DTIMER, DLEN, DCTRL, DCTRL2, dctrlOf}
-use Rattle.tape.specs.Steps.{word, row, dataWords, waitIdle, resetController, stopData, setClken}
+use Rattle.tape.specs.Steps.{word, row, dataWords, sendWords, waitIdle, resetController, stopData, setClken}
 use Rattle.bus.specs.declared.response.Response.the-variants.{R1}
 use Rattle.bus.specs.declared.transfer.Transfer.{Transfer}
 use Rattle.bus.specs.Command.{commandInner, command}
 use Rattle.bus.specs.Ready.{waitReady}
 
--- DCTRL2 0, stop rows, DTIMER, DLEN in bytes, DCTRL
+-- which way the words go: from the card, or to it, and then what they are (the Rust's `Buffer`)
+pub data Buffer : Type 0 where
+  incoming : Buffer
+  outgoing : List ℕ → Buffer
+
+-- DCTRL2 0, stop rows, DTIMER, DLEN in bytes
 unfoldable pub arm : ℕ → Transfer → Plan Nothing
 arm timeout transfer =
     row DCTRL2 0
     then λ _. stopData
     then λ _. row DTIMER timeout
     then λ _. row DLEN (4 * transfer .words)
-    then λ _. row DCTRL (dctrlOf true (transfer .«block_size»))
 
--- idle wait, those rows, CLKCR on, the command (R1, its own gate unused)
-unfoldable pub startData : Config → Transfer → Plan Nothing
-startData config transfer =
-    waitIdle (config .«poll_limit») true
-    then λ _. arm (config .«data_transfer_timeout») transfer
-    then λ _. setClken true
-    then λ _. commandInner (config .«poll_limit») (transfer .index) (transfer .argument) R1
-    then λ _. give tt
+-- idle wait, those rows
+unfoldable pub readyData : Config → Transfer → Plan Nothing
+readyData config transfer = waitIdle (config .«poll_limit») true then λ _. arm (config .«data_transfer_timeout») transfer
+
+-- CLKCR on, the command (R1, its own gate unused)
+unfoldable pub orderData : Config → Transfer → Plan Nothing
+orderData config transfer =
+    setClken true then λ _. commandInner (config .«poll_limit») (transfer .index) (transfer .argument) R1 then λ _. give tt
+
+-- THE DIFFERENCE between reading and writing. The row of DCTRL, with its direction: a read's before the command; a write's after
+-- it, and then all data words
+unfoldable pub beforeCommand : Buffer → Transfer → Plan Nothing
+beforeCommand incoming transfer = row DCTRL (dctrlOf true (transfer .«block_size»))
+beforeCommand (outgoing ws) transfer = give tt
+
+unfoldable pub afterCommand : Buffer → Transfer → Plan Nothing
+afterCommand incoming transfer = give tt
+afterCommand (outgoing ws) transfer = row DCTRL (dctrlOf false (transfer .«block_size»)) then λ _. sendWords ws (transfer .words)
+
+-- and after the poll that completes: a read's data words straight after it, none in a write
+unfoldable pub landed : Buffer → ℕ → Plan (List ℕ)
+landed incoming count = dataWords count
+landed (outgoing ws) count = give []
+
+unfoldable pub startData : Config → Buffer → Transfer → Plan Nothing
+startData config buffer transfer =
+    readyData config transfer
+    then λ _. beforeCommand buffer transfer
+    then λ _. orderData config transfer
+    then λ _. afterCommand buffer transfer
 
 -- what `data_error` says of a status word
 abbrev pub heeded : DataAnswer → Plan Nothing
@@ -83,19 +109,21 @@ dataComplete = pollTransfer then λ first. cond (clear 0x4000_0000 (first .dma))
 unfoldable pub waitData : ℕ → Plan Nothing
 waitData limit = until limit (λ done. done) dataComplete then λ _. give tt
 
--- the data words straight after the poll that completes
-unfoldable pub receive : ℕ → ℕ → Plan (List ℕ)
-receive limit count = waitData limit then λ _. dataWords count
+unfoldable pub receive : ℕ → Buffer → ℕ → Plan (List ℕ)
+receive limit buffer count = waitData limit then λ _. landed buffer count
 
 -- CLKCR off if gated
 unfoldable pub closeGate : Plan Nothing
 closeGate = look (λ line. cond (line .gated) (setClken false) (give tt))
 
--- CMD12 after CMD18
-unfoldable pub stopTransmission : ℕ → ℕ → Plan Nothing
-stopTransmission limit index = cond (eqb index 18) (command limit 12 0 R1 then λ _. give tt) (give tt)
+-- CMD12 after CMD18, and after CMD25
+abbrev pub ofMany : ℕ → Bool
+ofMany index = eqb index 18 || eqb index 25
 
--- then stop rows, CLKCR off if gated, CMD12 after CMD18, ready wait
+unfoldable pub stopTransmission : ℕ → ℕ → Plan Nothing
+stopTransmission limit index = cond (ofMany index) (command limit 12 0 R1 then λ _. give tt) (give tt)
+
+-- then stop rows, CLKCR off if gated, CMD12, ready wait
 unfoldable pub endData : ℕ → Config → ℕ → ℕ → Plan Nothing
 endData source config index rca =
     stopData
@@ -103,20 +131,20 @@ endData source config index rca =
     then λ _. stopTransmission (config .«poll_limit») index
     then λ _. waitReady source config rca
 
-unfoldable pub transferData : ℕ → Config → Transfer → ℕ → Plan (List ℕ)
-transferData source config transfer rca =
-    startData config transfer
-    then λ _. receive (config .«poll_limit») (transfer .words)
+unfoldable pub transferData : ℕ → Config → Buffer → Transfer → ℕ → Plan (List ℕ)
+transferData source config buffer transfer rca =
+    startData config buffer transfer
+    then λ _. receive (config .«poll_limit») buffer (transfer .words)
     then λ ws. endData source config (transfer .index) rca
     then λ _. give ws
 
--- where the data words lie: behind the words used up to the poll that completes
+-- where a read's data words lie: behind the words used up to the poll that completes
 abbrev pub placeAfter : List ℕ → Plan Nothing → State → ℕ
 placeAfter s p w = does s (tt {0}) p w .state .progress .used
 
 abbrev pub dataPlace : List ℕ → Config → Transfer → State → ℕ
-dataPlace s config transfer w = placeAfter s (startData config transfer then λ _. waitData (config .«poll_limit»)) w
+dataPlace s config transfer w = placeAfter s (startData config incoming transfer then λ _. waitData (config .«poll_limit»)) w
 
 -- a refusal in a data phase: reset rows
-unfoldable pub blockingData : ℕ → Config → Transfer → ℕ → Plan (List ℕ)
-blockingData source config transfer rca = guard resetController (transferData source config transfer rca)
+unfoldable pub blockingData : ℕ → Config → Buffer → Transfer → ℕ → Plan (List ℕ)
+blockingData source config buffer transfer rca = guard resetController (transferData source config buffer transfer rca)

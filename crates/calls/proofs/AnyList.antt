@@ -5,6 +5,7 @@ use mathlib.Core.List.{List, [], _∷_}
 use mathlib.Core.Path.{_≡_, refl, ap, sym, _∙_}
 use native.Mathlib.Omega.{arith}
 use lib.Dec.{eqb, ltb}
+use lib.ListN.{length}
 use Rattle.types.specs.declared.card.AddressAnswer.{AddressAnswer}
 use Rattle.types.specs.declared.card.AddressAnswer.the-variants as Address
 use Rattle.types.specs.declared.card.Card.{Card}
@@ -18,7 +19,7 @@ use Rattle.types.specs.declared.error.Answer.the-variants as Answered
 use Rattle.types.specs.declared.error.Error.the-variants as E
 use Rattle.types.specs.Leaf.{addressOf, clockOf}
 use Rattle.types.specs.Settings.{madeOf}
-use Rattle.types.specs.Words.{sdStatusOf}
+use Rattle.types.specs.Words.{sdStatusOf, wordsOf}
 use Rattle.tape.specs.declared.progress.Halt.the-variants.{Refused, ScriptEnded, TraceFull}
 use Rattle.tape.specs.declared.progress.Pace.{Pace}
 use Rattle.tape.specs.declared.progress.Pace.the-variants.{Going, Stopped}
@@ -27,19 +28,20 @@ use Rattle.tape.specs.Plan.{Nothing, Cause, failed, ended, Plan}
 use Rattle.tape.specs.Run.{State, haltOf, run, runFrom}
 use Rattle.bus.specs.Command.{appCommand}
 use Rattle.bus.specs.Ready.{waitReady}
+use Rattle.bus.specs.Transfer.{Buffer, incoming, outgoing}
 use Rattle.init.specs.declared.settings.Settings.{Settings}
 use Rattle.init.specs.Initialise as I
 use Rattle.init.specs.Initialise.{sourceOf, limitOf, noCard}
 use Rattle.host.specs.Calls.{answerFor}
 use Rattle.refusals.proofs.InitRefusals.{found}
-use Rattle.refusals.proofs.Untouched.{read-16, status-16}
-use Rattle.refusals.proofs.Leaves.{Leaves, initialise-leaves, read-leaves, status-leaves}
+use Rattle.refusals.proofs.Untouched.{blocks-16, status-16}
+use Rattle.refusals.proofs.Leaves.{Leaves, initialise-leaves, blocks-leaves, status-leaves}
 use Rattle.host.specs.declared.host.Held.{Held}
 use Rattle.host.specs.declared.host.Sdmmc.{Sdmmc}
 use Rattle.host.specs.Calls.{Came, freshLine, hostOf, heldOf, holding, dropped, kept, ends, untouched, withStatus, initialised, initFrom}
-use Rattle.host.specs.Calls.{transferred, approached, served, readNext, readPlan, readFrom, readKnown, readCame, statusNext, statusPlan, statusFrom, statusCame}
+use Rattle.host.specs.Calls.{transferred, approached, served, blocksNext, blocksPlan, blocksFrom, blocksKnown, blocksCame, statusNext, statusPlan, statusFrom, statusCame}
 use Rattle.host.specs.Calls.{clockedHost, judgedHost, made}
-use Rattle.calls.specs.Serve.{Call, initialise, read, status, comes, Served, serve, foundFrom, foundBy, approach, none, approachOf, readApproach, going, passed, begun}
+use Rattle.calls.specs.Serve.{Call, initialise, read, write, status, comes, Served, serve, foundFrom, foundBy, approach, none, approachOf, addressed, blocksApproach, going, passed, begun}
 use Rattle.calls.specs.Serve.{Told, toldOf, leftOut, asNew, remaining, counted, history, holds, holdsNone, allowed, afterInitialise, afterData, afterCall, expected}
 
 -- What a call that came to x makes of the record that was held before: nothing where it is left out.
@@ -143,16 +145,18 @@ status-follows host s l = by (host .known) refl
         (λ ws. record { answer = heldOf host .answer; card = withStatus (heldOf host .card) (sdStatusOf ws) }) (λ w ws. rw k) s l
     by false k = refl
 
-read-follows : (host : Sdmmc) (index bytes : ℕ) (s : List ℕ) (l : List Row) → Follows host (ruleOf host (read index bytes s l)) (readCame host index bytes s l)
-unfolding readCame readKnown readFrom afterCall begun approachOf passed leftOut afterData
-read-follows host index bytes s l =
+-- a read or a write
+blocks-follows : (host : Sdmmc) (buffer : Buffer) (index bytes : ℕ) (s : List ℕ) (l : List Row)
+    → Follows host (λ r words. afterData r (passed (blocksApproach host index bytes) (host .line) s l) (heldOf host) (heldOf host)) (blocksCame host buffer index bytes s l)
+unfolding blocksCame blocksKnown blocksFrom blocksApproach passed leftOut afterData
+blocks-follows host buffer index bytes s l =
     by (host .known) (eqb (bytes % 512) 0) (addressOf (host .card .«card_type») (host .card .«block_count» .0) index (bytes / 512))
   where
     by : (b d : Bool) (a : AddressAnswer)
-        → Follows host (λ r words. afterData r (passed (cond (b && d) (readApproach host a) none) (host .line) s l) (heldOf host) (heldOf host))
-        (cond b (cond d (readFrom host (bytes / 512) a s l) (untouched host E.InvalidBufferLength l)) (untouched host E.NoCard l))
+        → Follows host (λ r words. afterData r (passed (cond (b && d) (addressed host a) none) (host .line) s l) (heldOf host) (heldOf host))
+        (cond b (cond d (blocksFrom host buffer (bytes / 512) a s l) (untouched host E.InvalidBufferLength l)) (untouched host E.NoCard l))
     by true true (Address.Address a) =
-        served-follows host (waitReady (sourceOf (host .settings)) (host .settings .config) (host .card .rca)) (readPlan host a (bytes / 512)) (readNext host)
+        served-follows host (waitReady (sourceOf (host .settings)) (host .settings .config) (host .card .rca)) (blocksPlan host buffer a (bytes / 512)) (blocksNext host)
         (λ ws. heldOf host) (λ w ws. refl) s l
     by true true (Address.Refused e) = refl
     by true false a = refl
@@ -164,9 +168,10 @@ Clockable set = (c : Clock) × (clockOf (sourceOf set) 400_000 false ≡ Clocked
 
 -- One call: what is held after it is what is expected from what was held before.
 follows : (host : Sdmmc) (c : Call) → Clockable (host .settings) → Follows host (ruleOf host c) (comes host c)
-unfolding comes afterCall Clockable
+unfolding comes afterCall begun approachOf Clockable
 follows host (initialise frequency s l) k = initialise-follows host frequency s l (k .0) (k .1)
-follows host (read index bytes s l) k = read-follows host index bytes s l
+follows host (read index bytes s l) k = blocks-follows host incoming index bytes s l
+follows host (write index bytes s l) k = blocks-follows host (outgoing (wordsOf bytes)) index (length bytes) s l
 follows host (status s l) k = status-follows host s l
 
 -- What every call keeps: its settings; and the whole host where it is left out.
@@ -174,17 +179,20 @@ follows host (status s l) k = status-follows host s l
 abbrev pub listOf : Call → List Row
 listOf (initialise frequency s l) = l
 listOf (read index bytes s l) = l
+listOf (write index bytes s l) = l
 listOf (status s l) = l
 
 abbrev pub scriptOf : Call → List ℕ
 scriptOf (initialise frequency s l) = s
 scriptOf (read index bytes s l) = s
+scriptOf (write index bytes s l) = s
 scriptOf (status s l) = s
 
 pub leaves : (host : Sdmmc) (c : Call) → Leaves host (scriptOf c) (listOf c) (comes host c)
 unfolding comes
 leaves host (initialise frequency s l) = initialise-leaves host frequency s l
-leaves host (read index bytes s l) = read-leaves host index bytes s l
+leaves host (read index bytes s l) = blocks-leaves host incoming index bytes s l
+leaves host (write index bytes s l) = blocks-leaves host (outgoing (wordsOf bytes)) index (length bytes) s l
 leaves host (status s l) = status-leaves host s l
 
 -- a call that is left out changes nothing of the host
@@ -315,14 +323,18 @@ none-known host e = by (host .known) (host .card) e
 
 pub read-of-none : (host : Sdmmc) → heldOf host ≡ holdsNone → (index bytes : ℕ) (s : List ℕ) (l : List Row) → comes host (read index bytes s l) ≡ untouched host E.NoCard l
 unfolding comes
-read-of-none host e index bytes s l = read-16 host s l index bytes (none-known host e)
+read-of-none host e index bytes s l = blocks-16 host s l incoming index bytes (none-known host e)
+
+pub write-of-none : (host : Sdmmc) → heldOf host ≡ holdsNone → (index : ℕ) (bytes s : List ℕ) (l : List Row) → comes host (write index bytes s l) ≡ untouched host E.NoCard l
+unfolding comes
+write-of-none host e index bytes s l = blocks-16 host s l (outgoing (wordsOf bytes)) index (length bytes) (none-known host e)
 
 pub status-of-none : (host : Sdmmc) → heldOf host ≡ holdsNone → (s : List ℕ) (l : List Row) → comes host (status s l) ≡ untouched host E.NoCard l
 unfolding comes
 status-of-none host e s l = status-16 host s l (none-known host e)
 
 -- after a refused initialisation of allowed frequency, or one whose script ended, whatever came before it, there is none: so a
--- read answers 16
+-- read answers 16, and a write
 module _ (set : Settings) (ok : made set .answer ≡ Answered.Accepted) (past : List Call) where
   abbrev pub used : Sdmmc
   used = serve (made set .host) past .host
@@ -339,6 +351,10 @@ module _ (set : Settings) (ok : made set .answer ≡ Answered.Accepted) (past : 
     pub read-after-a-bad-card : (index bytes : ℕ) (s′ : List ℕ) (l′ : List Row)
         → comes (comes used (initialise frequency s l) .host) (read index bytes s′ l′) ≡ untouched (comes used (initialise frequency s l) .host) E.NoCard l′
     read-after-a-bad-card = read-of-none (comes used (initialise frequency s l) .host) none-after-a-bad-card
+
+    pub write-after-a-bad-card : (index : ℕ) (bytes s′ : List ℕ) (l′ : List Row)
+        → comes (comes used (initialise frequency s l) .host) (write index bytes s′ l′) ≡ untouched (comes used (initialise frequency s l) .host) E.NoCard l′
+    write-after-a-bad-card = write-of-none (comes used (initialise frequency s l) .host) none-after-a-bad-card
 
 -- an accepted initialisation was of allowed frequency
 accepted-allowed : (host : Sdmmc) (frequency : ℕ) (s : List ℕ) (l : List Row) → comes host (initialise frequency s l) .answer ≡ Answered.Accepted → allowed frequency ≡ true

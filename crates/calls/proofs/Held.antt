@@ -6,6 +6,7 @@ use mathlib.Core.List.{List, [], _∷_}
 use mathlib.Core.Path.{_≡_, refl}
 use native.Mathlib.Omega.{arith}
 use lib.Dec.{eqb, ltb}
+use lib.ListN.{length}
 use Rattle.types.specs.declared.card.AddressAnswer.{AddressAnswer}
 use Rattle.types.specs.declared.card.AddressAnswer.the-variants as Address
 use Rattle.types.specs.declared.card.Card.{Card}
@@ -15,6 +16,7 @@ use Rattle.types.specs.declared.error.Answer.the-variants as Answered
 use Rattle.types.specs.declared.error.Error.the-variants as E
 use Rattle.types.specs.Leaf.{clockOf, addressOf}
 use Rattle.types.specs.Sd.{Counts}
+use Rattle.types.specs.Words.{wordsOf}
 use Rattle.tape.specs.declared.progress.Halt.the-variants.{Refused, ScriptEnded, TraceFull}
 use Rattle.tape.specs.declared.progress.Pace.{Pace}
 use Rattle.tape.specs.declared.progress.Pace.the-variants.{Going, Stopped}
@@ -22,6 +24,7 @@ use Rattle.tape.specs.declared.rows.Row.{Row}
 use Rattle.tape.specs.Plan.{Nothing, Plan}
 use Rattle.tape.specs.Run.{State, run, runFrom}
 use Rattle.tape.proofs.Laws.{by-cases}
+use Rattle.bus.specs.Transfer.{Buffer, incoming, outgoing}
 use Rattle.init.specs.declared.settings.Settings.{Settings}
 use Rattle.init.specs.Initialise as I
 use Rattle.init.specs.Initialise.{sourceOf, noCard}
@@ -29,8 +32,8 @@ use Rattle.init.proofs.Found.{Found}
 use Rattle.refusals.proofs.InitRefusals.{found}
 use Rattle.host.specs.declared.host.Sdmmc.{Sdmmc}
 use Rattle.host.specs.Calls.{Came, freshLine, heldOf, holding, dropped, kept, ends, untouched, initFrom, initialised, made}
-use Rattle.host.specs.Calls.{transferred, approached, served, readFrom, readKnown, readCame, readNext, readPlan, withStatus, statusNext, statusPlan, statusFrom, statusCame}
-use Rattle.calls.specs.Serve.{Call, initialise, read, status, comes, serve, holds, holdsNone}
+use Rattle.host.specs.Calls.{transferred, approached, served, blocksFrom, blocksKnown, blocksCame, blocksNext, blocksPlan, withStatus, statusNext, statusPlan, statusFrom, statusCame}
+use Rattle.calls.specs.Serve.{Call, initialise, read, write, status, comes, serve, holds, holdsNone}
 use Rattle.calls.proofs.AnyList.{made-host}
 
 module _ (P : Card → Type 0) (finds : (card : Card) → Found card → P card) (stays : (card : Card) (st : List ℕ) → P card → P (withStatus card st)) where
@@ -86,22 +89,23 @@ module _ (P : Card → Type 0) (finds : (card : Card) → Found card → P card)
         by true k = served-has _ (statusPlan host) (statusNext host) (λ w ws _. stays (host .card) _ (h k))
         by false k = h
 
-    read-has : (index bytes : ℕ) → Has (readCame host index bytes s l .host)
-    unfolding readCame readKnown readFrom
-    read-has index bytes =
+    blocks-has : (buffer : Buffer) (index bytes : ℕ) → Has (blocksCame host buffer index bytes s l .host)
+    unfolding blocksCame blocksKnown blocksFrom
+    blocks-has buffer index bytes =
         by-cases (λ (x : Came). Has (x .host)) (host .known) _ _
         (by-cases (λ (x : Came). Has (x .host)) (eqb (bytes % 512) 0) _ _
         (by (addressOf (host .card .«card_type») (host .card .«block_count» .0) index (bytes / 512))) h)
         h
       where
-        by : (a : AddressAnswer) → Has (readFrom host (bytes / 512) a s l .host)
+        by : (a : AddressAnswer) → Has (blocksFrom host buffer (bytes / 512) a s l .host)
         by (Address.Refused e) = h
-        by (Address.Address a) = served-has _ (readPlan host a (bytes / 512)) (readNext host) (λ w ws. h)
+        by (Address.Address a) = served-has _ (blocksPlan host buffer a (bytes / 512)) (blocksNext host) (λ w ws. h)
 
   comes-has : (host : Sdmmc) → Has host → (c : Call) → Has (comes host c .host)
   unfolding comes
   comes-has host h (initialise frequency s l) = init-has host h s l frequency
-  comes-has host h (read index bytes s l) = read-has host h s l index bytes
+  comes-has host h (read index bytes s l) = blocks-has host h s l incoming index bytes
+  comes-has host h (write index bytes s l) = blocks-has host h s l (outgoing (wordsOf bytes)) index (length bytes)
   comes-has host h (status s l) = status-has host h s l
 
   serve-has : (host : Sdmmc) → Has host → (cs : List Call) → Has (serve host cs .host)

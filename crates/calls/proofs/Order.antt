@@ -15,7 +15,7 @@ use Rattle.init.specs.declared.settings.Settings.{Settings}
 use Rattle.host.specs.declared.host.Held.{Held}
 use Rattle.host.specs.declared.host.Sdmmc.{Sdmmc}
 use Rattle.host.specs.Calls.{heldOf, made, statusCame, statusFrom, untouched, withStatus}
-use Rattle.calls.specs.Serve.{Call, initialise, read, status, comes, serve, Told, toldOf, leftOut, history, holds, holdsNone, allowed, afterInitialise, afterData, afterCall, expected}
+use Rattle.calls.specs.Serve.{Call, initialise, read, write, status, comes, serve, Told, toldOf, leftOut, history, holds, holdsNone, allowed, afterInitialise, afterData, afterCall, expected}
 use Rattle.calls.specs.Order.{accepted, refused, initialises, readsStatus, loses, lastRecord, since, lastStatus, lost, dueOf, due, Possible}
 use Rattle.calls.proofs.AnyList.{Clockable, made-clockable, leaves, after-a-call, record-held}
 
@@ -64,6 +64,11 @@ module _ (begun : Bool) (found : Card) (taken : List ℕ) (earlier : List Told) 
   step (read index bytes s l) Answered.ScriptEnded h = other (read index bytes s l) Answered.ScriptEnded begun refl refl refl
   step (read index bytes s l) Answered.TraceFull h = other (read index bytes s l) Answered.TraceFull false refl refl refl
   step (read index bytes s l) Answered.BadBook h = other (read index bytes s l) Answered.BadBook false refl refl refl
+  step (write index bytes s l) Answered.Accepted h = other (write index bytes s l) Answered.Accepted false refl refl refl
+  step (write index bytes s l) (Answered.Refused e) h = other (write index bytes s l) (Answered.Refused e) begun refl refl refl
+  step (write index bytes s l) Answered.ScriptEnded h = other (write index bytes s l) Answered.ScriptEnded begun refl refl refl
+  step (write index bytes s l) Answered.TraceFull h = other (write index bytes s l) Answered.TraceFull false refl refl refl
+  step (write index bytes s l) Answered.BadBook h = other (write index bytes s l) Answered.BadBook false refl refl refl
   step (status s l) Answered.Accepted h = statused s l (lastRecord earlier) (since earlier) (h refl)
   step (status s l) (Answered.Refused e) h = other (status s l) (Answered.Refused e) begun refl refl refl
   step (status s l) Answered.ScriptEnded h = other (status s l) Answered.ScriptEnded begun refl refl refl
@@ -82,6 +87,7 @@ held-there : (host : Sdmmc) (c : Call) → readsStatus c (comes host c .answer) 
 unfolding readsStatus comes statusCame accepted
 held-there host (initialise frequency s l) r = let z : _≡_ {A = ℕ} 0 1 = cc in absurd (omega arith)
 held-there host (read index bytes s l) r = let z : _≡_ {A = ℕ} 0 1 = cc in absurd (omega arith)
+held-there host (write index bytes s l) r = let z : _≡_ {A = ℕ} 0 1 = cc in absurd (omega arith)
 held-there host (status s l) r = by (host .known) r
   where
     by : (b : Bool) → accepted (cond b (statusFrom host s l) (untouched host E.NoCard l) .answer) ≡ true

@@ -1,4 +1,4 @@
--- 'A call whose data phase had begun', as a caller can see it: a refused read or status call, one whose script ended among them, had
+-- 'A call whose data phase had begun', as a caller can see it: a refused read, write or status call, one whose script ended among them, had
 -- begun its data phase exactly if the last rows that it wrote are the reset rows.
 use Prim.Native.Nat.{ℕ, _+_, _*_, _-_, _/_, _%_, _≤_}
 use mathlib.Core.Bool.{Bool, true, false, cond, _&&_}
@@ -6,13 +6,14 @@ use mathlib.Core.List.{List}
 use mathlib.Core.Path.{_≡_, refl, ap, sym, _∙_}
 use native.Mathlib.Omega.{arith}
 use lib.Dec.{eqb}
-use lib.ListN.{getD, take, drop}
+use lib.ListN.{length, getD, take, drop}
 use lib.Seq.{getD-take, getD-drop}
 use borrow.Author.Tests.{eqb-true, eqb-false}
 use Rattle.types.specs.declared.card.AddressAnswer.{AddressAnswer}
 use Rattle.types.specs.declared.card.AddressAnswer.the-variants as Address
 use Rattle.types.specs.declared.error.Error.{Error}
 use Rattle.types.specs.Leaf.{addressOf}
+use Rattle.types.specs.Words.{wordsOf}
 use Rattle.tape.specs.declared.progress.Pace.the-variants.{Going, Stopped}
 use Rattle.tape.specs.declared.rows.Row.{Row}
 use Rattle.tape.specs.Layout.{rowOf}
@@ -20,17 +21,18 @@ use Rattle.tape.specs.Plan.{Cause}
 use Rattle.tape.specs.Run.{State, haltOf}
 use Rattle.tape.proofs.Walk.{Rule, LastRow, starts-last}
 use Rattle.bus.specs.Command.{appCommand}
+use Rattle.bus.specs.Transfer.{Buffer, incoming, outgoing}
 use Rattle.bus.proofs.Walks.{Ordinary, app-obeys, ready-obeys}
 use Rattle.init.specs.Initialise.{sourceOf, limitOf}
 use Rattle.host.specs.declared.host.Sdmmc.{Sdmmc}
-use Rattle.host.specs.Calls.{Came, untouched, readCame, statusCame}
+use Rattle.host.specs.Calls.{Came, untouched, blocksCame, statusCame}
 use Rattle.host.specs.Calls.{answerFor}
 use Rattle.refusals.proofs.Guards.{resetRows}
 use Rattle.refusals.proofs.Reset.{ResetAfter, reset-last}
 use Rattle.refusals.proofs.DataRefusals as R
-use Rattle.refusals.proofs.DataRefusals.{RefusedIn, read-early, read-refused-in, read-refused-in-data, status-early, status-refused-in, status-refused-in-data}
-use Rattle.refusals.proofs.Untouched.{read-16, read-19-length, read-refused, status-16}
-use Rattle.calls.specs.Serve.{read, status, comes, approach, none, approachOf, readApproach, going, passed, begun}
+use Rattle.refusals.proofs.DataRefusals.{RefusedIn, blocks-early, blocks-refused-in, blocks-refused-in-data, status-early, status-refused-in, status-refused-in-data}
+use Rattle.refusals.proofs.Untouched.{blocks-16, blocks-19-length, blocks-refused, status-16}
+use Rattle.calls.specs.Serve.{read, write, status, comes, approach, none, approachOf, addressed, blocksApproach, going, passed, begun}
 
 -- the last ten of the rows that a call wrote are the reset rows
 pub record ResetLast (x : Came) : Type 0 where
@@ -89,11 +91,11 @@ module _ (host : Sdmmc) (s : List ℕ) (l : List Row) (e : Cause) where
           (λ g. after-reset (status-refused-in-data host s l k e g r))
       by false k = of-untouched (status-16 host s l k)
 
-  -- A read.
-  pub read-begun : (index bytes : ℕ) → comes host (read index bytes s l) .answer ≡ answerFor e
-      → Seen (begun host (read index bytes s l)) (comes host (read index bytes s l))
-  unfolding comes begun approachOf passed
-  read-begun index bytes r =
+  -- A read, and a write.
+  blocks-begun : (buffer : Buffer) (index bytes : ℕ) → blocksCame host buffer index bytes s l .answer ≡ answerFor e
+      → Seen (passed (blocksApproach host index bytes) (host .line) s l) (blocksCame host buffer index bytes s l)
+  unfolding blocksApproach passed
+  blocks-begun buffer index bytes r =
       by (host .known) (eqb (bytes % 512) 0) (addressOf (host .card .«card_type») (host .card .«block_count» .0) index (bytes / 512)) refl refl refl
     where
       whole : bytes % 512 ≡ 0 → 512 * (bytes / 512) ≡ bytes
@@ -101,17 +103,27 @@ module _ (host : Sdmmc) (s : List ℕ) (l : List Row) (e : Cause) where
 
       by : (b d : Bool) (a : AddressAnswer) → host .known ≡ b → eqb (bytes % 512) 0 ≡ d
           → addressOf (host .card .«card_type») (host .card .«block_count» .0) index (bytes / 512) ≡ a
-          → Seen (passed (cond (b && d) (readApproach host a) none) (host .line) s l) (readCame host index bytes s l)
+          → Seen (passed (cond (b && d) (addressed host a) none) (host .line) s l) (blocksCame host buffer index bytes s l)
       by true true (Address.Address a) k t place =
           let all = whole (eqb-true (bytes % 512) 0 t) in
-          let r′ : readCame host index (512 * (bytes / 512)) s l .answer ≡ answerFor e = rw all r in
+          let r′ : blocksCame host buffer index (512 * (bytes / 512)) s l .answer ≡ answerFor e = rw all r in
           of-refused (starts-last approachRule s (tt {0}) (host .line) l (ready-obeys approachRule (λ x o. tt) (λ row o. o) (sourceOf (host .settings)) (host .settings .config) (host .card .rca)) tt)
-          (read-refused-in host index (bytes / 512) a s l k place e r′)
+          (blocks-refused-in host buffer index (bytes / 512) a s l k place e r′)
           (λ g.
-          let same = rw all at (read-early host index (bytes / 512) a s l k place e g) in
+          let same = rw all at (blocks-early host buffer index (bytes / 512) a s l k place e g) in
           (ap (λ (x : Came). x .rows) same, ap (λ (x : Came). x .list) same))
-          (λ g. after-reset (rw all at (read-refused-in-data host index (bytes / 512) a s l k place e g r′)))
+          (λ g. after-reset (rw all at (blocks-refused-in-data host buffer index (bytes / 512) a s l k place e g r′)))
       by true true (Address.Refused x) k t place =
-          of-untouched (rw (whole (eqb-true (bytes % 512) 0 t)) at (read-refused host s l index (bytes / 512) x k place))
-      by true false a k t place = of-untouched (read-19-length host s l index bytes k (eqb-false (bytes % 512) 0 t))
-      by false d a k t place = of-untouched (read-16 host s l index bytes k)
+          of-untouched (rw (whole (eqb-true (bytes % 512) 0 t)) at (blocks-refused host s l buffer index (bytes / 512) x k place))
+      by true false a k t place = of-untouched (blocks-19-length host s l buffer index bytes k (eqb-false (bytes % 512) 0 t))
+      by false d a k t place = of-untouched (blocks-16 host s l buffer index bytes k)
+
+  pub read-begun : (index bytes : ℕ) → comes host (read index bytes s l) .answer ≡ answerFor e
+      → Seen (begun host (read index bytes s l)) (comes host (read index bytes s l))
+  unfolding comes begun approachOf
+  read-begun index bytes r = blocks-begun incoming index bytes r
+
+  pub write-begun : (index : ℕ) (bytes : List ℕ) → comes host (write index bytes s l) .answer ≡ answerFor e
+      → Seen (begun host (write index bytes s l)) (comes host (write index bytes s l))
+  unfolding comes begun approachOf
+  write-begun index bytes r = blocks-begun (outgoing (wordsOf bytes)) index (length bytes) r

@@ -1,12 +1,14 @@
--- A read and a status call leave clock, signalling and gate as they were: of what the host holds of its line, their plans
+-- A read, a write and a status call leave clock, signalling and gate as they were: of what the host holds of its line, their plans
 -- change no more than CLKCR, by its rows.
 use Prim.Native.Nat.{ℕ, _/_, _%_}
 use mathlib.Core.List.{List, []}
 use mathlib.Core.Path.{_≡_, refl}
 use lib.Dec.{eqb}
+use lib.ListN.{length}
 use Rattle.types.specs.declared.card.AddressAnswer.{AddressAnswer}
 use Rattle.types.specs.declared.card.AddressAnswer.the-variants as Address
 use Rattle.types.specs.Leaf.{addressOf}
+use Rattle.types.specs.Words.{wordsOf}
 use Rattle.tape.specs.declared.progress.Halt.the-variants.{Refused, ScriptEnded, TraceFull}
 use Rattle.tape.specs.declared.progress.Line.{Line}
 use Rattle.tape.specs.declared.progress.Pace.{Pace}
@@ -19,11 +21,11 @@ use Rattle.tape.proofs.Walk.{Rule, Obeys, run-obeys}
 use Rattle.bus.specs.Command.{appCommand}
 use Rattle.bus.specs.Ready.{waitReady}
 use Rattle.bus.specs.declared.transfer.Transfer.{Transfer}
-use Rattle.bus.specs.Transfer.{blockingData}
+use Rattle.bus.specs.Transfer.{Buffer, incoming, outgoing, blockingData}
 use Rattle.bus.proofs.Walks.{app-obeys, ready-obeys, data-obeys}
 use Rattle.init.specs.Initialise.{sourceOf, limitOf}
 use Rattle.host.specs.declared.host.Sdmmc.{Sdmmc}
-use Rattle.host.specs.Calls.{Came, dropped, kept, ends, transferred, approached, served, readTransfer, readPlan, readNext, readFrom, readKnown, readCame, statusTransfer, statusPlan, statusNext, statusCame}
+use Rattle.host.specs.Calls.{Came, dropped, kept, ends, transferred, approached, served, blocksTransfer, blocksPlan, blocksNext, blocksFrom, blocksKnown, blocksCame, statusTransfer, statusPlan, statusNext, statusCame}
 use Rattle.calls.specs.Serve as S
 use Rattle.calls.specs.Serve.{comes, SameLine}
 
@@ -66,8 +68,8 @@ served-steady host plan transfer next s l p t e = by (w .progress .pace)
         ends-steady host (dropped host (x .state)) (next (x .state) (x .value)) (x .value) (x .state .progress .pace) (x .state) far (rw (e (x .state) (x .value)) far)
     by (Stopped h) = ends-steady host (kept host w) host [] (Stopped h) w near unmoved
 
-data-steady : (host : Sdmmc) (transfer : Transfer) → Obeys (lineRule (host .line)) (List ℕ) (blockingData (sourceOf (host .settings)) (host .settings .config) transfer (host .card .rca))
-data-steady host transfer = data-obeys (lineRule (host .line)) (λ e o. tt) (λ r o. tt) (λ r. tt) _ _ transfer _
+data-steady : (host : Sdmmc) (buffer : Buffer) (transfer : Transfer) → Obeys (lineRule (host .line)) (List ℕ) (blockingData (sourceOf (host .settings)) (host .settings .config) buffer transfer (host .card .rca))
+data-steady host buffer transfer = data-obeys (lineRule (host .line)) (λ e o. tt) (λ r o. tt) (λ r. tt) _ _ buffer transfer _
 
 -- 'a status read that also changes the clock' is none of ours
 pub status-keeps-the-clock : (host : Sdmmc) (s : List ℕ) (l : List Row) → SameLine (host .line) (comes host (S.status s l) .host .line)
@@ -75,20 +77,28 @@ unfolding comes statusCame
 status-keeps-the-clock host s l =
     by-cases (λ (x : Came). SameLine (host .line) (x .host .line)) (host .known) _ _
     (served-steady host (appCommand (limitOf (host .settings)) (host .card .rca)) (statusPlan host) (statusNext host) s l
-    (app-obeys (lineRule (host .line)) (λ e o. tt) (λ r o. tt) tt _ _) (data-steady host statusTransfer) (λ w ws. refl))
+    (app-obeys (lineRule (host .line)) (λ e o. tt) (λ r o. tt) tt _ _) (data-steady host incoming statusTransfer) (λ w ws. refl))
     unmoved
 
-pub read-keeps-the-clock : (host : Sdmmc) (index bytes : ℕ) (s : List ℕ) (l : List Row) → SameLine (host .line) (comes host (S.read index bytes s l) .host .line)
-unfolding comes readCame readKnown readFrom
-read-keeps-the-clock host index bytes s l =
+blocks-steady : (host : Sdmmc) (buffer : Buffer) (index bytes : ℕ) (s : List ℕ) (l : List Row) → SameLine (host .line) (blocksCame host buffer index bytes s l .host .line)
+unfolding blocksCame blocksKnown blocksFrom
+blocks-steady host buffer index bytes s l =
     by-cases (λ (x : Came). SameLine (host .line) (x .host .line)) (host .known) _ _
     (by-cases (λ (x : Came). SameLine (host .line) (x .host .line)) (eqb (bytes % 512) 0) _ _
     (by (addressOf (host .card .«card_type») (host .card .«block_count» .0) index (bytes / 512)))
     unmoved)
     unmoved
   where
-    by : (a : AddressAnswer) → SameLine (host .line) (readFrom host (bytes / 512) a s l .host .line)
+    by : (a : AddressAnswer) → SameLine (host .line) (blocksFrom host buffer (bytes / 512) a s l .host .line)
     by (Address.Refused e) = unmoved
     by (Address.Address a) =
-        served-steady host (waitReady (sourceOf (host .settings)) (host .settings .config) (host .card .rca)) (readPlan host a (bytes / 512)) (readNext host) s l
-        (ready-obeys (lineRule (host .line)) (λ e o. tt) (λ r o. tt) _ _ _) (data-steady host (readTransfer a (bytes / 512))) (λ w ws. refl)
+        served-steady host (waitReady (sourceOf (host .settings)) (host .settings .config) (host .card .rca)) (blocksPlan host buffer a (bytes / 512)) (blocksNext host) s l
+        (ready-obeys (lineRule (host .line)) (λ e o. tt) (λ r o. tt) _ _ _) (data-steady host buffer (blocksTransfer buffer a (bytes / 512))) (λ w ws. refl)
+
+pub read-keeps-the-clock : (host : Sdmmc) (index bytes : ℕ) (s : List ℕ) (l : List Row) → SameLine (host .line) (comes host (S.read index bytes s l) .host .line)
+unfolding comes
+read-keeps-the-clock host index bytes s l = blocks-steady host incoming index bytes s l
+
+pub write-keeps-the-clock : (host : Sdmmc) (index : ℕ) (bytes s : List ℕ) (l : List Row) → SameLine (host .line) (comes host (S.write index bytes s l) .host .line)
+unfolding comes
+write-keeps-the-clock host index bytes s l = blocks-steady host (outgoing (wordsOf bytes)) index (length bytes) s l

@@ -5,23 +5,26 @@ use mathlib.Core.List.{List, []}
 use mathlib.Core.Path.{_≡_, refl, ap, _∙_}
 use native.Mathlib.Omega.{arith}
 use lib.Dec.{eqb, ltb}
+use lib.ListN.{length}
 use borrow.Author.Tests.{ltb-false}
 use Rattle.types.specs.declared.config.ConfigAnswer.the-variants as Judged
 use Rattle.types.specs.declared.error.Answer.the-variants as Answered
 use Rattle.types.specs.declared.error.Error.the-variants as E
 use Rattle.types.specs.Answer.{errorTold}
 use Rattle.types.specs.Settings.{madeOf}
+use Rattle.bus.specs.Transfer.{incoming, outgoing}
 use Rattle.init.specs.declared.settings.Settings.{Settings}
+use Rattle.types.specs.Words.{wordsOf}
 use Rattle.tape.proofs.Words.{reach}
 use Rattle.init.specs.Initialise.{sourceOf, noCard}
 use Rattle.refusals.specs.Fields.{CarriesField}
-use Rattle.refusals.specs.Whole.{initWhole, readWhole, statusWhole}
-use Rattle.refusals.proofs.Ended.{Ended, initialise-ended, read-ended, status-ended}
-use Rattle.refusals.proofs.Fields.{initialise-field, read-field, status-field}
-use Rattle.refusals.proofs.Whole.{Whence17, wouldWrite, initialise-17, read-not-17, status-not-17}
+use Rattle.refusals.specs.Whole.{initWhole, blocksWhole, statusWhole}
+use Rattle.refusals.proofs.Ended.{Ended, initialise-ended, blocks-ended, status-ended}
+use Rattle.refusals.proofs.Fields.{initialise-field, blocks-field, status-field}
+use Rattle.refusals.proofs.Whole.{Whence17, wouldWrite, initialise-17, blocks-not-17, status-not-17}
 use Rattle.host.specs.declared.host.Sdmmc.{Sdmmc}
 use Rattle.host.specs.Calls.{judgedHost, made}
-use Rattle.calls.specs.Serve.{Call, initialise, read, status, comes, serve}
+use Rattle.calls.specs.Serve.{Call, initialise, read, write, status, comes, serve}
 use Rattle.calls.proofs.AnyList.{scriptOf, Clockable, made-clockable, made-host, settings-stay}
 
 -- a host is made of a source of 2 Hz or more
@@ -43,6 +46,7 @@ made-source set r =
 abbrev pub From17 : Sdmmc → Call → Type 0
 From17 host (initialise frequency s l) = Whence17 host frequency
 From17 host (read index bytes s l) = ⊥
+From17 host (write index bytes s l) = ⊥
 From17 host (status s l) = ⊥
 
 -- how far the call comes in its script, and what it then answers (refusals/proofs/Ended.antt)
@@ -51,8 +55,11 @@ EndedAs host (initialise frequency s l) =
     let p = initWhole host frequency in
     Ended s l (reach s p 0 (host .line)) (wouldWrite s noCard p (host .line)) (comes host (initialise frequency s l))
 EndedAs host (read index bytes s l) =
-    let p = readWhole host index bytes in
+    let p = blocksWhole host incoming index bytes in
     Ended s l (reach s p 0 (host .line)) (wouldWrite s [] p (host .line)) (comes host (read index bytes s l))
+EndedAs host (write index bytes s l) =
+    let p = blocksWhole host (outgoing (wordsOf bytes)) index (length bytes) in
+    Ended s l (reach s p 0 (host .line)) (wouldWrite s [] p (host .line)) (comes host (write index bytes s l))
 EndedAs host (status s l) =
     let p = statusWhole host in
     Ended s l (reach s p 0 (host .line)) (wouldWrite s [] p (host .line)) (comes host (status s l))
@@ -74,19 +81,22 @@ module _ (set : Settings) (ok : made set .answer ≡ Answered.Accepted) (past : 
   pub at-its-end : (c : Call) → EndedAs host c
   unfolding comes Clockable
   at-its-end (initialise frequency s l) = initialise-ended host s l from2 (clockable .0) (clockable .1) frequency
-  at-its-end (read index bytes s l) = read-ended host s l index bytes
+  at-its-end (read index bytes s l) = blocks-ended host s l incoming index bytes
+  at-its-end (write index bytes s l) = blocks-ended host s l (outgoing (wordsOf bytes)) index (length bytes)
   at-its-end (status s l) = status-ended host s l
 
   -- no call is ever refused by the delay's own BadClock
   pub never-by-the-delay : (c : Call) → comes host c .answer ≡ Answered.Refused E.BadClock → From17 host c
   unfolding comes Clockable errorTold
   never-by-the-delay (initialise frequency s l) = initialise-17 host from2 (clockable .0) (clockable .1) frequency s l
-  never-by-the-delay (read index bytes s l) = λ r. read-not-17 host s l index bytes E.BadClock r refl
+  never-by-the-delay (read index bytes s l) = λ r. blocks-not-17 host s l incoming index bytes E.BadClock r refl
+  never-by-the-delay (write index bytes s l) = λ r. blocks-not-17 host s l (outgoing (wordsOf bytes)) index (length bytes) E.BadClock r refl
   never-by-the-delay (status s l) = λ r. status-not-17 host s l E.BadClock r refl
 
 -- A 13 carries the field of the step that refused, whatever the call and the host.
 pub carries-field : (host : Sdmmc) (c : Call) → CarriesField (scriptOf c) (comes host c)
 unfolding comes
 carries-field host (initialise frequency s l) = initialise-field host s l frequency
-carries-field host (read index bytes s l) = read-field host s l index bytes
+carries-field host (read index bytes s l) = blocks-field host s l incoming index bytes
+carries-field host (write index bytes s l) = blocks-field host s l (outgoing (wordsOf bytes)) index (length bytes)
 carries-field host (status s l) = status-field host s l

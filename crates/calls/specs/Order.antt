@@ -13,7 +13,7 @@ use Rattle.types.specs.declared.error.Answer.the-variants as Answered
 use Rattle.types.specs.Words.{sdStatusOf}
 use Rattle.host.specs.declared.host.Held.{Held}
 use Rattle.host.specs.Calls.{withStatus}
-use Rattle.calls.specs.Serve.{Call, initialise, read, status, Told, holds, holdsNone, allowed}
+use Rattle.calls.specs.Serve.{Call, initialise, read, write, status, Told, holds, holdsNone, allowed}
 
 unfoldable pub accepted : Answer → Bool
 accepted Answered.Accepted = true
@@ -34,18 +34,21 @@ refused Answered.BadBook = false
 unfoldable pub initialises : Call → Answer → Bool
 initialises (initialise frequency s l) answer = accepted answer
 initialises (read index bytes s l) answer = false
+initialises (write index bytes s l) answer = false
 initialises (status s l) answer = false
 
 -- an accepted status read
 unfoldable pub readsStatus : Call → Answer → Bool
 readsStatus (initialise frequency s l) answer = false
 readsStatus (read index bytes s l) answer = false
+readsStatus (write index bytes s l) answer = false
 readsStatus (status s l) answer = accepted answer
 
 -- 'an initialisation of allowed frequency, or a call whose data phase had begun, was refused'
 unfoldable pub loses : Call → Answer → Bool → Bool
 loses (initialise frequency s l) answer begun = refused answer && allowed frequency
 loses (read index bytes s l) answer begun = refused answer && begun
+loses (write index bytes s l) answer begun = refused answer && begun
 loses (status s l) answer begun = refused answer && begun
 
 -- the record of the last accepted initialisation, and the calls since it

@@ -7,7 +7,7 @@ use mathlib.Core.Bool.{Bool, true, false, cond, not, _&&_, _||_}
 use mathlib.Core.List.{List, [], _∷_}
 use mathlib.Core.Path.{_≡_}
 use lib.Dec.{eqb, ltb}
-use lib.ListN.{replicate}
+use lib.ListN.{length, replicate}
 use Rattle.types.specs.declared.card.AddressAnswer.{AddressAnswer}
 use Rattle.types.specs.declared.card.AddressAnswer.the-variants as Address
 use Rattle.types.specs.declared.card.Card.{Card}
@@ -31,18 +31,20 @@ use Rattle.init.specs.Initialise as I
 use Rattle.init.specs.Initialise.{sourceOf, limitOf, noCard}
 use Rattle.host.specs.declared.host.Held.{Held}
 use Rattle.host.specs.declared.host.Sdmmc.{Sdmmc}
-use Rattle.host.specs.Calls.{Came, freshLine, initialised, readCame, statusCame, withStatus}
+use Rattle.host.specs.Calls.{Came, freshLine, initialised, readCame, writeCame, statusCame, withStatus}
 
 -- a call: what is asked, its script, and its row list
 pub data Call : Type 0 where
   initialise : (frequency : ℕ) (script : List ℕ) (list : List Row) → Call
   read : (index bytes : ℕ) (script : List ℕ) (list : List Row) → Call
+  write : (index : ℕ) (bytes : List ℕ) (script : List ℕ) (list : List Row) → Call
   status : (script : List ℕ) (list : List Row) → Call
 
 -- what it comes to on a host: what the contract of its method says
 unfoldable pub comes : Sdmmc → Call → Came
 comes host (initialise frequency s l) = initialised host frequency s l
 comes host (read index bytes s l) = readCame host index bytes s l
+comes host (write index bytes s l) = writeCame host index bytes s l
 comes host (status s l) = statusCame host s l
 
 -- a list of calls, each on the host that the one before it left: what each came to, and the last host
@@ -67,22 +69,28 @@ foundFrom set frequency (Clocked.Set c) s l = run s noCard (I.initialise set c f
 unfoldable pub foundBy : Settings → Call → Card
 foundBy set (initialise frequency s l) = foundFrom set frequency (clockOf (sourceOf set) 400_000 false) s l
 foundBy set (read index bytes s l) = noCard
+foundBy set (write index bytes s l) = noCard
 foundBy set (status s l) = noCard
 
--- the place before a data phase: the ready wait of a read, and CMD55 of a status call, end there
+-- the place before a data phase: the ready wait of a read or a write, and CMD55 of a status call, end there
 pub data Approach : Type 0 where
   none : Approach
   approach : Plan Nothing → Approach
 
-abbrev pub readApproach : Sdmmc → AddressAnswer → Approach
-readApproach host (Address.Refused e) = none
-readApproach host (Address.Address a) = approach (waitReady (sourceOf (host .settings)) (host .settings .config) (host .card .rca))
+abbrev pub addressed : Sdmmc → AddressAnswer → Approach
+addressed host (Address.Refused e) = none
+addressed host (Address.Address a) = approach (waitReady (sourceOf (host .settings)) (host .settings .config) (host .card .rca))
+
+-- of so many bytes from a block on
+unfoldable pub blocksApproach : Sdmmc → ℕ → ℕ → Approach
+blocksApproach host index bytes =
+    cond (host .known && eqb (bytes % 512) 0)
+    (addressed host (addressOf (host .card .«card_type») (host .card .«block_count» .0) index (bytes / 512))) none
 
 unfoldable pub approachOf : Sdmmc → Call → Approach
 approachOf host (initialise frequency s l) = none
-approachOf host (read index bytes s l) =
-    cond (host .known && eqb (bytes % 512) 0)
-    (readApproach host (addressOf (host .card .«card_type») (host .card .«block_count» .0) index (bytes / 512))) none
+approachOf host (read index bytes s l) = blocksApproach host index bytes
+approachOf host (write index bytes s l) = blocksApproach host index (length bytes)
 approachOf host (status s l) = cond (host .known) (approach (appCommand (limitOf (host .settings)) (host .card .rca))) none
 
 unfoldable pub going : Pace → Bool
@@ -97,6 +105,7 @@ passed (approach p) line s l = going (run s (tt {0}) p 0 0 line l .state .progre
 unfoldable pub begun : Sdmmc → Call → Bool
 begun host (initialise frequency s l) = passed (approachOf host (initialise frequency s l)) (host .line) s l
 begun host (read index bytes s l) = passed (approachOf host (read index bytes s l)) (host .line) s l
+begun host (write index bytes s l) = passed (approachOf host (write index bytes s l)) (host .line) s l
 begun host (status s l) = passed (approachOf host (status s l)) (host .line) s l
 
 -- a call's outcome: its answer, whether its data phase had begun, the record it found, the data words it took
@@ -191,6 +200,7 @@ afterData Answered.BadBook begun accepted before = before
 unfoldable pub afterCall : Call → Told → Held → Held
 afterCall (initialise frequency s l) t before = afterInitialise frequency (t .answer) (t .found) before
 afterCall (read index bytes s l) t before = afterData (t .answer) (t .begun) before before
+afterCall (write index bytes s l) t before = afterData (t .answer) (t .begun) before before
 afterCall (status s l) t before =
     afterData (t .answer) (t .begun) (record { answer = before .answer; card = withStatus (before .card) (sdStatusOf (t .taken)) }) before
 

@@ -20,7 +20,8 @@ use Rattle.calls.specs.Serve as S
 use Rattle.calls.specs.Serve.{comes, serve}
 use Rattle.calls.proofs.AnyList.{leaves, scriptOf, listOf}
 use Rattle.book.specs.Layout as L
-use Rattle.book.specs.Layout.{wordsOf, countOf, contentsOf, callsOf, bookIn, badWords, badBook, bookOf}
+use Rattle.types.specs.Words.{wordsOf}
+use Rattle.book.specs.Layout.{dataCount, countOf, contentsOf, callsOf, bookIn, badWords, badBook, bookOf}
 use Rattle.book.specs.Lines.{hostLine, answerText, callLine}
 use Rattle.book.proofs.Short.{answer-number, answer-short}
 use Rattle.book.proofs.Causes.{good-words, or-right}
@@ -71,10 +72,14 @@ call-line k a words rows hk hw hr =
 -- A call: it uses no more words than its script has, and writes no more rows than there is room for.
 
 script-of : (c : L.Call) → scriptOf (callOf 4096 c) ≡ c .script
-script-of c = by-cases (λ (x : S.Call). scriptOf x ≡ c .script) (eqb (c .kind) 1) _ _ refl (by-cases (λ (x : S.Call). scriptOf x ≡ c .script) (eqb (c .kind) 2) _ _ refl refl)
+script-of c =
+    let its : S.Call → Type 0 = λ x. scriptOf x ≡ c .script in
+    by-cases its (eqb (c .kind) 1) _ _ refl (by-cases its (eqb (c .kind) 2) _ _ refl (by-cases its (eqb (c .kind) 4) _ _ refl refl))
 
 list-of : (c : L.Call) → listOf (callOf 4096 c) ≡ rowsIn (replicate 4096 0)
-list-of c = by-cases (λ (x : S.Call). listOf x ≡ rowsIn (replicate 4096 0)) (eqb (c .kind) 1) _ _ refl (by-cases (λ (x : S.Call). listOf x ≡ rowsIn (replicate 4096 0)) (eqb (c .kind) 2) _ _ refl refl)
+list-of c =
+    let its : S.Call → Type 0 = λ x. listOf x ≡ rowsIn (replicate 4096 0) in
+    by-cases its (eqb (c .kind) 1) _ _ refl (by-cases its (eqb (c .kind) 2) _ _ refl (by-cases its (eqb (c .kind) 4) _ _ refl refl))
 
 came-line : (host : Sdmmc) (c : L.Call) (k : ℕ) → k ≤ 64 → length (c .script) ≤ 4096 → length (cameLine k (comes host (callOf 4096 c))) ≤ 42
 came-line host c k hk hs =
@@ -98,12 +103,12 @@ lines host k (c ∷ cs) (more _ _ short rest) h =
     let others = lines (comes host (callOf 4096 c) .host) (k + 1) cs rest (omega (arith, h)) in
     rw length-append (omega (arith, first, others))
 
-calls : (n : ℕ) (rows scripts : List ℕ) → length scripts ≤ 4096 → Short (callsOf n rows scripts) × (length (callsOf n rows scripts) ≡ n)
+calls : (n : ℕ) (rows bodies : List ℕ) → length bodies ≤ 4096 → Short (callsOf n rows bodies) × (length (callsOf n rows bodies) ≡ n)
 unfolding callsOf
-calls zero rows scripts h = (done, refl)
-calls (suc n) rows scripts h =
-    let rest = calls n (drop 4 rows) (drop (getD rows 3 0) scripts) (rw length-drop (omega arith)) in
-    let short : length (take (getD rows 3 0) scripts) ≤ 4096 = rw length-take (omega (arith, h)) in
+calls zero rows bodies h = (done, refl)
+calls (suc n) rows bodies h =
+    let rest = calls n (drop 4 rows) (drop (getD rows 3 0) bodies) (rw length-drop (omega arith)) in
+    let short : length (drop (dataCount (getD rows 0 0) (getD rows 2 0)) (take (getD rows 3 0) bodies)) ≤ 4096 = rw (length-drop, length-take) (omega (arith, h)) in
     (more _ _ short (rest .0), ap suc (rest .1))
 
 book-lines : (ws : List ℕ) → badWords ws ≡ false → length (bookLines (bookIn ws)) ≤ 4096

@@ -1,10 +1,10 @@
 -- Lines, computed from the definitions.
-use mathlib.Core.Bool.{true}
+use mathlib.Core.Bool.{true, false}
 use mathlib.Core.Path.{_≡_, refl}
 use mathlib.Core.List.{[]}
 use Rattle.text.specs.Digits.{decimalIn, decimalOf, hexOf}
 use Rattle.text.specs.Typed.{typed}
-use Rattle.tape.specs.Rows.{CMD, DCTRL, DCTRL2, cmdOf, dctrlOf}
+use Rattle.tape.specs.Rows.{CMD, DCTRL, DCTRL2, FIFO, cmdOf, dctrlOf}
 use Rattle.tape.specs.declared.script.Reading.the-variants as Reading
 use Rattle.events.specs.declared.event.Event.the-variants.{Read, Missed, Wrote}
 use Rattle.events.specs.Event.{eventText}
@@ -23,6 +23,15 @@ blocks : rowMeaning DCTRL (dctrlOf true 9) ≡ typed "  reads blocks of 512 byte
 unfolding rowTable firstLine rowMeaning decimalIn decimalOf
 blocks = refl
 
+-- a write's, and a word of its data
+written : rowMeaning DCTRL (dctrlOf false 9) ≡ typed "  writes blocks of 512 bytes"
+unfolding rowTable firstLine rowMeaning decimalIn decimalOf
+written = refl
+
+sent : eventText (Wrote (record { register = FIFO; value = 1101 })) ≡ typed "row 12 1101  data to the card\n"
+unfolding eventText rowTable firstLine rowMeaning decimalIn decimalOf
+sent = refl
+
 unsaid : rowMeaning DCTRL2 0 ≡ []
 unfolding rowTable firstLine rowMeaning
 unsaid = refl
@@ -31,7 +40,7 @@ late : eventText (Read Reading.Status 4) ≡ typed "read status 0x00000004  no r
 unfolding eventText flags flagsText readingMeaning hexOf
 late = refl
 
-several : readingMeaning Reading.Status 0x2140 ≡ typed "  response came, all data has come, data under way"
+several : readingMeaning Reading.Status 0x2140 ≡ typed "  response came, all data transferred, data under way"
 unfolding flags flagsText readingMeaning
 several = refl
 

@@ -1,6 +1,6 @@
--- THE TABLE: what each event of a call means for people, in document 01's words. A meaning is true of the register and the
+-- THE TABLE: what each event of a call means for people, in document 01's and request P5's words. A meaning is true of the register and the
 -- value, or of the kind and the word, wherever in a call they come: an index after CMD55 is an ACMD's, and still `CMDn` here.
-use Prim.Native.Nat.{ℕ, _*_, _%_, _^_}
+use Prim.Native.Nat.{ℕ, _%_, _^_}
 use Prim.Native.String.{String}
 use mathlib.Core.Bool.{Bool, true, false, cond, not, _&&_}
 use mathlib.Core.List.{List, [], _∷_, _++_}
@@ -11,7 +11,7 @@ use Rattle.text.specs.Typed.{typed}
 use Rattle.types.specs.Bits.{bits, bit, clear}
 use Rattle.tape.specs.declared.script.Reading.{Reading}
 use Rattle.tape.specs.declared.script.Reading.the-variants.{Status, RespCmd, Response, Dma, DCount, Data}
-use Rattle.tape.specs.Rows.{POWER, CLKCR, ARG, CMD, DTIMER, DLEN, DCTRL, ICR, MASK, DELAY}
+use Rattle.tape.specs.Rows.{POWER, CLKCR, ARG, CMD, DTIMER, DLEN, DCTRL, ICR, MASK, DELAY, FIFO}
 
 -- behind two spaces
 abbrev pub says : List ℕ → List ℕ
@@ -61,6 +61,7 @@ rowTable value =
     ∷ line ICR always (typed "flags cleared")
     ∷ line MASK (eqb value 0) (typed "interrupts off")
     ∷ line DELAY always (typed "waits " ++ counted value (typed " spin"))
+    ∷ line FIFO always (typed "data to the card")
     ∷ []
 
 unfoldable pub firstLine : ℕ → List Line → List ℕ
@@ -90,7 +91,7 @@ flags =
     ∷ flag 0x20 "data came faster than it was taken"
     ∷ flag 0x10 "data to send was not there in time"
     ∷ flag 0x200 "no start bit on a data line"
-    ∷ flag 0x100 "all data has come"
+    ∷ flag 0x100 "all data transferred"
     ∷ flag 0x800 "command under way"
     ∷ flag 0x3000 "data under way"
     ∷ []

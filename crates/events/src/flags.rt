@@ -52,7 +52,7 @@ fn put_flag(out: &mut [u8], at: usize, i: usize) -> usize
         6 => pen::put(out, at, b"data came faster than it was taken"),
         7 => pen::put(out, at, b"data to send was not there in time"),
         8 => pen::put(out, at, b"no start bit on a data line"),
-        9 => pen::put(out, at, b"all data has come"),
+        9 => pen::put(out, at, b"all data transferred"),
         10 => pen::put(out, at, b"command under way"),
         11 => pen::put(out, at, b"data under way"),
         _ => pen::least(at, out.len()),

@@ -118,6 +118,7 @@ pub fn put_meaning(out: &mut [u8], at: usize, register: u32, value: u32) -> usiz
         8 => said::put_said(out, at, b"flags cleared"),
         9 => put_mask(out, at, value),
         11 => put_delay(out, at, value),
+        12 => said::put_said(out, at, b"data to the card"),
         _ => pen::least(at, out.len()),
     }
 }

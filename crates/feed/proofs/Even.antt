@@ -11,8 +11,8 @@ use Rattle.tape.specs.Run.{noted}
 use Rattle.tape.specs.Steps.{resetController, dataFrom}
 use Rattle.bus.specs.Transfer.{endData}
 use Rattle.step.specs.Context.{Context, inside, plug, andThen, plug-read, plug-write, plug-look, plug-hold}
-use Rattle.step.specs.Next.{next}
-use Rattle.step.specs.Transfer.{transferOf, placeOf, afterOf, allOf, wordsBy, stopSite, ending, unclocked, readsPlan, writesPlan, dataPlan}
+use Rattle.step.specs.Next.{next, Lent}
+use Rattle.step.specs.Transfer.{transferOf, placeOf, afterOf, givenOf, allOf, takenBy, stopSite, ending, unclocked, readsPlan, writesPlan, dataPlan, idling, polling, startSite}
 use Rattle.step.specs.declared.ready.Bus.{Bus}
 use Rattle.step.specs.declared.transfer.Data.{Data}
 use Rattle.step.specs.declared.transfer.Data.the-variants as D
@@ -34,6 +34,7 @@ use Rattle.stepping.specs.declared.call.Gets.the-variants as G
 use Rattle.stepping.specs.declared.call.Job.{Job}
 use Rattle.stepping.specs.declared.call.Known.{Known}
 use Rattle.feed.specs.Runs.{span, nextSpan}
+use Rattle.feed.specs.Turns.{lent}
 use Rattle.feed.proofs.Drive.{span-next}
 
 module _ (s : List ℕ) where
@@ -64,7 +65,13 @@ module _ (s : List ℕ) where
         rw (plug-look k (λ h. g h then f) h, plug-look k (λ h. g h then f′) h) (then-even (g h) u h)
     then-even (hold h′ p) u h = rw (plug-hold k h′ (p then f) h, plug-hold k h′ (p then f′) h) (then-even p u h′)
 
-  module _ (j : Job) (g g′ : List ℕ) where
+  module _ (j : Job) (sent taken taken′ : List ℕ) where
+    abbrev g : Lent
+    g = lent sent taken
+
+    abbrev g′ : Lent
+    g′ = lent sent taken′
+
     -- under the guard of the call's own data phase, whatever words are given
     abbrev own : Context Closing (List ℕ)
     own = inside give (refusing resetController) (ownSite j)
@@ -83,7 +90,7 @@ module _ (s : List ℕ) where
       stops ws = endData (bus .source .0) (bus .config) (transferOf phase .index) (bus .rca) then λ _. give ws
 
       reads-even : (r : Reads) → Even (plug (ownSite j) (readsPlan bus phase g r)) (plug (ownSite j) (readsPlan bus phase g′ r))
-      unfolding readsPlan plug handle
+      unfolding readsPlan idling polling plug handle
       reads-even (R.Idle n) = λ u h. refl
       reads-even (R.First n) = λ u h. refl
       reads-even (R.FirstDma n v) = λ u h. refl
@@ -91,8 +98,8 @@ module _ (s : List ℕ) where
       reads-even (R.AgainDma n v) = λ u h. refl
       reads-even (R.Count n) = λ u h. refl
       reads-even (R.Word m) =
-          then-even (andThen stops own) (λ rest. give (take (placeOf phase m) g ++ rest)) (λ rest. give (take (placeOf phase m) g′ ++ rest))
-          (λ rest. then-even own (λ _. give (take (placeOf phase m) g ++ rest)) (λ _. give (take (placeOf phase m) g′ ++ rest)) (λ _. given-even _ _)
+          then-even (andThen stops own) (λ rest. give (givenOf phase (take (placeOf phase m) taken ++ rest))) (λ rest. give (givenOf phase (take (placeOf phase m) taken′ ++ rest)))
+          (λ rest. then-even own (λ _. give (givenOf phase (take (placeOf phase m) taken ++ rest))) (λ _. give (givenOf phase (take (placeOf phase m) taken′ ++ rest))) (λ _. given-even _ _)
           (endData (bus .source .0) (bus .config) (transferOf phase .index) (bus .rca)))
           (dataFrom (placeOf phase m) (suc (afterOf phase m)))
 
@@ -100,33 +107,38 @@ module _ (s : List ℕ) where
       unfolding writesPlan unclocked ending plug
       writes-even (W.Reset r e) = λ u h. refl
       writes-even (W.Arm a) = λ u h. refl
+      writes-even W.Control = λ u h. refl
       writes-even W.Open = λ u h. refl
       writes-even (W.Stop x) = ending-even phase _
       writes-even W.Gate = ending-even phase _
 
       data-even : (d : Data) → Even (plug (ownSite j) (dataPlan bus phase g d)) (plug (ownSite j) (dataPlan bus phase g′ d))
-      unfolding dataPlan stopSite ending plug
+      unfolding dataPlan startSite stopSite ending plug
       data-even (D.Asks r) = reads-even r
       data-even (D.Tells t) = writes-even t
+      data-even (D.Sends m) = λ u h. refl
       data-even (D.Start c) = λ u h. refl
       data-even (D.Stop c) = ending-even phase _
       data-even (D.Ready r) = ending-even phase _
 
-  module _ (j : Job) (g g′ : List ℕ) (k : Known) (held : List ℕ) where
+  module _ (j : Job) (sent taken taken′ : List ℕ) (k : Known) (held : List ℕ) where
     phase-even : (gets : Gets) (d : Data) (q : Asked) → j .asked ≡ q
-        → Even (atPlan j k held g (A.Data gets d)) (atPlan j k held g′ (A.Data gets d))
-    unfolding atPlan phaseOf phaseBy wordsBy getsSite
+        → Even (atPlan j k held (lent sent taken) (A.Data gets d)) (atPlan j k held (lent sent taken′) (A.Data gets d))
+    unfolding atPlan phaseOf phaseBy takenBy getsSite
     phase-even G.Asked d (Q.Card c f) e = rw e (λ u h. refl)
     phase-even G.Asked d Q.Status e = rw e (λ u h. refl)
     phase-even G.Asked d (Q.Blocks a n) e =
         let same : Job = record { host = j .host; asked = Q.Blocks a n } in
-        rw e (data-even same g g′ (busWith same (rcaOf same k G.Asked)) (P.Blocks a n) d)
+        rw e (data-even same sent taken taken′ (busWith same (rcaOf same k G.Asked)) (P.Blocks a n) d)
+    phase-even G.Asked d (Q.Sends a n) e =
+        let same : Job = record { host = j .host; asked = Q.Sends a n } in
+        rw e (data-even same sent taken taken′ (busWith same (rcaOf same k G.Asked)) (P.Sends a n) d)
     phase-even G.Scr d q e = λ u h. refl
     phase-even G.Check d q e = λ u h. refl
     phase-even G.Switch d q e = λ u h. refl
 
     -- of every place of a call
-    pub at-even : (at : At) → Even (atPlan j k held g at) (atPlan j k held g′ at)
+    pub at-even : (at : At) → Even (atPlan j k held (lent sent taken) at) (atPlan j k held (lent sent taken′) at)
     unfolding atPlan endPlan accepting next nextSpan
     at-even (A.Command x c) = λ u h. refl
     at-even (A.Ready w r) = λ u h. refl

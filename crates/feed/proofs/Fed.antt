@@ -20,7 +20,7 @@ use Rattle.host.specs.declared.host.Sdmmc.{Sdmmc}
 use Rattle.host.specs.Calls.{Came, calledOf}
 use Rattle.step.specs.declared.wants.Wants.{Wants}
 use Rattle.step.specs.declared.wants.Wants.the-variants as W
-use Rattle.step.specs.Next.{Next, asks, tells, over, refused, next, wantOf, handed, HandedBy}
+use Rattle.step.specs.Next.{Next, asks, tells, over, refused, next, wantOf, Lent, handed, HandedBy}
 use Rattle.step.proofs.Words.{is-handed}
 use Rattle.stepping.specs.Closing.{Closing}
 use Rattle.underway.specs.declared.call.Call.{Call}
@@ -28,7 +28,7 @@ use Rattle.underway.specs.declared.call.Closed.{Closed}
 use Rattle.underway.specs.declared.call.Outcome.the-variants as O
 use Rattle.underway.specs.Under.{Under, under, answered, unanswered, written, closedOf}
 use Rattle.feed.specs.Runs.{runNext, cameBy, cameOf, noClosing, liesAt, placeRun, placeNext, nextSpan}
-use Rattle.feed.specs.Turns.{Way, starts, wayOf, Turned, turned, turnBy, turnOf, fedFrom, placeFrom, handedAt, turnedOf, goesOn, calledWith, calledAt}
+use Rattle.feed.specs.Turns.{Way, starts, lent, wayOf, Turned, turned, turnBy, turnOf, fedFrom, placeFrom, takenAt, handedAt, turnedOf, goesOn, calledWith, calledAt}
 use Rattle.feed.specs.declared.turn.Event.the-variants as E
 use Rattle.feed.specs.declared.turn.Feeding.{Feeding}
 use Rattle.feed.specs.declared.turn.Turn.{Turn}
@@ -60,18 +60,18 @@ module _ (w : Way) (c : Closed) (is : c ≡ closedOf (w .call)) where
   full-called e = rw e at all
 
 -- as many turns are left whatever data words were handed out
-even : (s : List ℕ) (m : Call) (g g′ : List ℕ) (u : ℕ) → nextSpan s (under g m .ahead) u ≡ nextSpan s (under g′ m .ahead) u
-even s m g g′ u = at-even s (m .job) g g′ (m .known) (m .held) (m .at) u (m .line)
+even : (s : List ℕ) (m : Call) (sent taken taken′ : List ℕ) (u : ℕ) → nextSpan s (under (lent sent taken) m .ahead) u ≡ nextSpan s (under (lent sent taken′) m .ahead) u
+even s m sent taken taken′ u = at-even s (m .job) sent taken taken′ (m .known) (m .held) (m .at) u (m .line)
 
 module _ (s : List ℕ) where
   -- a reading that takes its word; and below, a row that is written
-  pub read-turn : (f : Feeding) (g : List ℕ) (l : List Row) (r : Reading) (call : Call) (place : ℕ) → f .used < length s
+  pub read-turn : (f : Feeding) (g : Lent) (l : List Row) (r : Reading) (call : Call) (place : ℕ) → f .used < length s
       → W.Read r ≡ wantOf (under g (f .call) .ahead)
-      → ((g g′ : List ℕ) → HandedBy (wantOf (under g (f .call) .ahead)) (getD s (f .used) 0) g g′ → under g′ call ≡ answered (under g (f .call)) (getD s (f .used) 0))
+      → ((g g′ : Lent) → HandedBy (wantOf (under g (f .call) .ahead)) (getD s (f .used) 0) g g′ → under g′ call ≡ answered (under g (f .call)) (getD s (f .used) 0))
       → place ≡ liesAt r (f .used) (f .place)
       → turnedOf g (record { event = E.Read r (getD s (f .used) 0); feeding = record { call = call; used = f .used + 1; rows = f .rows; place = place } }) l
       ≡ turnBy s (wayOf g f) l (W.Read r)
-  unfolding turnBy handedAt HandedBy
+  unfolding turnBy takenAt HandedBy
   read-turn f g l r call place within asked goes is =
       let w = getD s (f .used) 0 in
       let hand : HandedBy (wantOf (under g (f .call) .ahead)) w g (handed r w g) = rw (← asked) (is-handed r w g) in
@@ -79,19 +79,19 @@ module _ (s : List ℕ) where
       (λ i. turned (E.Read r w) (record { call = goes g (handed r w g) hand i; used = f .used + 1; rows = f .rows; place = is i }) l)
 
   -- one that finds none
-  pub missed-turn : (f : Feeding) (g : List ℕ) (l : List Row) (r : Reading) (call : Call) → length s ≤ f .used
-      → ((g : List ℕ) → under g call ≡ unanswered (under g (f .call)))
+  pub missed-turn : (f : Feeding) (g : Lent) (l : List Row) (r : Reading) (call : Call) → length s ≤ f .used
+      → ((g : Lent) → under g call ≡ unanswered (under g (f .call)))
       → turnedOf g (record { event = E.Missed r; feeding = record { call = call; used = f .used; rows = f .rows; place = f .place } }) l
       ≡ turnBy s (wayOf g f) l (W.Read r)
-  unfolding turnBy handedAt
+  unfolding turnBy takenAt
   missed-turn f g l r call none goes =
       rw (le-ltb _ _ none) (λ i. turned (E.Missed r) (record { call = goes g i; used = f .used; rows = f .rows; place = f .place }) l)
 
-  pub row-turn : (f : Feeding) (g : List ℕ) (l : List Row) (r : Row) (call : Call) → f .rows < length l
-      → ((g : List ℕ) → under g call ≡ written (under g (f .call)))
+  pub row-turn : (f : Feeding) (g : Lent) (l : List Row) (r : Row) (call : Call) → f .rows < length l
+      → ((g : Lent) → under g call ≡ written (under g (f .call)))
       → turnedOf g (record { event = E.Wrote r; feeding = record { call = call; used = f .used; rows = f .rows + 1; place = f .place } }) (set l (f .rows) r)
       ≡ turnBy s (wayOf g f) l (W.Write r)
-  unfolding turnBy handedAt
+  unfolding turnBy takenAt
   row-turn f g l r call room goes =
       rw (lt-ltb _ _ room)
       (λ i. turned (E.Wrote r) (record { call = goes g i; used = f .used; rows = f .rows + 1; place = f .place }) (set l (f .rows) r))
@@ -206,64 +206,67 @@ module _ (s : List ℕ) where
       → nextSpan s (w .call .ahead) (w .used) ≡ suc (nextSpan s (turnOf s w l .next .call .ahead) (turnOf s w l .next .used))
   turn-fewer w l e = goes (w .call .before) (w .used) (w .rows) (w .place) l (w .call .ahead) e .fewer
 
-  pub turn-left : (f : Feeding) (t : Turn) (g : List ℕ) (l l′ : List Row) → turnedOf g t l′ ≡ turnOf s (wayOf g f) l → goesOn (t .event) ≡ true
-      → nextSpan s (under [] (f .call) .ahead) (f .used) ≡ suc (nextSpan s (under [] (t .feeding .call) .ahead) (t .feeding .used))
-  turn-left f t g l l′ is e =
-      even s (f .call) [] g (f .used)
-      ∙ turn-fewer (wayOf g f) l (sym (ap (λ (t : Turned). goesOn (t .event)) is) ∙ e)
+  pub turn-left : (f : Feeding) (t : Turn) (sent taken : List ℕ) (l l′ : List Row)
+      → turnedOf (lent sent taken) t l′ ≡ turnOf s (wayOf (lent sent taken) f) l → goesOn (t .event) ≡ true
+      → nextSpan s (under (lent sent []) (f .call) .ahead) (f .used) ≡ suc (nextSpan s (under (lent sent []) (t .feeding .call) .ahead) (t .feeding .used))
+  turn-left f t sent taken l l′ is e =
+      even s (f .call) sent [] taken (f .used)
+      ∙ turn-fewer (wayOf (lent sent taken) f) l (sym (ap (λ (t : Turned). goesOn (t .event)) is) ∙ e)
       ∙ ap (λ (t : Turned). suc (nextSpan s (t .next .call .ahead) (t .next .used))) (sym is)
-      ∙ ap suc (even s (t .feeding .call) (handedAt (t .event) g) [] (t .feeding .used))
+      ∙ ap suc (even s (t .feeding .call) sent (takenAt (t .event) taken) [] (t .feeding .used))
 
   pub turn-closes : (w : Way) (l : List Row) → goesOn (turnOf s w l .event) ≡ false
       → calledAt (turnOf s w l .next) ≡ calledOf (fedFrom s w l)
   turn-closes w l e = ends (w .call .before) (w .used) (w .rows) (w .place) l (w .call .ahead) e .called
 
-  -- on its way from w₀, with the list l₀; `out` are the data words handed out so far
-  pub record On (w₀ : Way) (l₀ : List Row) (f : Feeding) (l : List Row) : Type 0 where
-    pub out : List ℕ
-    pub fed : fedFrom s (wayOf out f) l ≡ fedFrom s w₀ l₀
-    pub place : placeFrom s (wayOf out f) l ≡ placeFrom s w₀ l₀
+  -- on its way from w₀, with the list l₀: `sent` are its words to send, and `taken` the data words handed out so far
+  pub record On (sent : List ℕ) (w₀ : Way) (l₀ : List Row) (f : Feeding) (l : List Row) : Type 0 where
+    pub taken : List ℕ
+    pub fed : fedFrom s (wayOf (lent sent taken) f) l ≡ fedFrom s w₀ l₀
+    pub place : placeFrom s (wayOf (lent sent taken) f) l ≡ placeFrom s w₀ l₀
     pub long : length l ≡ length l₀
 
-  pub begun : (f : Feeding) (l : List Row) → On (wayOf [] f) l f l
-  begun f l = record { out = []; fed = refl; place = refl; long = refl }
+  pub begun : (sent : List ℕ) (f : Feeding) (l : List Row) → On sent (wayOf (lent sent []) f) l f l
+  begun sent f l = record { taken = []; fed = refl; place = refl; long = refl }
 
-  module _ {w₀ : Way} {l₀ : List Row} {f : Feeding} {l : List Row} (on : On w₀ l₀ f l) (t : Turn) (l′ : List Row)
-      (is : (g : List ℕ) → turnedOf g t l′ ≡ turnOf s (wayOf g f) l) where
+  module _ {sent : List ℕ} {w₀ : Way} {l₀ : List Row} {f : Feeding} {l : List Row} (on : On sent w₀ l₀ f l) (t : Turn) (l′ : List Row)
+      (is : (taken : List ℕ) → turnedOf (lent sent taken) t l′ ≡ turnOf s (wayOf (lent sent taken) f) l) where
+    abbrev out : Lent
+    out = lent sent (on .taken)
+
     abbrev there : Turned
-    there = turnOf s (wayOf (on .out) f) l
+    there = turnOf s (wayOf out f) l
 
     event-is : t .event ≡ there .event
-    event-is = ap (λ (t : Turned). t .event) (is (on .out))
+    event-is = ap (λ (t : Turned). t .event) (is (on .taken))
 
-    going : goesOn (t .event) ≡ true
-        → Goes (under (on .out) (f .call) .before) (f .used) (f .rows) (f .place) l there (under (on .out) (f .call) .ahead)
+    going : goesOn (t .event) ≡ true → Goes (under out (f .call) .before) (f .used) (f .rows) (f .place) l there (under out (f .call) .ahead)
     going e =
-        goes (under (on .out) (f .call) .before) (f .used) (f .rows) (f .place) l (under (on .out) (f .call) .ahead)
+        goes (under out (f .call) .before) (f .used) (f .rows) (f .place) l (under out (f .call) .ahead)
         (sym (ap goesOn event-is) ∙ e)
 
-    pub goes-on : goesOn (t .event) ≡ true → On w₀ l₀ (t .feeding) l′
+    pub goes-on : goesOn (t .event) ≡ true → On sent w₀ l₀ (t .feeding) l′
     goes-on e =
         record {
-          out = handedAt (t .event) (on .out);
-          fed = ap (λ (t : Turned). fedFrom s (t .next) (t .list)) (is (on .out)) ∙ going e .fed ∙ on .fed;
-          place = ap (λ (t : Turned). placeFrom s (t .next) (t .list)) (is (on .out)) ∙ going e .place ∙ on .place;
-          long = ap (λ (t : Turned). length (t .list)) (is (on .out)) ∙ going e .long ∙ on .long;
+          taken = takenAt (t .event) (on .taken);
+          fed = ap (λ (t : Turned). fedFrom s (t .next) (t .list)) (is (on .taken)) ∙ going e .fed ∙ on .fed;
+          place = ap (λ (t : Turned). placeFrom s (t .next) (t .list)) (is (on .taken)) ∙ going e .place ∙ on .place;
+          long = ap (λ (t : Turned). length (t .list)) (is (on .taken)) ∙ going e .long ∙ on .long;
         }
 
     pub goes-less : goesOn (t .event) ≡ true
-        → nextSpan s (under [] (t .feeding .call) .ahead) (t .feeding .used) < nextSpan s (under [] (f .call) .ahead) (f .used)
-    goes-less e = omega (arith, turn-left f t (on .out) l l′ (is (on .out)) e)
+        → nextSpan s (under (lent sent []) (t .feeding .call) .ahead) (t .feeding .used) < nextSpan s (under (lent sent []) (f .call) .ahead) (f .used)
+    goes-less e = omega (arith, turn-left f t sent (on .taken) l l′ (is (on .taken)) e)
 
-    pub ends-there : goesOn (t .event) ≡ false → (r : Called) → ((g : List ℕ) → r ≡ calledAt (wayOf g (t .feeding)))
+    pub ends-there : goesOn (t .event) ≡ false → (r : Called) → ((g : Lent) → r ≡ calledAt (wayOf g (t .feeding)))
         → (r ≡ calledOf (fedFrom s w₀ l₀)) × (l′ ≡ fedFrom s w₀ l₀ .list) × (t .feeding .place ≡ placeFrom s w₀ l₀)
     ends-there e r is-called =
         let last =
-        ends (under (on .out) (f .call) .before) (f .used) (f .rows) (f .place) l (under (on .out) (f .call) .ahead)
+        ends (under out (f .call) .before) (f .used) (f .rows) (f .place) l (under out (f .call) .ahead)
         (sym (ap goesOn event-is) ∙ e) in (
-          is-called (handedAt (t .event) (on .out)) ∙ ap (λ (t : Turned). calledAt (t .next)) (is (on .out)) ∙ last .called ∙ ap calledOf (on .fed),
-          ap (λ (t : Turned). t .list) (is (on .out)) ∙ last .list ∙ ap (λ (x : Came). x .list) (on .fed),
-          ap (λ (t : Turned). t .next .place) (is (on .out)) ∙ last .place ∙ on .place,
+          is-called (handedAt (t .event) out) ∙ ap (λ (t : Turned). calledAt (t .next)) (is (on .taken)) ∙ last .called ∙ ap calledOf (on .fed),
+          ap (λ (t : Turned). t .list) (is (on .taken)) ∙ last .list ∙ ap (λ (x : Came). x .list) (on .fed),
+          ap (λ (t : Turned). t .next .place) (is (on .taken)) ∙ last .place ∙ on .place,
         )
 
   -- from its start, a call that begins as a plan comes to what the plan does

@@ -33,16 +33,16 @@ use Rattle.bus.specs.declared.response.Response.{Response}
 use Rattle.bus.specs.declared.transfer.Transfer.{Transfer}
 use Rattle.bus.specs.Command.{formOf, issue, pollCompletion, waitCompletion, echo, responseWords, judge, answer, complete, commandInner, command}
 use Rattle.bus.specs.Ready.{retryDelay, readStatus, tryReady, waitReady}
-use Rattle.bus.specs.Transfer.{startData, waitData, receive, closeGate, stopTransmission, endData, transferData, blockingData}
+use Rattle.bus.specs.Transfer.{incoming, landed, startData, waitData, receive, closeGate, ofMany, stopTransmission, endData, transferData, blockingData}
 use Rattle.init.specs.Initialise.{sourceOf}
 use Rattle.host.specs.declared.host.Sdmmc.{Sdmmc}
-use Rattle.host.specs.Calls.{Came, dropped, kept, ends, transferred, approached, served, readNext, readPlan, readFrom, readKnown, readCame}
+use Rattle.host.specs.Calls.{Came, dropped, kept, ends, transferred, approached, served, blocksNext, blocksPlan, blocksFrom, blocksKnown, blocksCame, readCame}
 use Rattle.refusals.proofs.Whole.{read-exact}
-use Rattle.stepping.specs.Closing.{Closing, keeping, dropping, accepting, readHost}
+use Rattle.stepping.specs.Closing.{Closing, keeping, dropping, accepting, blocksHost}
 use Rattle.feed.specs.Runs.{cameBy, noClosing, liesAt, placeRun, countOf}
 use Rattle.underway.specs.Whole as One
-use Rattle.underway.specs.Whole.{callPlan, readAt, readCall}
-use Rattle.feed.proofs.Whole.{read-call}
+use Rattle.underway.specs.Whole.{callPlan, blocksAt, blocksCall}
+use Rattle.feed.proofs.Whole.{blocks-call}
 
 -- A plan that reads no data word leaves the place as it was.
 
@@ -177,7 +177,7 @@ unfolding endData stopData closeGate stopTransmission
 end-dataless source config index rca =
     on-then (on-then (on-row _ _) (λ _. on-then (on-row _ _) (λ _. on-row _ _)))
     (λ _. on-then (on-look (λ line. on-test (line .gated) (clken-dataless false) on-give))
-    (λ _. on-then (on-test (eqb index 18) (on-then (command-dataless _ 12 _ _) (λ _. on-give)) on-give)
+    (λ _. on-then (on-test (ofMany index) (on-then (command-dataless _ 12 _ _) (λ _. on-give)) on-give)
     (λ _. ready-dataless source config rca)))
 
 -- Where the words of a plan lie: whatever it gives lies at the place that its run comes to.
@@ -324,17 +324,17 @@ module _ (s : List ℕ) where
       by ws place (Stopped ScriptEnded) w e = refl
       by ws place (Stopped TraceFull) w e = refl
 
-  transfer-laid : (source : ℕ) (config : Config) (transfer : Transfer) (rca : ℕ) → Laid (List ℕ) [] (λ ws. ws) (blockingData source config transfer rca)
-  unfolding blockingData transferData receive run placeRun
+  transfer-laid : (source : ℕ) (config : Config) (transfer : Transfer) (rca : ℕ) → Laid (List ℕ) [] (λ ws. ws) (blockingData source config incoming transfer rca)
+  unfolding blockingData transferData receive landed run placeRun
   transfer-laid source config transfer rca =
-      laid-handle [] [] (λ ws. ws) refl give (refusing resetController) (transferData source config transfer rca)
+      laid-handle [] [] (λ ws. ws) refl give (refusing resetController) (transferData source config incoming transfer rca)
       (λ q u n u′ n′ h h′ l l′ going. taken .each q u n h l)
       (λ e q u n h l. rw (refusing-none resetController e u n h l) refl)
     where
-      taken : Laid (List ℕ) [] (λ ws. ws) (transferData source config transfer rca)
+      taken : Laid (List ℕ) [] (λ ws. ws) (transferData source config incoming transfer rca)
       taken =
-          laid-after (tt {0}) (startData config transfer) _
-          (λ _. laid-before (receive (config .«poll_limit») (transfer .words)) (endData source config (transfer .index) rca)
+          laid-after (tt {0}) (startData config incoming transfer) _
+          (λ _. laid-before (receive (config .«poll_limit») incoming (transfer .words)) (endData source config (transfer .index) rca)
           (laid-after (tt {0}) (waitData (config .«poll_limit»)) _ (λ _. data-laid (transfer .words))) (end-dataless source config (transfer .index) rca))
 
   -- a read
@@ -358,28 +358,28 @@ module _ (s : List ℕ) where
             laid-handle [] (noClosing host) (λ c. c .taken) refl (accepting host next) (dropping host) transfer
             (λ q u n u′ n′ h h′ l l′ going. b .each q u n h l) (λ e q u n h l. refl)
 
-    at-laid : (blocks : ℕ) (a : AddressAnswer) → LaidCall (readAt host blocks a)
-    unfolding readAt
+    at-laid : (blocks : ℕ) (a : AddressAnswer) → LaidCall (blocksAt host incoming blocks a)
+    unfolding blocksAt
     at-laid blocks (Address.Refused e) = keeping-laid e
-    at-laid blocks (Address.Address a) = call-laid (readHost host) _ _ (transfer-laid _ _ _ _)
+    at-laid blocks (Address.Address a) = call-laid (blocksHost host) _ _ (transfer-laid _ _ _ _)
 
-    read-laid : (index bytes : ℕ) → LaidCall (readCall host index bytes)
-    unfolding readCall One.readKnown
+    read-laid : (index bytes : ℕ) → LaidCall (blocksCall host incoming index bytes)
+    unfolding blocksCall One.blocksKnown
     read-laid index bytes =
         by-cases LaidCall (host .known) _ _
         (by-cases LaidCall (eqb (bytes % 512) 0) _ _ (at-laid (bytes / 512) _) (keeping-laid E.InvalidBufferLength)) (keeping-laid E.NoCard)
 
     read-lain : (index bytes : ℕ) (l : List Row)
-        → Lain (readCame host index bytes s l .taken) (placeRun s (readCall host index bytes) 0 0 0 (host .line) l)
+        → Lain (readCame host index bytes s l .taken) (placeRun s (blocksCall host incoming index bytes) 0 0 0 (host .line) l)
     unfolding cameBy
     read-lain index bytes l =
-        rw (read-call host s l index bytes) (by (x .state .progress .pace) (x .state) (read-laid index bytes .each 0 0 0 (host .line) l))
+        rw (blocks-call host s l incoming index bytes) (by (x .state .progress .pace) (x .state) (read-laid index bytes .each 0 0 0 (host .line) l))
       where
         x : After Closing
-        x = run s (noClosing host) (readCall host index bytes) 0 0 (host .line) l
+        x = run s (noClosing host) (blocksCall host incoming index bytes) 0 0 (host .line) l
 
         place : ℕ
-        place = placeRun s (readCall host index bytes) 0 0 0 (host .line) l
+        place = placeRun s (blocksCall host incoming index bytes) 0 0 0 (host .line) l
 
         by : (a : Pace) (w : State) → Lain (x .value .taken) place → Lain (cameBy host (x .value) a w .taken) place
         by Going w e = e
@@ -407,22 +407,22 @@ ends-own host refused accepted words (Stopped ScriptEnded) w = refl
 ends-own host refused accepted words (Stopped TraceFull) w = refl
 
 module _ (host : Sdmmc) (index bytes : ℕ) (s : List ℕ) (l : List Row) where
-  from-own : (a : AddressAnswer) → Own (readFrom host (bytes / 512) a s l)
-  unfolding readFrom served approached transferred takenBy
+  from-own : (a : AddressAnswer) → Own (blocksFrom host incoming (bytes / 512) a s l)
+  unfolding blocksFrom served approached transferred takenBy
   from-own (Address.Refused e) = refl
   from-own (Address.Address a) = by (w .progress .pace)
     where
       w : State
       w = run s (tt {0}) (waitReady (sourceOf (host .settings)) (host .settings .config) (host .card .rca)) 0 0 (host .line) l .state
 
-      by : (q : Pace) → Own (approached host (readPlan host a (bytes / 512)) (readNext host) s q w)
+      by : (q : Pace) → Own (approached host (blocksPlan host incoming a (bytes / 512)) (blocksNext host) s q w)
       by Going =
-          let x = runFrom s [] (readPlan host a (bytes / 512)) w in
-          ends-own host (dropped host (x .state)) (readNext host (x .state) (x .value)) (x .value) (x .state .progress .pace) (x .state)
+          let x = runFrom s [] (blocksPlan host incoming a (bytes / 512)) w in
+          ends-own host (dropped host (x .state)) (blocksNext host (x .state) (x .value)) (x .value) (x .state .progress .pace) (x .state)
       by (Stopped h) = ends-own host (kept host w) host [] (Stopped h) w
 
   read-own : Own (readCame host index bytes s l)
-  unfolding readCame readKnown takenBy
+  unfolding blocksCame blocksKnown takenBy
   read-own = by-cases Own (host .known) _ _ (by-cases Own (eqb (bytes % 512) 0) _ _ (from-own _) refl) refl
 
   pub read-none : (readCame host index bytes s l .answer ≡ Answered.Accepted → ⊥) → readCame host index bytes s l .taken ≡ []
@@ -438,12 +438,12 @@ module _ (host : Sdmmc) (index bytes : ℕ) (s : List ℕ) (l : List Row) where
 
   -- so what it takes is so many words from that place on
   pub read-took : readCame host index bytes s l .taken
-      ≡ take (countOf (readCame host index bytes s l .answer) bytes) (drop (placeRun s (readCall host index bytes) 0 0 0 (host .line) l) s)
+      ≡ take (countOf (readCame host index bytes s l .answer) bytes) (drop (placeRun s (blocksCall host incoming index bytes) 0 0 0 (host .line) l) s)
   unfolding takenBy countOf
   read-took = by (readCame host index bytes s l .answer) refl
     where
       place : ℕ
-      place = placeRun s (readCall host index bytes) 0 0 0 (host .line) l
+      place = placeRun s (blocksCall host incoming index bytes) 0 0 0 (host .line) l
 
       by : (a : Answer) → readCame host index bytes s l .answer ≡ a → readCame host index bytes s l .taken ≡ take (countOf a bytes) (drop place s)
       by Answered.Accepted e = rw (← read-exact host index bytes s l e .1) (read-lain s host index bytes l)

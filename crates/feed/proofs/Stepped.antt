@@ -8,11 +8,12 @@ use native.Mathlib.Decide.{decLt}
 use lib.ListN.{length, getD, take, length-take, set}
 use Rattle.types.specs.declared.error.Answer.{Answer}
 use Rattle.types.specs.declared.error.Answer.the-variants as Answered
-use Rattle.types.specs.Words.{bytesOf}
+use Rattle.types.specs.Words.{bytesOf, wordsOf}
 use Rattle.tape.specs.declared.rows.Row.{Row}
 use Rattle.tape.specs.declared.script.Reading.{Reading}
 use Rattle.tape.specs.Plan.{failed, ended}
 use Rattle.tape.specs.Run.{After}
+use Rattle.bus.specs.Transfer.{incoming, outgoing}
 use Rattle.host.specs.declared.host.Called.{Called}
 use Rattle.host.specs.declared.host.Sdmmc.{Sdmmc}
 use Rattle.host.specs.Calls.{Came, calledOf, readCame, blocksFilled, bufferOf}
@@ -22,8 +23,8 @@ use Rattle.calls.specs.Serve as S
 use Rattle.calls.specs.Serve.{comes}
 use Rattle.step.specs.declared.wants.Wants.{Wants}
 use Rattle.step.specs.declared.wants.Wants.the-variants as W
-use Rattle.step.specs.Next.{Next, asks, tells, over, refused, next, wantOf, heard, told, missed}
-use Rattle.step.specs.Transfer.{blocksOf, transferOf, wordsBy}
+use Rattle.step.specs.Next.{Next, asks, tells, over, refused, next, wantOf, heard, told, missed, Lent}
+use Rattle.step.specs.Transfer.{blocksOf, transferOf, wordsBy, sendsOf, takenBy, allOf}
 use Rattle.stepping.specs.Ahead.{phaseBy, phaseOf, endPlan, atPlan}
 use Rattle.stepping.specs.Closing.{Closing, keeping, dropping, finding, accepting}
 use Rattle.stepping.specs.declared.call.Asked.{Asked}
@@ -43,11 +44,12 @@ use Rattle.feed.specs.Stepped.{Midway, Turn, hears, misses, writes, Turn
 use Rattle.feed.proofs.Drive.{run-heard, run-told, run-missed, run-full, heard-span, missed-span, told-span}
 use Rattle.feed.proofs.Fed.{fed-whole}
 use Rattle.feed.proofs.Order.{read-none}
-use Rattle.feed.proofs.Whole.{init-call, read-call, status-call}
+use Rattle.feed.proofs.Whole.{init-call, blocks-call, status-call}
 
 abbrev rowIn : Wants → Row
 rowIn (W.Write r) = r
 rowIn (W.Read r) = record { register = 0; value = 0 }
+rowIn (W.Send k) = record { register = 0; value = 0 }
 rowIn W.Nothing = record { register = 0; value = 0 }
 
 module _ (s : List ℕ) where
@@ -165,7 +167,8 @@ plan-comes : (host : Sdmmc) (c : S.Call) (u : Under) → u ≡ record { before =
     → fedFrom (scriptBy c) (starts u) (listBy c) ≡ comes host c
 unfolding planBy scriptBy listBy comes
 plan-comes host (S.initialise frequency s l) u e = fed-whole s u host _ l e ∙ sym (init-call host s l frequency)
-plan-comes host (S.read index bytes s l) u e = fed-whole s u host _ l e ∙ sym (read-call host s l index bytes)
+plan-comes host (S.read index bytes s l) u e = fed-whole s u host _ l e ∙ sym (blocks-call host s l incoming index bytes)
+plan-comes host (S.write index bytes s l) u e = fed-whole s u host _ l e ∙ sym (blocks-call host s l (outgoing (wordsOf bytes)) index (length bytes))
 plan-comes host (S.status s l) u e = fed-whole s u host _ l e ∙ sym (status-call host s l)
 
 module _ {host : Sdmmc} {c : S.Call} {r : Called} {last : Midway} (x : Stepped host c r last) where
@@ -205,18 +208,19 @@ takenIn (tells h r p) = []
 takenIn (over h a) = a .taken
 takenIn (refused h c) = []
 
-module _ (m : Call) (g : List ℕ) where
+module _ (m : Call) (g : Lent) where
   abbrev Handing : List ℕ → Type 0
-  Handing ws = 16 < length ws → ws ≡ take (length ws) g
+  Handing ws = 16 < length ws → ws ≡ take (length ws) (g .taken)
 
   few : (n : ℕ) (l : List ℕ) → n ≤ 16 → Handing (take n l)
   few n l small many = absurd (omega (arith, length-take n l))
 
-  by-asked : (q : Asked) → Handing (take (transferOf (phaseBy q) .words) (wordsBy (phaseBy q) (m .held) g))
-  unfolding transferOf phaseBy wordsBy
+  by-asked : (q : Asked) → Handing (allOf (phaseBy q) (wordsBy (phaseBy q) (m .held) g))
+  unfolding transferOf sendsOf phaseBy takenBy
   by-asked (Q.Card c f) = few 16 (m .held) (omega arith)
   by-asked Q.Status = few 16 (m .held) (omega arith)
-  by-asked (Q.Blocks a n) = λ many. own-length (128 * blocksOf n) g
+  by-asked (Q.Blocks a n) = λ many. own-length (128 * blocksOf n) (g .taken)
+  by-asked (Q.Sends a n) = λ many. absurd (omega arith)
 
   -- a call keeps sixteen words at most: more are those that were handed out
   over-handed : closedOf (under g m) .outcome ≡ O.Over Answered.Accepted → Handing (takenIn (under g m .ahead))
@@ -253,7 +257,7 @@ module _ (s : List ℕ) where
   left-handed (full r e dry) ok = absurd (other-answer 2 refl refl ok)
 
 module _ {host : Sdmmc} {index bytes : ℕ} {s : List ℕ} {l : List Row} {r : Called} {last : Midway} (x : Stepped host (S.read index bytes s l) r last) where
-  pub stepped-words : r .answer ≡ Answered.Accepted → readCame host index bytes s l .taken ≡ take (128 * (bytes / 512)) (last .out)
+  pub stepped-words : r .answer ≡ Answered.Accepted → readCame host index bytes s l .taken ≡ take (128 * (bytes / 512)) (last .out .taken)
   unfolding scriptBy comes
   stepped-words ok =
       let ws = readCame host index bytes s l .taken in
@@ -263,8 +267,8 @@ module _ {host : Sdmmc} {index bytes : ℕ} {s : List ℕ} {l : List Row} {r : C
       by (readCame host index bytes s l .taken) long given (decLt 16 (length ws))
     where
       by : (ws : List ℕ) → length ws ≡ 128 * (bytes / 512) → Handing (last .call) (last .out) ws → Dec (16 < length ws)
-          → ws ≡ take (128 * (bytes / 512)) (last .out)
-      by ws long given (yes many) = given many ∙ ap (λ (n : ℕ). take n (last .out)) long
+          → ws ≡ take (128 * (bytes / 512)) (last .out .taken)
+      by ws long given (yes many) = given many ∙ ap (λ (n : ℕ). take n (last .out .taken)) long
       by ws long given (no few) =
           let empty : length ws ≡ 0 = omega arith in
           let zeros : 128 * (bytes / 512) ≡ 0 = omega arith in
@@ -272,7 +276,7 @@ module _ {host : Sdmmc} {index bytes : ℕ} {s : List ℕ} {l : List Row} {r : C
 
   -- in bytes they are the buffer of an accepted read; of any other they count for nothing
   pub stepped-buffer : (buffer : List ℕ) → length buffer ≡ bytes → r .answer ≡ Answered.Accepted
-      → bufferOf (readCame host index bytes s l) buffer ≡ bytesOf (take (128 * (bytes / 512)) (last .out))
+      → bufferOf (readCame host index bytes s l) buffer ≡ bytesOf (take (128 * (bytes / 512)) (last .out .taken))
   unfolding comes
   stepped-buffer buffer long ok =
       let came : readCame host index bytes s l .answer ≡ Answered.Accepted = sym (ap (λ (r : Called). r .answer) (stepped-comes x .0)) ∙ ok in

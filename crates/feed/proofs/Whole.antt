@@ -1,5 +1,5 @@
--- Each call on a script comes to what its one plan does there: `initialised`, `readCame` and `statusCame` are the runs of
--- `initCall`, `readCall` and `statusCall`.
+-- Each call on a script comes to what its one plan does there: `initialised`, `blocksCame` and `statusCame` are the runs of
+-- `initCall`, `blocksCall` and `statusCall`.
 use Prim.Native.Nat.{ℕ, _/_, _%_}
 use mathlib.Core.Path.{_≡_, refl, ap, sym, _∙_}
 use mathlib.Core.Bool.{Bool, true, false, cond, _||_}
@@ -23,14 +23,15 @@ use Rattle.tape.specs.Run.{State, run, runFrom, nextAt}
 use Rattle.tape.proofs.Laws.{run-handle}
 use Rattle.bus.specs.Command.{appCommand}
 use Rattle.bus.specs.Ready.{waitReady}
+use Rattle.bus.specs.Transfer.{Buffer}
 use Rattle.init.specs.Initialise.{sourceOf, limitOf, noCard, initialise}
 use Rattle.host.specs.declared.host.Sdmmc.{Sdmmc}
 use Rattle.host.specs.Calls.{Came, untouched, holding, dropped, ends, freshLine, initFrom, initialised}
-use Rattle.host.specs.Calls.{transferred, approached, served, readPlan, readFrom, readKnown, readCame, statusPlan, statusCame}
-use Rattle.stepping.specs.Closing.{Closing, keeping, dropping, finding, accepting, readHost, statusHost}
+use Rattle.host.specs.Calls.{transferred, approached, served, blocksPlan, blocksFrom, blocksKnown, blocksCame, statusPlan, statusCame}
+use Rattle.stepping.specs.Closing.{Closing, keeping, dropping, finding, accepting, blocksHost, statusHost}
 use Rattle.feed.specs.Runs.{cameBy, cameOf, noClosing}
 use Rattle.underway.specs.Whole as One
-use Rattle.underway.specs.Whole.{initAt, initCall, callPlan, readAt, readCall, statusCall}
+use Rattle.underway.specs.Whole.{initAt, initCall, callPlan, blocksAt, blocksCall, statusCall}
 
 -- a test before a function is a test inside it
 either : {X Y : Type 0} (g : X → Y) (b : Bool) {p q : X} {x y : Y} → x ≡ g p → y ≡ g q → cond b x y ≡ g (cond b p q)
@@ -104,20 +105,22 @@ module _ (host : Sdmmc) (s : List ℕ) (l : List Row) where
         ∙ ap (cameOf host)
         (sym (run-handle s (tt {0}) (noClosing host) (λ _. handle (accepting host next) (dropping host) transfer) (keeping host) approach 0 0 (host .line) l))
 
-  read-at : (blocks : ℕ) (a : AddressAnswer) → readFrom host blocks a s l ≡ came (readAt host blocks a)
-  unfolding readFrom readAt
-  read-at blocks (Address.Refused e) = untouched-call e
-  read-at blocks (Address.Address a) =
-      served-call (readHost host) (waitReady (sourceOf (host .settings)) (host .settings .config) (host .card .rca)) (readPlan host a blocks)
+  -- a read or a write
+  module _ (buffer : Buffer) where
+    blocks-at : (blocks : ℕ) (a : AddressAnswer) → blocksFrom host buffer blocks a s l ≡ came (blocksAt host buffer blocks a)
+    unfolding blocksFrom blocksAt
+    blocks-at blocks (Address.Refused e) = untouched-call e
+    blocks-at blocks (Address.Address a) =
+        served-call (blocksHost host) (waitReady (sourceOf (host .settings)) (host .settings .config) (host .card .rca)) (blocksPlan host buffer a blocks)
 
-  pub read-call : (index bytes : ℕ) → readCame host index bytes s l ≡ came (readCall host index bytes)
-  unfolding readCame readKnown readCall One.readKnown
-  read-call index bytes =
-      either came (host .known)
-      (either came (eqb (bytes % 512) 0)
-      (read-at (bytes / 512) (addressOf (host .card .«card_type») (host .card .«block_count» .0) index (bytes / 512)))
-      (untouched-call E.InvalidBufferLength))
-      (untouched-call E.NoCard)
+    pub blocks-call : (index bytes : ℕ) → blocksCame host buffer index bytes s l ≡ came (blocksCall host buffer index bytes)
+    unfolding blocksCame blocksKnown blocksCall One.blocksKnown
+    blocks-call index bytes =
+        either came (host .known)
+        (either came (eqb (bytes % 512) 0)
+        (blocks-at (bytes / 512) (addressOf (host .card .«card_type») (host .card .«block_count» .0) index (bytes / 512)))
+        (untouched-call E.InvalidBufferLength))
+        (untouched-call E.NoCard)
 
   pub status-call : statusCame host s l ≡ came (statusCall host)
   unfolding statusCame statusCall

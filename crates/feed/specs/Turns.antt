@@ -12,7 +12,7 @@ use Rattle.host.specs.declared.host.Sdmmc.{Sdmmc}
 use Rattle.host.specs.Calls.{Came}
 use Rattle.step.specs.declared.wants.Wants.{Wants}
 use Rattle.step.specs.declared.wants.Wants.the-variants as W
-use Rattle.step.specs.Next.{wantOf, handed}
+use Rattle.step.specs.Next.{wantOf, Lent, handedTo}
 use Rattle.underway.specs.declared.call.Outcome.{Outcome}
 use Rattle.underway.specs.declared.call.Outcome.the-variants as O
 use Rattle.underway.specs.Under.{Under, under, answered, unanswered, written, closedOf}
@@ -33,8 +33,11 @@ pub record Way : Type 0 where
 abbrev pub starts : Under → Way
 starts u = record { call = u; used = 0; rows = 0; place = 0 }
 
--- `g` are the data words that were handed out so far
-abbrev pub wayOf : List ℕ → Feeding → Way
+abbrev pub lent : List ℕ → List ℕ → Lent
+lent sent taken = record { sent = sent; taken = taken }
+
+-- `g` are the words that it is to send, and those that were handed out so far
+abbrev pub wayOf : Lent → Feeding → Way
 wayOf g f = record { call = under g (f .call); used = f .used; rows = f .rows; place = f .place }
 
 pub record Turned : Type 0 where
@@ -58,6 +61,8 @@ module _ (s : List ℕ) where
       cond (ltb (w .rows) (length l))
       (turned (E.Wrote r) (record { call = written (w .call); used = w .used; rows = w .rows + 1; place = w .place }) (set l (w .rows) r))
       (turned (E.Full r) w l)
+  -- what is ahead never waits for this: `filledIn` made a row of it
+  turnBy w l (W.Send k) = turned E.Over w l
   turnBy w l W.Nothing = turned E.Over w l
 
   abbrev pub turnOf : Way → List Row → Turned
@@ -71,14 +76,17 @@ module _ (s : List ℕ) where
   placeFrom w l = placeNext s (w .call .ahead) (w .place) (w .used) (w .rows) l
 
 -- the data words handed out after a turn
-unfoldable pub handedAt : Event → List ℕ → List ℕ
-handedAt (E.Read r w) g = handed r w g
-handedAt (E.Missed r) g = g
-handedAt (E.Wrote r) g = g
-handedAt (E.Full r) g = g
-handedAt E.Over g = g
+unfoldable pub takenAt : Event → List ℕ → List ℕ
+takenAt (E.Read r w) taken = handedTo r w taken
+takenAt (E.Missed r) taken = taken
+takenAt (E.Wrote r) taken = taken
+takenAt (E.Full r) taken = taken
+takenAt E.Over taken = taken
 
-abbrev pub turnedOf : List ℕ → Turn → List Row → Turned
+abbrev pub handedAt : Event → Lent → Lent
+handedAt e g = record { sent = g .sent; taken = takenAt e (g .taken) }
+
+abbrev pub turnedOf : Lent → Turn → List Row → Turned
 turnedOf g t l = turned (t .event) (wayOf (handedAt (t .event) g) (t .feeding)) l
 
 -- whether another turn follows

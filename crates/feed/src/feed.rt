@@ -1,13 +1,14 @@
-// The three calls, fed from their beginning to their end. Their contracts are those of the calls on the script.
+// The four calls, fed from their beginning to their end. Their contracts are those of the calls on the script.
 ghost use mathlib.Core.Path.{_≡_};
-ghost use mathlib.Core.List.{List, []};
-ghost use Prim.Native.Nat.{ℕ};
+ghost use mathlib.Core.List.{[]};
 ghost use lib.ListN.{length};
+ghost use Rattle.types.specs.Words.{wordsOf};
 ghost use Rattle.tape.specs.Layout.{rowsIn};
-ghost use Rattle.host.specs.Calls.{calledOf, initialised, readCame, bufferOf, statusCame, statusReadOf};
+ghost use Rattle.host.specs.Calls.{calledOf, initialised, readCame, bufferOf, writeCame, statusCame, statusReadOf};
+ghost use Rattle.step.specs.Next.{Lent};
 ghost use Rattle.underway.specs.Under.{under};
 ghost use Rattle.feed.specs.Runs.{countOf};
-ghost use Rattle.feed.specs.Turns.{wayOf, starts, fedFrom, placeFrom, calledAt};
+ghost use Rattle.feed.specs.Turns.{lent, wayOf, starts, fedFrom, placeFrom, calledAt};
 use crate::turn::Feeding;
 use host::blocks;
 use host::calls::given_status;
@@ -25,7 +26,7 @@ pub struct Fed {
 }
 
 fn ended(feeding: Feeding) -> Fed
-    ensures { λ r. ⌜ ((g : List ℕ) → r ≡ record { called = calledAt (wayOf g feeding); place = feeding .place }) ⌝ }
+    ensures { λ r. ⌜ ((g : Lent) → r ≡ record { called = calledAt (wayOf g feeding); place = feeding .place }) ⌝ }
 {
     let place = feeding.place;
     Fed {
@@ -34,15 +35,15 @@ fn ended(feeding: Feeding) -> Fed
     }
 }
 
-// Feeds a call to its end, or to the end of the list.
-pub fn feed(call: Call, script: &[u32], rows: &mut [u64]) -> Fed
-    ensures answered { λ r. ⌜ r .called ≡ calledOf (fedFrom (now (script .entry)) (starts (under [] call)) (rowsIn (now (rows .entry)))) ⌝ }
-    ensures listed { λ r. ⌜ rowsIn (now (rows .exit)) ≡ fedFrom (now (script .entry)) (starts (under [] call)) (rowsIn (now (rows .entry))) .list ⌝ }
-    ensures placed { λ r. ⌜ r .place ≡ placeFrom (now (script .entry)) (starts (under [] call)) (rowsIn (now (rows .entry))) ⌝ }
+// Feeds a call to its end, or to the end of the list. The data is what a write sends.
+pub fn feed(call: Call, script: &[u32], data: &[u8], rows: &mut [u64]) -> Fed
+    ensures answered { λ r. ⌜ r .called ≡ calledOf (fedFrom (now (script .entry)) (starts (under (lent (wordsOf (now («data» .entry))) []) call)) (rowsIn (now (rows .entry)))) ⌝ }
+    ensures listed { λ r. ⌜ rowsIn (now (rows .exit)) ≡ fedFrom (now (script .entry)) (starts (under (lent (wordsOf (now («data» .entry))) []) call)) (rowsIn (now (rows .entry))) .list ⌝ }
+    ensures placed { λ r. ⌜ r .place ≡ placeFrom (now (script .entry)) (starts (under (lent (wordsOf (now («data» .entry))) []) call)) (rowsIn (now (rows .entry))) ⌝ }
 {
     let mut feeding = Feeding::begin(call);
     loop {
-        let turn = feeding.turn(script, rows);
+        let turn = feeding.turn(script, data, rows);
         let event = turn.event;
         let next = turn.feeding;
         if !event.goes_on() {
@@ -57,7 +58,8 @@ pub fn init_card(host: Sdmmc, script: &[u32], rows: &mut [u64], frequency: Hertz
     ensures answered { λ r. ⌜ r ≡ calledOf (initialised host (frequency .0) (now (script .entry)) (rowsIn (now (rows .entry)))) ⌝ }
     ensures listed { λ r. ⌜ rowsIn (now (rows .exit)) ≡ initialised host (frequency .0) (now (script .entry)) (rowsIn (now (rows .entry))) .list ⌝ }
 {
-    let fed = feed(Call::init_card(host, frequency), script, rows);
+    let none = [0u8; 0];
+    let fed = feed(Call::init_card(host, frequency), script, &none, rows);
     fed.called
 }
 
@@ -66,7 +68,8 @@ pub fn read_sd_status(host: Sdmmc, script: &[u32], rows: &mut [u64]) -> StatusRe
     ensures answered { λ r. ⌜ r ≡ statusReadOf (statusCame host (now (script .entry)) (rowsIn (now (rows .entry)))) ⌝ }
     ensures listed { λ r. ⌜ rowsIn (now (rows .exit)) ≡ statusCame host (now (script .entry)) (rowsIn (now (rows .entry))) .list ⌝ }
 {
-    let fed = feed(Call::read_sd_status(host), script, rows);
+    let none = [0u8; 0];
+    let fed = feed(Call::read_sd_status(host), script, &none, rows);
     let called = fed.called;
     let answer = called.answer;
     let next = called.host;
@@ -108,10 +111,27 @@ pub fn read_blocks(
     ensures filled { λ r. ⌜ now (buffer .exit) ≡ bufferOf (readCame host index (length (now (buffer .entry))) (now (script .entry)) (rowsIn (now (rows .entry)))) (now (buffer .entry)) ⌝ }
 {
     let bytes = buffer.len();
-    let fed = feed(Call::read_blocks(host, index, bytes), script, rows);
+    let none = [0u8; 0];
+    let fed = feed(Call::read_blocks(host, index, bytes), script, &none, rows);
     let called = fed.called;
     let answer = called.answer;
     let words = blocks::part(script, fed.place, count(answer, bytes));
     blocks::fill_blocks(buffer, words);
     called
+}
+
+// Writes the data, 512 bytes for each block, to the blocks from an index on.
+pub fn write_blocks(
+    host: Sdmmc,
+    script: &[u32],
+    rows: &mut [u64],
+    index: u32,
+    data: &[u8],
+) -> Called
+    ensures answered { λ r. ⌜ r ≡ calledOf (writeCame host index (now («data» .entry)) (now (script .entry)) (rowsIn (now (rows .entry)))) ⌝ }
+    ensures listed { λ r. ⌜ rowsIn (now (rows .exit)) ≡ writeCame host index (now («data» .entry)) (now (script .entry)) (rowsIn (now (rows .entry))) .list ⌝ }
+{
+    let bytes = data.len();
+    let fed = feed(Call::write_blocks(host, index, bytes), script, data, rows);
+    fed.called
 }

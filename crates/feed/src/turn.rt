@@ -2,17 +2,20 @@
 ghost use mathlib.Core.Path.{_≡_};
 ghost use mathlib.Core.List.{List};
 ghost use Prim.Native.Nat.{ℕ};
+ghost use lib.ListN.{getD};
+ghost use Rattle.types.specs.Words.{wordsOf};
 ghost use Rattle.tape.specs.Layout.{rowsIn};
 ghost use Rattle.step.specs.declared.wants.Wants.the-variants as W;
-ghost use Rattle.step.specs.Next.{wantOf};
+ghost use Rattle.step.specs.Next.{wantOf, Lent};
 ghost use Rattle.underway.specs.Under.{under};
 ghost use Rattle.feed.specs.Runs.{liesAt};
-ghost use Rattle.feed.specs.Turns.{wayOf, turnBy, turnOf, turnedOf, goesOn, calledAt};
+ghost use Rattle.feed.specs.Turns.{lent, wayOf, turnBy, turnOf, turnedOf, goesOn, calledAt};
 use host::host::Called;
 use step::wants::Wants;
 use tape::rows::Row;
 use tape::script::Reading;
 use types::error::Answer;
+use types::words;
 use underway::call::Call;
 use underway::call::Outcome;
 
@@ -69,6 +72,17 @@ fn lies(reading: Reading, used: usize, place: usize) -> usize
     }
 }
 
+// Word k of the data, 0 where it has none.
+fn word_at(data: &[u8], k: u32) -> u32
+    ensures { λ r. ⌜ r ≡ getD (wordsOf (now («data» .entry))) k 0 ⌝ }
+{
+    let at = 4 * k as usize;
+    if data.len() / 4 <= k as usize {
+        return 0;
+    }
+    words::little(data[at], data[at + 1], data[at + 2], data[at + 3])
+}
+
 impl Feeding {
     // A call at its start.
     pub fn begin(call: Call) -> Feeding
@@ -84,7 +98,7 @@ impl Feeding {
 
     // A reading: the next word of the script; where there is none, the call is told so.
     fn reads(self, script: &[u32], reading: Reading) -> Turn
-        ensures { λ r. ⌜ ((g : List ℕ) (l : List Row) → W.Read reading ≡ wantOf (under g (self .call) .ahead) → turnedOf g r l ≡ turnBy (now (script .entry)) (wayOf g self) l (W.Read reading)) ⌝ }
+        ensures { λ r. ⌜ ((g : Lent) (l : List Row) → W.Read reading ≡ wantOf (under g (self .call) .ahead) → turnedOf g r l ≡ turnBy (now (script .entry)) (wayOf g self) l (W.Read reading)) ⌝ }
     {
         let used = self.used;
         let call = self.call;
@@ -114,7 +128,7 @@ impl Feeding {
 
     // A row: into the list, where there is room.
     fn writes(self, rows: &mut [u64], row: Row) -> Turn
-        ensures { λ r. ⌜ ((g s : List ℕ) → W.Write row ≡ wantOf (under g (self .call) .ahead) → turnedOf g r (rowsIn (now (rows .exit))) ≡ turnBy s (wayOf g self) (rowsIn (now (rows .entry))) (W.Write row)) ⌝ }
+        ensures { λ r. ⌜ ((g : Lent) (s : List ℕ) → W.Write row ≡ wantOf (under g (self .call) .ahead) → turnedOf g r (rowsIn (now (rows .exit))) ≡ turnBy s (wayOf g self) (rowsIn (now (rows .entry))) (W.Write row)) ⌝ }
     {
         let n = self.rows;
         if rows.len() <= n {
@@ -137,15 +151,22 @@ impl Feeding {
         }
     }
 
-    // One turn.
-    pub fn turn(self, script: &[u32], rows: &mut [u64]) -> Turn
-        ensures { λ r. ⌜ ((g : List ℕ) → turnedOf g r (rowsIn (now (rows .exit))) ≡ turnOf (now (script .entry)) (wayOf g self) (rowsIn (now (rows .entry)))) ⌝ }
+    // One turn. The data is what a write sends.
+    pub fn turn(self, script: &[u32], data: &[u8], rows: &mut [u64]) -> Turn
+        ensures { λ r. ⌜ ((taken : List ℕ) → turnedOf (lent (wordsOf (now («data» .entry))) taken) r (rowsIn (now (rows .exit))) ≡ turnOf (now (script .entry)) (wayOf (lent (wordsOf (now («data» .entry))) taken) self) (rowsIn (now (rows .entry)))) ⌝ }
     {
         let call = self.call;
         let wants = call.wants();
         match wants {
             Wants::Read(reading) => self.reads(script, reading),
             Wants::Write(row) => self.writes(rows, row),
+            Wants::Send(k) => {
+                let row = Row {
+                    register: Row::FIFO,
+                    value: word_at(data, k),
+                };
+                self.writes(rows, row)
+            }
             Wants::Nothing => Turn {
                 event: Event::Over,
                 feeding: self,
@@ -156,7 +177,7 @@ impl Feeding {
     // What the call has come to, where no turn follows: it is over; or its row found no room, and the host before it is the one
     // to use.
     pub fn called(self) -> Called
-        ensures { λ r. ⌜ ((g : List ℕ) → r ≡ calledAt (wayOf g self)) ⌝ }
+        ensures { λ r. ⌜ ((g : Lent) → r ≡ calledAt (wayOf g self)) ⌝ }
     {
         let call = self.call;
         let job = call.job;

@@ -20,7 +20,7 @@ use Rattle.types.specs.declared.error.Error.{Error}
 use Rattle.types.specs.declared.error.Error.the-variants as E
 use Rattle.types.specs.Leaf.{clockOf, addressOf}
 use Rattle.types.specs.Settings.{madeOf}
-use Rattle.types.specs.Words.{bytesOf, sdStatusOf}
+use Rattle.types.specs.Words.{bytesOf, wordsOf, sdStatusOf}
 use Rattle.tape.specs.declared.progress.Halt.the-variants.{Refused, ScriptEnded, TraceFull}
 use Rattle.tape.specs.declared.progress.Line.{Line}
 use Rattle.tape.specs.declared.progress.Pace.{Pace}
@@ -31,7 +31,7 @@ use Rattle.tape.specs.Run.{State, run, runFrom}
 use Rattle.bus.specs.declared.transfer.Transfer.{Transfer}
 use Rattle.bus.specs.Command.{appCommand}
 use Rattle.bus.specs.Ready.{waitReady}
-use Rattle.bus.specs.Transfer.{blockingData}
+use Rattle.bus.specs.Transfer.{Buffer, incoming, outgoing, blockingData}
 use Rattle.init.specs.declared.settings.Settings.{Settings}
 use Rattle.init.specs.Initialise.{sourceOf, limitOf, noCard, initialise}
 use Rattle.host.specs.declared.host.Called.{Called}
@@ -113,7 +113,7 @@ initialised host frequency s l =
     cond (eqb frequency 0 || ltb 50_000_000 frequency) (untouched host E.BadClock l)
     (initFrom host frequency (clockOf (sourceOf (host .settings)) 400_000 false) s l)
 
--- A read and a status call: an approach, whose refusals keep the record, and the data phase, whose refusals leave none.
+-- A read, a write and a status call: an approach, whose refusals keep the record, and the data phase, whose refusals leave none.
 
 unfoldable pub transferred : Sdmmc → Plan (List ℕ) → (State → List ℕ → Sdmmc) → List ℕ → State → Came
 transferred host transfer next s w =
@@ -130,41 +130,55 @@ served host approach transfer next s l =
     let x = run s (tt {0}) approach 0 0 (host .line) l in
     approached host transfer next s (x .state .progress .pace) (x .state)
 
--- Reads.
+-- Reads and writes of blocks: the same but for the command, and for which way the words go in the data phase.
 
--- CMD17 for one block, CMD18 for more, of 2 ^ 9 bytes
-abbrev pub readTransfer : ℕ → ℕ → Transfer
-readTransfer address blocks =
-    record { index = cond (eqb blocks 1) 17 18; argument = address; «block_size» = 9; words = 128 * blocks }
+-- CMD17 for one block, CMD18 for more; of a write CMD24 and CMD25
+abbrev pub blocksIndex : Buffer → ℕ → ℕ
+blocksIndex incoming blocks = cond (eqb blocks 1) 17 18
+blocksIndex (outgoing ws) blocks = cond (eqb blocks 1) 24 25
 
-abbrev pub readPlan : Sdmmc → ℕ → ℕ → Plan (List ℕ)
-readPlan host address blocks =
-    blockingData (sourceOf (host .settings)) (host .settings .config) (readTransfer address blocks) (host .card .rca)
+-- of 2 ^ 9 bytes
+abbrev pub blocksTransfer : Buffer → ℕ → ℕ → Transfer
+blocksTransfer buffer address blocks =
+    record { index = blocksIndex buffer blocks; argument = address; «block_size» = 9; words = 128 * blocks }
 
--- an accepted read changes the line alone
-abbrev pub readNext : Sdmmc → State → List ℕ → Sdmmc
-readNext host w ws = kept host w
+abbrev pub blocksPlan : Sdmmc → Buffer → ℕ → ℕ → Plan (List ℕ)
+blocksPlan host buffer address blocks =
+    blockingData (sourceOf (host .settings)) (host .settings .config) buffer (blocksTransfer buffer address blocks) (host .card .rca)
 
-abbrev pub readData : Sdmmc → ℕ → ℕ → List ℕ → State → Came
-readData host address blocks s w = transferred host (readPlan host address blocks) (readNext host) s w
+-- an accepted one changes the line alone
+abbrev pub blocksNext : Sdmmc → State → List ℕ → Sdmmc
+blocksNext host w ws = kept host w
 
-unfoldable pub readFrom : Sdmmc → ℕ → AddressAnswer → List ℕ → List Row → Came
-readFrom host blocks (Address.Refused e) s l = untouched host e l
-readFrom host blocks (Address.Address a) s l =
+abbrev pub blocksData : Sdmmc → Buffer → ℕ → ℕ → List ℕ → State → Came
+blocksData host buffer address blocks s w = transferred host (blocksPlan host buffer address blocks) (blocksNext host) s w
+
+unfoldable pub blocksFrom : Sdmmc → Buffer → ℕ → AddressAnswer → List ℕ → List Row → Came
+blocksFrom host buffer blocks (Address.Refused e) s l = untouched host e l
+blocksFrom host buffer blocks (Address.Address a) s l =
     served host (waitReady (sourceOf (host .settings)) (host .settings .config) (host .card .rca))
-    (readPlan host a blocks) (readNext host) s l
+    (blocksPlan host buffer a blocks) (blocksNext host) s l
 
 -- 16; 19 for a byte length not a multiple of 512, for 0 blocks or over 511; 20 when index plus count exceeds the blocks
-unfoldable pub readKnown : Sdmmc → ℕ → ℕ → List ℕ → List Row → Came
-readKnown host index bytes s l =
+unfoldable pub blocksKnown : Sdmmc → Buffer → ℕ → ℕ → List ℕ → List Row → Came
+blocksKnown host buffer index bytes s l =
     cond (eqb (bytes % 512) 0)
-    (readFrom host (bytes / 512) (addressOf (host .card .«card_type») (host .card .«block_count» .0) index (bytes / 512)) s l)
+    (blocksFrom host buffer (bytes / 512) (addressOf (host .card .«card_type») (host .card .«block_count» .0) index (bytes / 512)) s l)
     (untouched host E.InvalidBufferLength l)
 
-unfoldable pub readCame : Sdmmc → ℕ → ℕ → List ℕ → List Row → Came
-readCame host index bytes s l = cond (host .known) (readKnown host index bytes s l) (untouched host E.NoCard l)
+unfoldable pub blocksCame : Sdmmc → Buffer → ℕ → ℕ → List ℕ → List Row → Came
+blocksCame host buffer index bytes s l =
+    cond (host .known) (blocksKnown host buffer index bytes s l) (untouched host E.NoCard l)
 
--- the buffer after it: each block's 128 words as its 512 bytes, little-endian, as many blocks as there are words for; there
+-- a read, into a buffer of so many bytes
+abbrev pub readCame : Sdmmc → ℕ → ℕ → List ℕ → List Row → Came
+readCame host index bytes s l = blocksCame host incoming index bytes s l
+
+-- a write of these bytes, as little-endian words
+abbrev pub writeCame : Sdmmc → ℕ → List ℕ → List ℕ → List Row → Came
+writeCame host index bytes s l = blocksCame host (outgoing (wordsOf bytes)) index (length bytes) s l
+
+-- the buffer after a read: each block's 128 words as its 512 bytes, little-endian, as many blocks as there are words for; there
 -- are none unless the call was accepted
 unfoldable pub blocksFilled : List ℕ → List ℕ → List ℕ
 blocksFilled words buffer =
@@ -194,7 +208,7 @@ withStatus card status =
 
 -- the data phase of ACMD13
 abbrev pub statusPlan : Sdmmc → Plan (List ℕ)
-statusPlan host = blockingData (sourceOf (host .settings)) (host .settings .config) statusTransfer (host .card .rca)
+statusPlan host = blockingData (sourceOf (host .settings)) (host .settings .config) incoming statusTransfer (host .card .rca)
 
 abbrev pub statusNext : Sdmmc → State → List ℕ → Sdmmc
 statusNext host w ws = holding host w (withStatus (host .card) (sdStatusOf ws))

@@ -22,11 +22,11 @@ use Rattle.tape.specs.Steps.{word, row, holdGated, holdClock, holdSignalling, w
 use Rattle.bus.specs.Clock.{configureClock, clockDelay}
 use Rattle.bus.specs.Command.{formOf, issue, pollCompletion, waitCompletion, echo, responseWords, judge, answer, complete, commandInner, command, appCommand}
 use Rattle.bus.specs.Ready.{retryDelay, readStatus, tryReady, waitReady}
-use Rattle.bus.specs.Transfer.{arm, startData, clean, pollTransfer, drained, settle, dataComplete, waitData, receive, closeGate, stopTransmission, endData, transferData, blockingData}
+use Rattle.bus.specs.Transfer.{arm, readyData, orderData, beforeCommand, afterCommand, landed, startData, clean, pollTransfer, drained, settle, dataComplete, waitData, receive, closeGate, stopTransmission, endData, transferData, blockingData}
 use Rattle.init.specs.declared.settings.Settings.{Settings}
 use Rattle.init.specs.Initialise.{noCard, version, timedOut, late, cardVersion, powerOn, beginInit, powerUp, tryPowerUp, waitPowerUp, select, publish, identify, blockLength, readScr, setWidth, setClock, transferClock, takeSwitch, askSwitch, switchSpeed, settleCard, initCard, initialise}
 use Rattle.host.specs.declared.host.Sdmmc.{Sdmmc}
-use Rattle.host.specs.Calls.{Came, hostOf, ends, initFrom, initialised, transferred, approached, served, readFrom, readKnown, readCame, statusCame, clockedHost, judgedHost, made}
+use Rattle.host.specs.Calls.{Came, hostOf, ends, initFrom, initialised, transferred, approached, served, blocksFrom, blocksKnown, blocksCame, readCame, statusCame, clockedHost, judgedHost, made}
 
 -- a list of zeros, with room for this many rows
 abbrev empty : ℕ → List Row
@@ -60,7 +60,7 @@ pub narrow : initialised (made narrowSettings .host) 39172822 narrowScript (empt
       host = hostOf narrowSettings (record { clkcr = 1; gated = true; clock = record { 0 = 24573582 }; signalling = SDR12 }) true
           (record { «card_type» = SDHC; ocr = 3260648877; rca = 3440; cid = record { high = 5854495204957778348; low = 1196969115425753194 }; csd = record { high = 5152755907297906456; low = 8735556845122472309 }; scr = record { 0 = 9225040241036569636 }; status = 0 ∷ 0 ∷ 0 ∷ 0 ∷ 0 ∷ 0 ∷ 0 ∷ 0 ∷ 0 ∷ 0 ∷ 0 ∷ 0 ∷ 0 ∷ 0 ∷ 0 ∷ 0 ∷ []; «block_count» = record { 0 = 1642392576 } });
     }
-unfolding rowsOfPairs ensure word timedOut divisorOf clockOf firstMatch dataOf countOf rateOf madeOf bytesOf halvesOf scrOf handle until noted run row holdGated holdClock holdSignalling waitIdle resetController stopData setClken dataFrom configureClock clockDelay formOf issue pollCompletion waitCompletion echo responseWords judge answer complete commandInner command appCommand retryDelay readStatus tryReady waitReady arm startData clean pollTransfer drained settle dataComplete waitData receive closeGate stopTransmission endData transferData blockingData version late cardVersion powerOn beginInit powerUp tryPowerUp waitPowerUp select publish identify blockLength readScr setWidth setClock transferClock takeSwitch askSwitch switchSpeed settleCard initCard initialise ends initFrom initialised transferred approached served readFrom readKnown readCame statusCame unitsOf addressOf counted sdStatusOf clockedHost judgedHost made
+unfolding rowsOfPairs ensure word timedOut divisorOf clockOf firstMatch dataOf countOf rateOf madeOf bytesOf halvesOf scrOf handle until noted run row holdGated holdClock holdSignalling waitIdle resetController stopData setClken dataFrom configureClock clockDelay formOf issue pollCompletion waitCompletion echo responseWords judge answer complete commandInner command appCommand retryDelay readStatus tryReady waitReady arm readyData orderData beforeCommand afterCommand landed startData clean pollTransfer drained settle dataComplete waitData receive closeGate stopTransmission endData transferData blockingData version late cardVersion powerOn beginInit powerUp tryPowerUp waitPowerUp select publish identify blockLength readScr setWidth setClock transferClock takeSwitch askSwitch switchSpeed settleCard initCard initialise ends initFrom initialised transferred approached served blocksFrom blocksKnown blocksCame statusCame unitsOf addressOf counted sdStatusOf clockedHost judgedHost made
 narrow = refl
 
 abbrev switchedSettings : Settings
@@ -87,7 +87,7 @@ pub switched : initialised (made switchedSettings .host) 36134534 switchedScript
       host = hostOf switchedSettings (record { clkcr = 2048; gated = true; clock = record { 0 = 2 }; signalling = SDR25 }) true
           (record { «card_type» = SDSC; ocr = 3214741106; rca = 16303; cid = record { high = 8827961578844625009; low = 5976144747122638957 }; csd = record { high = 1235072043180517376; low = 14498360363222345307 }; scr = record { 0 = 16966715703163662705 }; status = 0 ∷ 0 ∷ 0 ∷ 0 ∷ 0 ∷ 0 ∷ 0 ∷ 0 ∷ 0 ∷ 0 ∷ 0 ∷ 0 ∷ 0 ∷ 0 ∷ 0 ∷ 0 ∷ []; «block_count» = record { 0 = 64 } });
     }
-unfolding rowsOfPairs ensure word timedOut divisorOf clockOf firstMatch dataOf countOf rateOf madeOf bytesOf halvesOf scrOf handle until noted run row holdGated holdClock holdSignalling waitIdle resetController stopData setClken dataFrom configureClock clockDelay formOf issue pollCompletion waitCompletion echo responseWords judge answer complete commandInner command appCommand retryDelay readStatus tryReady waitReady arm startData clean pollTransfer drained settle dataComplete waitData receive closeGate stopTransmission endData transferData blockingData version late cardVersion powerOn beginInit powerUp tryPowerUp waitPowerUp select publish identify blockLength readScr setWidth setClock transferClock takeSwitch askSwitch switchSpeed settleCard initCard initialise ends initFrom initialised transferred approached served readFrom readKnown readCame statusCame unitsOf addressOf counted sdStatusOf clockedHost judgedHost made
+unfolding rowsOfPairs ensure word timedOut divisorOf clockOf firstMatch dataOf countOf rateOf madeOf bytesOf halvesOf scrOf handle until noted run row holdGated holdClock holdSignalling waitIdle resetController stopData setClken dataFrom configureClock clockDelay formOf issue pollCompletion waitCompletion echo responseWords judge answer complete commandInner command appCommand retryDelay readStatus tryReady waitReady arm readyData orderData beforeCommand afterCommand landed startData clean pollTransfer drained settle dataComplete waitData receive closeGate stopTransmission endData transferData blockingData version late cardVersion powerOn beginInit powerUp tryPowerUp waitPowerUp select publish identify blockLength readScr setWidth setClock transferClock takeSwitch askSwitch switchSpeed settleCard initCard initialise ends initFrom initialised transferred approached served blocksFrom blocksKnown blocksCame statusCame unitsOf addressOf counted sdStatusOf clockedHost judgedHost made
 switched = refl
 
 abbrev blocksSettings : Settings
@@ -119,7 +119,7 @@ pub blocks : readCame blocksHost 33730825 1024 blocksScript (empty 30)
       host = hostOf blocksSettings (record { clkcr = 19456; gated = true; clock = record { 0 = 1000 }; signalling = SDR12 }) true
           (record { «card_type» = SDHC; ocr = 3676744920; rca = 1773; cid = record { high = 10614031905992611897; low = 13894537552128486370 }; csd = record { high = 5480212461539388992; low = 11985426724129564805 }; scr = record { 0 = 2496479927581758801 }; status = 0 ∷ 0 ∷ 0 ∷ 0 ∷ 0 ∷ 0 ∷ 0 ∷ 0 ∷ 0 ∷ 0 ∷ 0 ∷ 0 ∷ 0 ∷ 0 ∷ 0 ∷ 0 ∷ []; «block_count» = record { 0 = 43602944 } });
     }
-unfolding rowsOfPairs ensure word timedOut divisorOf clockOf firstMatch dataOf countOf rateOf madeOf bytesOf halvesOf scrOf handle until noted run row holdGated holdClock holdSignalling waitIdle resetController stopData setClken dataFrom configureClock clockDelay formOf issue pollCompletion waitCompletion echo responseWords judge answer complete commandInner command appCommand retryDelay readStatus tryReady waitReady arm startData clean pollTransfer drained settle dataComplete waitData receive closeGate stopTransmission endData transferData blockingData version late cardVersion powerOn beginInit powerUp tryPowerUp waitPowerUp select publish identify blockLength readScr setWidth setClock transferClock takeSwitch askSwitch switchSpeed settleCard initCard initialise ends initFrom initialised transferred approached served readFrom readKnown readCame statusCame unitsOf addressOf counted sdStatusOf clockedHost judgedHost made
+unfolding rowsOfPairs ensure word timedOut divisorOf clockOf firstMatch dataOf countOf rateOf madeOf bytesOf halvesOf scrOf handle until noted run row holdGated holdClock holdSignalling waitIdle resetController stopData setClken dataFrom configureClock clockDelay formOf issue pollCompletion waitCompletion echo responseWords judge answer complete commandInner command appCommand retryDelay readStatus tryReady waitReady arm readyData orderData beforeCommand afterCommand landed startData clean pollTransfer drained settle dataComplete waitData receive closeGate stopTransmission endData transferData blockingData version late cardVersion powerOn beginInit powerUp tryPowerUp waitPowerUp select publish identify blockLength readScr setWidth setClock transferClock takeSwitch askSwitch switchSpeed settleCard initCard initialise ends initFrom initialised transferred approached served blocksFrom blocksKnown blocksCame statusCame unitsOf addressOf counted sdStatusOf clockedHost judgedHost made
 blocks = refl
 
 abbrev statusSettings : Settings
@@ -151,7 +151,7 @@ pub status : statusCame statusHost statusScript (empty 25)
       host = hostOf statusSettings (record { clkcr = 0; gated = true; clock = record { 0 = 12499999 }; signalling = SDR12 }) true
           (record { «card_type» = SDHC; ocr = 3493256252; rca = 15833; cid = record { high = 4941702262230667832; low = 5771362673349281307 }; csd = record { high = 6837660891894876713; low = 10659667017040492165 }; scr = record { 0 = 91623397732611020 }; status = 2477972442 ∷ 730814120 ∷ 2453901413 ∷ 2185315451 ∷ 2401130141 ∷ 1337527910 ∷ 1302459382 ∷ 1647617630 ∷ 1321108783 ∷ 2849862938 ∷ 3255569688 ∷ 1880863384 ∷ 2729856709 ∷ 3872921318 ∷ 4208529427 ∷ 3855319705 ∷ []; «block_count» = record { 0 = 2790243328 } });
     }
-unfolding rowsOfPairs ensure word timedOut divisorOf clockOf firstMatch dataOf countOf rateOf madeOf bytesOf halvesOf scrOf handle until noted run row holdGated holdClock holdSignalling waitIdle resetController stopData setClken dataFrom configureClock clockDelay formOf issue pollCompletion waitCompletion echo responseWords judge answer complete commandInner command appCommand retryDelay readStatus tryReady waitReady arm startData clean pollTransfer drained settle dataComplete waitData receive closeGate stopTransmission endData transferData blockingData version late cardVersion powerOn beginInit powerUp tryPowerUp waitPowerUp select publish identify blockLength readScr setWidth setClock transferClock takeSwitch askSwitch switchSpeed settleCard initCard initialise ends initFrom initialised transferred approached served readFrom readKnown readCame statusCame unitsOf addressOf counted sdStatusOf clockedHost judgedHost made
+unfolding rowsOfPairs ensure word timedOut divisorOf clockOf firstMatch dataOf countOf rateOf madeOf bytesOf halvesOf scrOf handle until noted run row holdGated holdClock holdSignalling waitIdle resetController stopData setClken dataFrom configureClock clockDelay formOf issue pollCompletion waitCompletion echo responseWords judge answer complete commandInner command appCommand retryDelay readStatus tryReady waitReady arm readyData orderData beforeCommand afterCommand landed startData clean pollTransfer drained settle dataComplete waitData receive closeGate stopTransmission endData transferData blockingData version late cardVersion powerOn beginInit powerUp tryPowerUp waitPowerUp select publish identify blockLength readScr setWidth setClock transferClock takeSwitch askSwitch switchSpeed settleCard initCard initialise ends initFrom initialised transferred approached served blocksFrom blocksKnown blocksCame statusCame unitsOf addressOf counted sdStatusOf clockedHost judgedHost made
 status = refl
 
 abbrev resetRows : List Row
@@ -172,7 +172,7 @@ turnedAway field =
 
 pub bargain : map (λ ocr. initialised (made narrowSettings .host) 39172822 (narrowWith ocr 0x7cca_8f18) (empty 45)) (3260648877 ∷ 2186907053 ∷ [])
     ≡ turnedAway BlockLength ∷ turnedAway CsdAndOcr ∷ []
-unfolding rowsOfPairs ensure word timedOut divisorOf clockOf firstMatch dataOf countOf rateOf madeOf bytesOf halvesOf scrOf handle until noted run row holdGated holdClock holdSignalling waitIdle resetController stopData setClken dataFrom configureClock clockDelay formOf issue pollCompletion waitCompletion echo responseWords judge answer complete commandInner command appCommand retryDelay readStatus tryReady waitReady arm startData clean pollTransfer drained settle dataComplete waitData receive closeGate stopTransmission endData transferData blockingData version late cardVersion powerOn beginInit powerUp tryPowerUp waitPowerUp select publish identify blockLength readScr setWidth setClock transferClock takeSwitch askSwitch switchSpeed settleCard initCard initialise ends initFrom initialised transferred approached served readFrom readKnown readCame statusCame unitsOf addressOf counted sdStatusOf clockedHost judgedHost made
+unfolding rowsOfPairs ensure word timedOut divisorOf clockOf firstMatch dataOf countOf rateOf madeOf bytesOf halvesOf scrOf handle until noted run row holdGated holdClock holdSignalling waitIdle resetController stopData setClken dataFrom configureClock clockDelay formOf issue pollCompletion waitCompletion echo responseWords judge answer complete commandInner command appCommand retryDelay readStatus tryReady waitReady arm readyData orderData beforeCommand afterCommand landed startData clean pollTransfer drained settle dataComplete waitData receive closeGate stopTransmission endData transferData blockingData version late cardVersion powerOn beginInit powerUp tryPowerUp waitPowerUp select publish identify blockLength readScr setWidth setClock transferClock takeSwitch askSwitch switchSpeed settleCard initCard initialise ends initFrom initialised transferred approached served blocksFrom blocksKnown blocksCame statusCame unitsOf addressOf counted sdStatusOf clockedHost judgedHost made
 bargain = refl
 
 -- A card pulled out: the same call cut short. Before initialisation's first reading: the ten reset rows, and ten more, no record;
@@ -188,7 +188,7 @@ pub pulled-at-once : initialised statusHost 25_000_000 [] (empty 20) ∷ initial
     }
     ∷ record { answer = TraceFull; words = 0; rows = 19; list = resetRows ++ take 9 resetRows; taken = []; host = statusHost }
     ∷ []
-unfolding rowsOfPairs ensure word timedOut divisorOf clockOf firstMatch dataOf countOf rateOf madeOf bytesOf halvesOf scrOf handle until noted run row holdGated holdClock holdSignalling waitIdle resetController stopData setClken dataFrom configureClock clockDelay formOf issue pollCompletion waitCompletion echo responseWords judge answer complete commandInner command appCommand retryDelay readStatus tryReady waitReady arm startData clean pollTransfer drained settle dataComplete waitData receive closeGate stopTransmission endData transferData blockingData version late cardVersion powerOn beginInit powerUp tryPowerUp waitPowerUp select publish identify blockLength readScr setWidth setClock transferClock takeSwitch askSwitch switchSpeed settleCard initCard initialise ends initFrom initialised transferred approached served readFrom readKnown readCame statusCame unitsOf addressOf counted sdStatusOf clockedHost judgedHost made
+unfolding rowsOfPairs ensure word timedOut divisorOf clockOf firstMatch dataOf countOf rateOf madeOf bytesOf halvesOf scrOf handle until noted run row holdGated holdClock holdSignalling waitIdle resetController stopData setClken dataFrom configureClock clockDelay formOf issue pollCompletion waitCompletion echo responseWords judge answer complete commandInner command appCommand retryDelay readStatus tryReady waitReady arm readyData orderData beforeCommand afterCommand landed startData clean pollTransfer drained settle dataComplete waitData receive closeGate stopTransmission endData transferData blockingData version late cardVersion powerOn beginInit powerUp tryPowerUp waitPowerUp select publish identify blockLength readScr setWidth setClock transferClock takeSwitch askSwitch switchSpeed settleCard initCard initialise ends initFrom initialised transferred approached served blocksFrom blocksKnown blocksCame statusCame unitsOf addressOf counted sdStatusOf clockedHost judgedHost made
 pulled-at-once = refl
 
 -- Among the data words of initialisation's CMD51: the reset rows of the data phase, and initialisation's own; with room for one
@@ -214,7 +214,7 @@ pub pulled-inside :
       host = made narrowSettings .host;
     }
     ∷ []
-unfolding rowsOfPairs ensure word timedOut divisorOf clockOf firstMatch dataOf countOf rateOf madeOf bytesOf halvesOf scrOf handle until noted run row holdGated holdClock holdSignalling waitIdle resetController stopData setClken dataFrom configureClock clockDelay formOf issue pollCompletion waitCompletion echo responseWords judge answer complete commandInner command appCommand retryDelay readStatus tryReady waitReady arm startData clean pollTransfer drained settle dataComplete waitData receive closeGate stopTransmission endData transferData blockingData version late cardVersion powerOn beginInit powerUp tryPowerUp waitPowerUp select publish identify blockLength readScr setWidth setClock transferClock takeSwitch askSwitch switchSpeed settleCard initCard initialise ends initFrom initialised transferred approached served readFrom readKnown readCame statusCame unitsOf addressOf counted sdStatusOf clockedHost judgedHost made
+unfolding rowsOfPairs ensure word timedOut divisorOf clockOf firstMatch dataOf countOf rateOf madeOf bytesOf halvesOf scrOf handle until noted run row holdGated holdClock holdSignalling waitIdle resetController stopData setClken dataFrom configureClock clockDelay formOf issue pollCompletion waitCompletion echo responseWords judge answer complete commandInner command appCommand retryDelay readStatus tryReady waitReady arm readyData orderData beforeCommand afterCommand landed startData clean pollTransfer drained settle dataComplete waitData receive closeGate stopTransmission endData transferData blockingData version late cardVersion powerOn beginInit powerUp tryPowerUp waitPowerUp select publish identify blockLength readScr setWidth setClock transferClock takeSwitch askSwitch switchSpeed settleCard initCard initialise ends initFrom initialised transferred approached served blocksFrom blocksKnown blocksCame statusCame unitsOf addressOf counted sdStatusOf clockedHost judgedHost made
 pulled-inside = refl
 
 -- At a status call's CMD55: the clock off, the record kept. At the last word of its closing ready wait: the clock off, and the
@@ -231,5 +231,5 @@ pub pulled : statusCame statusHost [] (empty 2) ∷ statusCame statusHost (take 
     }
     ∷ record { answer = TraceFull; words = 42; rows = 34; list = statusRows ++ take 9 resetRows; taken = []; host = statusHost }
     ∷ []
-unfolding rowsOfPairs ensure word timedOut divisorOf clockOf firstMatch dataOf countOf rateOf madeOf bytesOf halvesOf scrOf handle until noted run row holdGated holdClock holdSignalling waitIdle resetController stopData setClken dataFrom configureClock clockDelay formOf issue pollCompletion waitCompletion echo responseWords judge answer complete commandInner command appCommand retryDelay readStatus tryReady waitReady arm startData clean pollTransfer drained settle dataComplete waitData receive closeGate stopTransmission endData transferData blockingData version late cardVersion powerOn beginInit powerUp tryPowerUp waitPowerUp select publish identify blockLength readScr setWidth setClock transferClock takeSwitch askSwitch switchSpeed settleCard initCard initialise ends initFrom initialised transferred approached served readFrom readKnown readCame statusCame unitsOf addressOf counted sdStatusOf clockedHost judgedHost made
+unfolding rowsOfPairs ensure word timedOut divisorOf clockOf firstMatch dataOf countOf rateOf madeOf bytesOf halvesOf scrOf handle until noted run row holdGated holdClock holdSignalling waitIdle resetController stopData setClken dataFrom configureClock clockDelay formOf issue pollCompletion waitCompletion echo responseWords judge answer complete commandInner command appCommand retryDelay readStatus tryReady waitReady arm readyData orderData beforeCommand afterCommand landed startData clean pollTransfer drained settle dataComplete waitData receive closeGate stopTransmission endData transferData blockingData version late cardVersion powerOn beginInit powerUp tryPowerUp waitPowerUp select publish identify blockLength readScr setWidth setClock transferClock takeSwitch askSwitch switchSpeed settleCard initCard initialise ends initFrom initialised transferred approached served blocksFrom blocksKnown blocksCame statusCame unitsOf addressOf counted sdStatusOf clockedHost judgedHost made
 pulled = refl

@@ -1,15 +1,18 @@
-// The calls on a host: initialise, read, SD status.
+// The calls on a host: initialise, SD status, read and write blocks.
 ghost use mathlib.Core.Path.{_≡_};
 ghost use mathlib.Core.List.{List, []};
 ghost use mathlib.Core.Bool.{cond};
-ghost use Prim.Native.Nat.{ℕ, _≤_};
+ghost use Prim.Native.Nat.{ℕ, _*_, _/_, _%_, _≤_};
 ghost use lib.Dec.{eqb};
 ghost use lib.ListN.{length};
 ghost use Rattle.types.specs.declared.card.AddressAnswer.the-variants as Address;
 ghost use Rattle.types.specs.declared.clock.ClockAnswer.the-variants as Clocked;
+ghost use Rattle.types.specs.Leaf.{addressOf};
+ghost use Rattle.types.specs.Words.{wordsOf};
 ghost use Rattle.tape.specs.Layout.{rowsIn};
 ghost use Rattle.tape.specs.Run.{at};
-ghost use Rattle.host.specs.Calls.{calledOf, kept, dropped, ends, initFrom, initialised, readTransfer, readData, readFrom, readKnown, readCame, bufferOf, withStatus, statusData, statusFrom, statusCame, statusGiven, statusReadOf};
+ghost use Rattle.bus.specs.Transfer.{incoming, outgoing};
+ghost use Rattle.host.specs.Calls.{calledOf, kept, dropped, ends, initFrom, initialised, blocksIndex, blocksTransfer, blocksData, blocksFrom, blocksKnown, readCame, bufferOf, writeCame, withStatus, statusData, statusFrom, statusCame, statusGiven, statusReadOf};
 use crate::blocks;
 use crate::host;
 use crate::host::Called;
@@ -60,18 +63,38 @@ pub fn given_status(answer: Answer, status: [u32; 16]) -> [u32; 16]
 
 // CMD17 for one block, CMD18 for more.
 fn read_index(blocks: u16) -> u8
-    ensures { λ r. ⌜ r ≡ cond (eqb blocks 1) 17 18 ⌝ }
+    ensures { λ r. ⌜ r ≡ blocksIndex incoming blocks ⌝ }
 {
     if blocks == 1 { 17 } else { 18 }
+}
+
+// CMD24 for one block, CMD25 for more.
+fn write_index(blocks: u16) -> u8
+    ensures { λ r. ⌜ ((ws : List ℕ) → r ≡ blocksIndex (outgoing ws) blocks) ⌝ }
+{
+    if blocks == 1 { 24 } else { 25 }
 }
 
 // What a read of so many blocks asks for.
 fn read_transfer(address: u32, blocks: u16) -> Transfer
     requires { ⌜ blocks ≤ 511 ⌝ }
-    ensures { λ r. ⌜ r ≡ readTransfer address blocks ⌝ }
+    ensures { λ r. ⌜ r ≡ blocksTransfer incoming address blocks ⌝ }
 {
     Transfer {
         index: read_index(blocks),
+        argument: address,
+        block_size: 9,
+        words: 128 * blocks,
+    }
+}
+
+// And a write of so many.
+fn write_transfer(address: u32, blocks: u16) -> Transfer
+    requires { ⌜ blocks ≤ 511 ⌝ }
+    ensures { λ r. ⌜ ((ws : List ℕ) → r ≡ blocksTransfer (outgoing ws) address blocks) ⌝ }
+{
+    Transfer {
+        index: write_index(blocks),
         argument: address,
         block_size: 9,
         words: 128 * blocks,
@@ -224,9 +247,9 @@ impl Sdmmc {
         blocks: u16,
     ) -> Called
         requires { ⌜ (p .pace ≡ Pace.Going) × (blocks ≤ 511) ⌝ }
-        ensures answered { λ r. ⌜ r ≡ calledOf (readData self address blocks (now (script .entry)) (at p (rowsIn (now (rows .entry))))) ⌝ }
-        ensures listed { λ r. ⌜ rowsIn (now (rows .exit)) ≡ readData self address blocks (now (script .entry)) (at p (rowsIn (now (rows .entry)))) .list ⌝ }
-        ensures filled { λ r. ⌜ now (buffer .exit) ≡ bufferOf (readData self address blocks (now (script .entry)) (at p (rowsIn (now (rows .entry))))) (now (buffer .entry)) ⌝ }
+        ensures answered { λ r. ⌜ r ≡ calledOf (blocksData self incoming address blocks (now (script .entry)) (at p (rowsIn (now (rows .entry))))) ⌝ }
+        ensures listed { λ r. ⌜ rowsIn (now (rows .exit)) ≡ blocksData self incoming address blocks (now (script .entry)) (at p (rowsIn (now (rows .entry)))) .list ⌝ }
+        ensures filled { λ r. ⌜ now (buffer .exit) ≡ bufferOf (blocksData self incoming address blocks (now (script .entry)) (at p (rowsIn (now (rows .entry))))) (now (buffer .entry)) ⌝ }
     {
         let source = self.settings.source;
         let config = self.settings.config;
@@ -255,9 +278,9 @@ impl Sdmmc {
         blocks: u16,
     ) -> Called
         requires { ⌜ blocks ≤ 511 ⌝ }
-        ensures answered { λ r. ⌜ r ≡ calledOf (readFrom self blocks (Address.Address address) (now (script .entry)) (rowsIn (now (rows .entry)))) ⌝ }
-        ensures listed { λ r. ⌜ rowsIn (now (rows .exit)) ≡ readFrom self blocks (Address.Address address) (now (script .entry)) (rowsIn (now (rows .entry))) .list ⌝ }
-        ensures filled { λ r. ⌜ now (buffer .exit) ≡ bufferOf (readFrom self blocks (Address.Address address) (now (script .entry)) (rowsIn (now (rows .entry)))) (now (buffer .entry)) ⌝ }
+        ensures answered { λ r. ⌜ r ≡ calledOf (blocksFrom self incoming blocks (Address.Address address) (now (script .entry)) (rowsIn (now (rows .entry)))) ⌝ }
+        ensures listed { λ r. ⌜ rowsIn (now (rows .exit)) ≡ blocksFrom self incoming blocks (Address.Address address) (now (script .entry)) (rowsIn (now (rows .entry))) .list ⌝ }
+        ensures filled { λ r. ⌜ now (buffer .exit) ≡ bufferOf (blocksFrom self incoming blocks (Address.Address address) (now (script .entry)) (rowsIn (now (rows .entry)))) (now (buffer .entry)) ⌝ }
     {
         let source = self.settings.source;
         let config = self.settings.config;
@@ -271,28 +294,34 @@ impl Sdmmc {
         }
     }
 
-    // A read on a host that has a card.
-    fn read_known(self, script: &[u32], rows: &mut [u64], index: u32, buffer: &mut [u8]) -> Called
-        ensures answered { λ r. ⌜ r ≡ calledOf (readKnown self index (length (now (buffer .entry))) (now (script .entry)) (rowsIn (now (rows .entry)))) ⌝ }
-        ensures listed { λ r. ⌜ rowsIn (now (rows .exit)) ≡ readKnown self index (length (now (buffer .entry))) (now (script .entry)) (rowsIn (now (rows .entry))) .list ⌝ }
-        ensures filled { λ r. ⌜ now (buffer .exit) ≡ bufferOf (readKnown self index (length (now (buffer .entry))) (now (script .entry)) (rowsIn (now (rows .entry)))) (now (buffer .entry)) ⌝ }
+    // The address of so many bytes from a block on: whole blocks, 1 to 511 of them, that the card has.
+    fn judged(self, index: u32, bytes: usize) -> AddressAnswer
+        ensures { λ r. ⌜ r ≡ cond (eqb (bytes % 512) 0) (addressOf (self .card .«card_type») (self .card .«block_count» .0) index (bytes / 512)) (Address.Refused Error.InvalidBufferLength) ⌝ }
     {
-        let bytes = buffer.len();
         let card = self.card;
         let class = card.card_type;
         let count = card.block_count;
         if bytes % 512 != 0 {
-            return self.untouched(Error::InvalidBufferLength);
+            return AddressAnswer::Refused(Error::InvalidBufferLength);
         }
-        let blocks = bytes / 512;
-        let answer = block_address(class, count, index, blocks);
+        block_address(class, count, index, bytes / 512)
+    }
+
+    // A read on a host that has a card.
+    fn read_known(self, script: &[u32], rows: &mut [u64], index: u32, buffer: &mut [u8]) -> Called
+        ensures answered { λ r. ⌜ r ≡ calledOf (blocksKnown self incoming index (length (now (buffer .entry))) (now (script .entry)) (rowsIn (now (rows .entry)))) ⌝ }
+        ensures listed { λ r. ⌜ rowsIn (now (rows .exit)) ≡ blocksKnown self incoming index (length (now (buffer .entry))) (now (script .entry)) (rowsIn (now (rows .entry))) .list ⌝ }
+        ensures filled { λ r. ⌜ now (buffer .exit) ≡ bufferOf (blocksKnown self incoming index (length (now (buffer .entry))) (now (script .entry)) (rowsIn (now (rows .entry)))) (now (buffer .entry)) ⌝ }
+    {
+        let bytes = buffer.len();
+        let answer = self.judged(index, bytes);
         match answer {
             AddressAnswer::Address(address) => self.read_from(
                 script,
                 rows,
                 buffer,
                 address,
-                blocks as u16,
+                (bytes / 512) as u16,
             ),
             AddressAnswer::Refused(error) => self.untouched(error),
         }
@@ -312,6 +341,96 @@ impl Sdmmc {
     {
         if self.known {
             self.read_known(script, rows, index, buffer)
+        } else {
+            self.untouched(Error::NoCard)
+        }
+    }
+
+    // The data phase of a write.
+    fn write_data(
+        self,
+        p: Progress,
+        script: &[u32],
+        rows: &mut [u64],
+        data: &[u8],
+        address: u32,
+        blocks: u16,
+    ) -> Called
+        requires { ⌜ (p .pace ≡ Pace.Going) × (blocks ≤ 511) × (length (now «data») ≡ 512 * blocks) ⌝ }
+        ensures answered { λ r. ⌜ r ≡ calledOf (blocksData self (outgoing (wordsOf (now («data» .entry)))) address blocks (now (script .entry)) (at p (rowsIn (now (rows .entry))))) ⌝ }
+        ensures listed { λ r. ⌜ rowsIn (now (rows .exit)) ≡ blocksData self (outgoing (wordsOf (now («data» .entry)))) address blocks (now (script .entry)) (at p (rowsIn (now (rows .entry)))) .list ⌝ }
+    {
+        let source = self.settings.source;
+        let config = self.settings.config;
+        let card = self.card;
+        let asked = write_transfer(address, blocks);
+        let sent = transfer::blocking_send(p, script, rows, source, config, asked, card.rca, data);
+        let line = sent.line;
+        let pace = sent.pace;
+        let Pace::Going = pace else {
+            return self.ends_without(sent);
+        };
+        let next = self.with(line, self.known, card);
+        self.ends(sent, self, next)
+    }
+
+    // A write to an address that was judged, of so many blocks.
+    fn write_from(
+        self,
+        script: &[u32],
+        rows: &mut [u64],
+        data: &[u8],
+        address: u32,
+        blocks: u16,
+    ) -> Called
+        requires { ⌜ (blocks ≤ 511) × (length (now «data») ≡ 512 * blocks) ⌝ }
+        ensures answered { λ r. ⌜ r ≡ calledOf (blocksFrom self (outgoing (wordsOf (now («data» .entry)))) blocks (Address.Address address) (now (script .entry)) (rowsIn (now (rows .entry)))) ⌝ }
+        ensures listed { λ r. ⌜ rowsIn (now (rows .exit)) ≡ blocksFrom self (outgoing (wordsOf (now («data» .entry)))) blocks (Address.Address address) (now (script .entry)) (rowsIn (now (rows .entry))) .list ⌝ }
+    {
+        let source = self.settings.source;
+        let config = self.settings.config;
+        let line = self.line;
+        let card = self.card;
+        let waited = ready::wait_ready(host::start(line), script, rows, source, config, card.rca);
+        let pace = waited.pace;
+        match pace {
+            Pace::Going => self.write_data(waited, script, rows, data, address, blocks),
+            Pace::Stopped(_) => self.ends_before(waited),
+        }
+    }
+
+    // A write on a host that has a card.
+    fn write_known(self, script: &[u32], rows: &mut [u64], index: u32, data: &[u8]) -> Called
+        ensures answered { λ r. ⌜ r ≡ calledOf (blocksKnown self (outgoing (wordsOf (now («data» .entry)))) index (length (now («data» .entry))) (now (script .entry)) (rowsIn (now (rows .entry)))) ⌝ }
+        ensures listed { λ r. ⌜ rowsIn (now (rows .exit)) ≡ blocksKnown self (outgoing (wordsOf (now («data» .entry)))) index (length (now («data» .entry))) (now (script .entry)) (rowsIn (now (rows .entry))) .list ⌝ }
+    {
+        let bytes = data.len();
+        let answer = self.judged(index, bytes);
+        match answer {
+            AddressAnswer::Address(address) => self.write_from(
+                script,
+                rows,
+                data,
+                address,
+                (bytes / 512) as u16,
+            ),
+            AddressAnswer::Refused(error) => self.untouched(error),
+        }
+    }
+
+    // Writes the data, 512 bytes for each block, to the blocks from an index on.
+    pub fn blocking_write_blocks(
+        self,
+        script: &[u32],
+        rows: &mut [u64],
+        index: u32,
+        data: &[u8],
+    ) -> Called
+        ensures answered { λ r. ⌜ r ≡ calledOf (writeCame self index (now («data» .entry)) (now (script .entry)) (rowsIn (now (rows .entry)))) ⌝ }
+        ensures listed { λ r. ⌜ rowsIn (now (rows .exit)) ≡ writeCame self index (now («data» .entry)) (now (script .entry)) (rowsIn (now (rows .entry))) .list ⌝ }
+    {
+        if self.known {
+            self.write_known(script, rows, index, data)
         } else {
             self.untouched(Error::NoCard)
         }

@@ -212,7 +212,7 @@ module _ (s : List ℕ) where
       tells-then s (keeps from (ready-obeys typeless not-13 any _ _ _) h)
       (λ u c x h. tells-then s (keeps from (block-length-obeys (allows set) (card .«card_type»)) h)
       (λ u c x h. tells-then s (app from (limitOf set) (card .rca) h)
-      (λ u c x h. tells-then s (keeps from (data-obeys typeless not-13 any row-any _ _ _ _) h) (λ u c ws h. tells-give s h))))
+      (λ u c x h. tells-then s (keeps from (data-obeys typeless not-13 any row-any _ _ _ _ _) h) (λ u c ws h. tells-give s h))))
 
   widens : {u c : ℕ} (from : ℕ) (set : Settings) (rca scr : ℕ) → from ≤ u → Tells s Blamed Nothing (λ u c x. (from ≤ u) × (c ≡ 6)) u c (setWidth set rca scr)
   unfolding setWidth formOf errorTold

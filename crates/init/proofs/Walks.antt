@@ -122,7 +122,7 @@ module _ {set : Settings} {rule : Rule} (ok : Allows set rule) where
   take-obeys : (frequency rca : ℕ) → Obeys rule Nothing (takeSwitch set frequency rca)
   unfolding takeSwitch errorTold
   take-obeys frequency rca =
-      on-then (data-obeys rule (ok .others) any (ok .row) _ _ _ _)
+      on-then (data-obeys rule (ok .others) any (ok .row) _ _ _ _ _)
       (λ ws. on-then (on-ensure _ E.SignalingSwitchFailed (ok .others E.SignalingSwitchFailed refl))
       (λ _. on-then (on-look (λ line i. ok .delay _ 8 (ok .runs line i) (omega arith)))
       (λ _. on-then (clock-obeys _) (λ _. signalling-obeys _))))
@@ -131,7 +131,7 @@ module _ {set : Settings} {rule : Rule} (ok : Allows set rule) where
   unfolding switchSpeed askSwitch
   switch-obeys frequency rca scr =
       on-test (ltb 25_000_000 frequency && not (eqb (sdSpec scr) 0))
-      (on-then (data-obeys rule (ok .others) any (ok .row) _ _ _ _) (λ ws. on-test (offered ws) (take-obeys frequency rca) on-give))
+      (on-then (data-obeys rule (ok .others) any (ok .row) _ _ _ _ _) (λ ws. on-test (offered ws) (take-obeys frequency rca) on-give))
       on-give
 
 -- an initialisation of a source of 2 Hz or more, by the first rule
@@ -225,7 +225,7 @@ module _ (set : Settings) (from2 : 2 ≤ sourceOf set) where
   scr-obeys card =
       on-then (ready-obeys rule others every _ _ _)
       (λ _. on-then (block-length-obeys allows (card .«card_type»))
-      (λ _. on-then (app-obeys rule others every (kind _) _ _) (λ _. on-then (data-obeys rule others every row-any _ _ _ _) (λ ws. on-give))))
+      (λ _. on-then (app-obeys rule others every (kind _) _ _) (λ _. on-then (data-obeys rule others every row-any _ _ _ _ _) (λ ws. on-give))))
 
   width-obeys : (rca scr : ℕ) → Obeys rule Nothing (setWidth set rca scr)
   unfolding setWidth

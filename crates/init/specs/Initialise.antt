@@ -21,7 +21,7 @@ use Rattle.types.specs.declared.register.CountAnswer.{CountAnswer}
 use Rattle.types.specs.declared.register.CountAnswer.the-variants as Counted
 use Rattle.types.specs.declared.register.RateAnswer.{RateAnswer}
 use Rattle.types.specs.declared.register.RateAnswer.the-variants as Rated
-use Rattle.types.specs.Bits.{bits, bit, clear}
+use Rattle.types.specs.Bits.{bits, clear}
 use Rattle.types.specs.Leaf.{clockOf, countOf, rateOf}
 use Rattle.types.specs.Sd.{wideOf, tranSpeed, sdSpec, oneLine, fourLines}
 use Rattle.types.specs.Words.{bytesOf, halvesOf, scrOf}
@@ -33,7 +33,7 @@ use Rattle.bus.specs.declared.transfer.Transfer.{Transfer}
 use Rattle.bus.specs.Clock.{configureClock, clockDelay}
 use Rattle.bus.specs.Command.{firstOf, command, appCommand}
 use Rattle.bus.specs.Ready.{retryDelay, waitReady}
-use Rattle.bus.specs.Transfer.{blockingData}
+use Rattle.bus.specs.Transfer.{incoming, blockingData}
 use Rattle.init.specs.declared.settings.Settings.{Settings}
 
 -- the poll limit of the settings
@@ -192,7 +192,7 @@ readScr set card =
     waitReady (sourceOf set) (set .config) (card .rca)
     then λ _. blockLength (limitOf set) (card .«card_type»)
     then λ _. appCommand (limitOf set) (card .rca)
-    then λ _. blockingData (sourceOf set) (set .config) scrTransfer (card .rca)
+    then λ _. blockingData (sourceOf set) (set .config) incoming scrTransfer (card .rca)
     then λ ws. give (scrOf (getD ws 0 0) (getD ws 1 0))
 
 -- ACMD6; a card without one line, or without four where four are connected, gives 14
@@ -244,7 +244,7 @@ switched ws = eqb (statusByte ws 16 % 16) 1
 -- the switch itself, 8 cycles of the clock just set, and a clock of up to 50,000,000
 unfoldable pub takeSwitch : Settings → ℕ → ℕ → Plan Nothing
 takeSwitch set frequency rca =
-    blockingData (sourceOf set) (set .config) (switchTransfer 0x80ff_fff1) rca
+    blockingData (sourceOf set) (set .config) incoming (switchTransfer 0x80ff_fff1) rca
     then λ ws. ensure (switched ws) E.SignalingSwitchFailed
     then λ _. look (λ line. clockDelay (sourceOf set) (line .clock .0) 8)
     then λ _. setClock set (min frequency 50_000_000)
@@ -253,7 +253,7 @@ takeSwitch set frequency rca =
 -- whether the card has SDR25, and the switch
 unfoldable pub askSwitch : Settings → ℕ → ℕ → Plan Nothing
 askSwitch set frequency rca =
-    blockingData (sourceOf set) (set .config) (switchTransfer 0x00ff_fff1) rca
+    blockingData (sourceOf set) (set .config) incoming (switchTransfer 0x00ff_fff1) rca
     then λ ws. cond (offered ws) (takeSwitch set frequency rca) (give tt)
 
 -- above 25,000,000, on a card of SD_SPEC 1 or later

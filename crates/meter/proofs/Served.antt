@@ -3,7 +3,6 @@ use Prim.Native.Nat.{ℕ, suc, _+_, _-_, _≤_, _<_}
 use mathlib.Core.List.{List}
 use mathlib.Core.Path.{_≡_}
 use native.Mathlib.Omega.{arith}
-use lib.ListN.{length}
 use borrow.Author.Tests.{lt-ltb, le-ltb}
 use Rattle.types.specs.declared.error.Answer.the-variants as Answered
 use Rattle.tape.specs.declared.rows.Row.{Row}
@@ -22,7 +21,7 @@ use Rattle.meter.specs.Metered.{toldWith, Served, servedAt, servedFrom, 
 -- one call, put together from what `ask` says of it
 module _ (ws : List ℕ) (k place : ℕ) (host : Sdmmc) (l : List Row) (b : List ℕ) where
   abbrev call : S.Call
-  call = asking l (length b) ws (askedAt ws k place)
+  call = asking l b ws (askedAt ws k place)
 
   pub one-served : {called : Called} {l′ : List Row} {b′ : List ℕ} {told : ℕ}
       → called ≡ calledOf (comes host call) → l′ ≡ comes host call .list → b′ ≡ bufferAfter call (comes host call) b

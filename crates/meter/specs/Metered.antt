@@ -3,7 +3,6 @@ use Prim.Native.Nat.{ℕ, zero, suc, _+_, _*_, _%_, _^_}
 use mathlib.Core.Bool.{cond}
 use mathlib.Core.List.{List}
 use lib.Dec.{ltb}
-use lib.ListN.{length}
 use Rattle.types.specs.declared.error.Answer.{Answer}
 use Rattle.types.specs.declared.error.Answer.the-variants as Answered
 use Rattle.tape.specs.declared.rows.Row.{Row}
@@ -31,10 +30,11 @@ pub record Served : Type 0 where
   pub buffer : List ℕ
   pub told : ℕ
 
--- call k of words laid out as a book's, counted from 0, whose script starts at a place; a read fills all of the buffer
+-- call k of words laid out as a book's, counted from 0, whose body starts at a place; a read fills all of the buffer, and a write sends all of it, with its data words
+-- in front
 unfoldable pub servedAt : List ℕ → ℕ → ℕ → Sdmmc → List Row → List ℕ → Served
 servedAt ws k place host l b =
-    let c = asking l (length b) ws (askedAt ws k place) in
+    let c = asking l b ws (askedAt ws k place) in
     let x = comes host c in
     record { host = x .host; list = x .list; buffer = bufferAfter c x b; told = toldOf (calledOf x) }
 

@@ -1,13 +1,12 @@
 // The host for a program in Rust or C, in one process: to measure what calls cost, and to compare what they come to, without
 // a book's limits. A slice goes over as a pointer and a length.
 ghost use mathlib.Core.Path.{_≡_};
-ghost use lib.ListN.{length};
 ghost use Rattle.tape.specs.Layout.{rowsIn};
 ghost use Rattle.text.specs.Ink.{Laid};
-ghost use Rattle.host.specs.Calls.{calledOf, statusCame};
+ghost use Rattle.host.specs.Calls.{calledOf, statusCame, blocksFilled, writeCame};
 ghost use Rattle.calls.specs.Serve.{comes};
 ghost use Rattle.book.specs.Layout.{contentsOf};
-ghost use Rattle.bench.specs.Bench.{printed, settingsIn, asking, bufferAfter};
+ghost use Rattle.bench.specs.Bench.{printed, asking, bufferAfter};
 ghost use Rattle.bench.specs.Trace.{placeAfter};
 ghost use Rattle.meter.specs.Metered.{toldWith, servedAt, servedFrom, metered};
 use bench::print;
@@ -18,12 +17,13 @@ use book::layout::Asked;
 use feed::feed::init_card;
 use feed::feed::read_blocks;
 use feed::feed::read_sd_status;
+use feed::feed::write_blocks;
 use host::blocks;
 use host::host::Called;
 use host::host::Sdmmc;
 use types::clock::Hertz;
 
-// A call was served: the next host, where the next script lies, and what the call came to, as one number.
+// A call was served: the next host, where the next body lies, and what the call came to, as one number.
 struct Turn {
     host: Sdmmc,
     place: usize,
@@ -55,6 +55,23 @@ fn feed_status(host: Sdmmc, script: &[u32], rows: &mut [u64]) -> Called
     }
 }
 
+// A write as `serve::ask` has it, one answer at a time: its data words are laid into the buffer as the bytes that go out.
+fn feed_write(
+    host: Sdmmc,
+    data: &[u32],
+    script: &[u32],
+    rows: &mut [u64],
+    index: u32,
+    buffer: &mut [u8],
+) -> Called
+    ensures answered { λ r. ⌜ r ≡ calledOf (writeCame host index (blocksFilled (now («data» .entry)) (now (buffer .entry))) (now (script .entry)) (rowsIn (now (rows .entry)))) ⌝ }
+    ensures listed { λ r. ⌜ rowsIn (now (rows .exit)) ≡ writeCame host index (blocksFilled (now («data» .entry)) (now (buffer .entry))) (now (script .entry)) (rowsIn (now (rows .entry))) .list ⌝ }
+    ensures filled { λ r. ⌜ now (buffer .exit) ≡ blocksFilled (now («data» .entry)) (now (buffer .entry)) ⌝ }
+{
+    blocks::fill_blocks(buffer, data);
+    write_blocks(host, script, rows, index, buffer)
+}
+
 // One call as `serve::ask` has it, one answer at a time.
 fn feed_call(
     host: Sdmmc,
@@ -63,20 +80,21 @@ fn feed_call(
     rows: &mut [u64],
     buffer: &mut [u8],
 ) -> Called
-    ensures answered { λ r. ⌜ r ≡ calledOf (comes host (asking (rowsIn (now (rows .entry))) (length (now (buffer .entry))) (now (words .entry)) asked)) ⌝ }
-    ensures listed { λ r. ⌜ rowsIn (now (rows .exit)) ≡ comes host (asking (rowsIn (now (rows .entry))) (length (now (buffer .entry))) (now (words .entry)) asked) .list ⌝ }
-    ensures filled { λ r. ⌜ now (buffer .exit) ≡ bufferAfter (asking (rowsIn (now (rows .entry))) (length (now (buffer .entry))) (now (words .entry)) asked) (comes host (asking (rowsIn (now (rows .entry))) (length (now (buffer .entry))) (now (words .entry)) asked)) (now (buffer .entry)) ⌝ }
+    ensures answered { λ r. ⌜ r ≡ calledOf (comes host (asking (rowsIn (now (rows .entry))) (now (buffer .entry)) (now (words .entry)) asked)) ⌝ }
+    ensures listed { λ r. ⌜ rowsIn (now (rows .exit)) ≡ comes host (asking (rowsIn (now (rows .entry))) (now (buffer .entry)) (now (words .entry)) asked) .list ⌝ }
+    ensures filled { λ r. ⌜ now (buffer .exit) ≡ bufferAfter (asking (rowsIn (now (rows .entry))) (now (buffer .entry)) (now (words .entry)) asked) (comes host (asking (rowsIn (now (rows .entry))) (now (buffer .entry)) (now (words .entry)) asked)) (now (buffer .entry)) ⌝ }
 {
     let kind = asked.kind;
     let a = asked.a;
-    let at = asked.script_at;
-    let len = asked.script_len;
-    let script = blocks::part(words, at, len);
+    let script = serve::script_of(words, asked);
     if kind == 1 {
         return init_card(host, script, rows, Hertz(a));
     }
     if kind == 2 {
         return read_blocks(host, script, rows, a, buffer);
+    }
+    if kind == 4 {
+        return feed_write(host, serve::data_of(words, asked), script, rows, a, buffer);
     }
     feed_status(host, script, rows)
 }
@@ -90,9 +108,9 @@ fn ask(
     rows: &mut [u64],
     buffer: &mut [u8],
 ) -> Called
-    ensures answered { λ r. ⌜ r ≡ calledOf (comes host (asking (rowsIn (now (rows .entry))) (length (now (buffer .entry))) (now (words .entry)) asked)) ⌝ }
-    ensures listed { λ r. ⌜ rowsIn (now (rows .exit)) ≡ comes host (asking (rowsIn (now (rows .entry))) (length (now (buffer .entry))) (now (words .entry)) asked) .list ⌝ }
-    ensures filled { λ r. ⌜ now (buffer .exit) ≡ bufferAfter (asking (rowsIn (now (rows .entry))) (length (now (buffer .entry))) (now (words .entry)) asked) (comes host (asking (rowsIn (now (rows .entry))) (length (now (buffer .entry))) (now (words .entry)) asked)) (now (buffer .entry)) ⌝ }
+    ensures answered { λ r. ⌜ r ≡ calledOf (comes host (asking (rowsIn (now (rows .entry))) (now (buffer .entry)) (now (words .entry)) asked)) ⌝ }
+    ensures listed { λ r. ⌜ rowsIn (now (rows .exit)) ≡ comes host (asking (rowsIn (now (rows .entry))) (now (buffer .entry)) (now (words .entry)) asked) .list ⌝ }
+    ensures filled { λ r. ⌜ now (buffer .exit) ≡ bufferAfter (asking (rowsIn (now (rows .entry))) (now (buffer .entry)) (now (words .entry)) asked) (comes host (asking (rowsIn (now (rows .entry))) (now (buffer .entry)) (now (words .entry)) asked)) (now (buffer .entry)) ⌝ }
 {
     if stepped {
         return feed_call(host, words, asked, rows, buffer);
@@ -114,7 +132,7 @@ fn serve_call(
     ensures passed { λ r. ⌜ r .place ≡ placeAfter (now (words .entry)) k place ⌝ }
 {
     let asked = layout::call_at(words, k, place);
-    let end = trace::behind(words, asked.script_at, asked.script_len);
+    let end = trace::behind(words, asked.body_at, asked.body_len);
     let called = ask(stepped, host, words, asked, rows, buffer);
     let answer = called.answer;
     let next = called.host;

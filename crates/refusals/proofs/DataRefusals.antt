@@ -1,4 +1,4 @@
--- Document 01's table of refusals, lines 4 and 5: a read or a status call refused before its data phase, or in it.
+-- Document 01's table of refusals, lines 4 and 5: a read, a write or a status call refused before its data phase, or in it.
 use Prim.Native.Nat.{ℕ, _*_, _-_, _/_, _%_}
 use mathlib.Core.Bool.{true}
 use mathlib.Core.List.{List, []}
@@ -21,25 +21,25 @@ use Rattle.refusals.proofs.Reset.{ends-refused, ends-accepted, ResetAft
 use Rattle.bus.specs.declared.transfer.Transfer.{Transfer}
 use Rattle.bus.specs.Command.{appCommand}
 use Rattle.bus.specs.Ready.{waitReady}
-use Rattle.bus.specs.Transfer.{blockingData, transferData}
+use Rattle.bus.specs.Transfer.{Buffer, incoming, blockingData, transferData}
 use Rattle.init.specs.Initialise.{sourceOf, limitOf}
 use Rattle.host.specs.Calls.{came, holding, dropped, kept, ends}
-use Rattle.host.specs.Calls.{transferred, approached, served, readNext, readPlan, readTransfer, readFrom, readKnown, readCame}
+use Rattle.host.specs.Calls.{transferred, approached, served, blocksNext, blocksPlan, blocksTransfer, blocksFrom, blocksKnown, blocksCame}
 use Rattle.host.specs.Calls.{statusNext, statusPlan, statusTransfer, statusCame, withStatus}
 use Rattle.host.specs.declared.host.Sdmmc.{Sdmmc}
 use Rattle.host.specs.Calls.{answerFor}
 
--- Lines 4 and 5: a read and a status call have an approach (ready wait, CMD55) and a data phase.
+-- Lines 4 and 5: a read, a write and a status call have an approach (ready wait, CMD55) and a data phase.
 
-module _ (host : Sdmmc) (source : ℕ) (config : Config) (transfer : Transfer) (rca : ℕ) (next : State → List ℕ → Sdmmc) (s : List ℕ) where
-  data-refused : (w : State) (e : Cause) → transferred host (blockingData source config transfer rca) next s w .answer ≡ answerFor e
-      → ResetAfter e host (runFrom s [] (transferData source config transfer rca) w .state) (transferred host (blockingData source config transfer rca) next s w)
+module _ (host : Sdmmc) (source : ℕ) (config : Config) (buffer : Buffer) (transfer : Transfer) (rca : ℕ) (next : State → List ℕ → Sdmmc) (s : List ℕ) where
+  data-refused : (w : State) (e : Cause) → transferred host (blockingData source config buffer transfer rca) next s w .answer ≡ answerFor e
+      → ResetAfter e host (runFrom s [] (transferData source config buffer transfer rca) w .state) (transferred host (blockingData source config buffer transfer rca) next s w)
   unfolding transferred blockingData
   data-refused w e r =
-      let x = runFrom s [] (blockingData source config transfer rca) w in
+      let x = runFrom s [] (blockingData source config buffer transfer rca) w in
       let how = ends-refused host (dropped host (x .state)) (next (x .state) (x .value)) (x .value) (x .state) (x .state .progress .pace) e r in
       reset-after
-      (guard-refused s [] (transferData source config transfer rca) (w .progress .used) (w .progress .rows) (w .progress .line) (w .list) e (how .0))
+      (guard-refused s [] (transferData source config buffer transfer rca) (w .progress .used) (w .progress .rows) (w .progress .line) (w .list) e (how .0))
       (how .1)
 
 -- a call with these two parts is refused in one of them: w is where its approach has come
@@ -92,61 +92,61 @@ module _ (host : Sdmmc) (transfer : Plan (List ℕ)) (next : State → List ℕ 
     unfolding served approached
     goes-on g = rw g
 
-module _ (host : Sdmmc) (index blocks address : ℕ) (s : List ℕ) (l : List Row) (known : host .known ≡ true) (place : addressOf (host .card .«card_type») (host .card .«block_count» .0) index blocks ≡ Address.Address address) where
-  -- where the ready wait of a read has come
-  abbrev pub readWait : State
-  readWait = run s (tt {0}) (waitReady (sourceOf (host .settings)) (host .settings .config) (host .card .rca)) 0 0 (host .line) l .state
+module _ (host : Sdmmc) (buffer : Buffer) (index blocks address : ℕ) (s : List ℕ) (l : List Row) (known : host .known ≡ true) (place : addressOf (host .card .«card_type») (host .card .«block_count» .0) index blocks ≡ Address.Address address) where
+  -- where the ready wait of a read or a write has come
+  abbrev pub blocksWait : State
+  blocksWait = run s (tt {0}) (waitReady (sourceOf (host .settings)) (host .settings .config) (host .card .rca)) 0 0 (host .line) l .state
 
   -- where its data phase has come, before a refusal's reset rows
-  abbrev pub readSteps : State
-  readSteps = runFrom s [] (transferData (sourceOf (host .settings)) (host .settings .config) (readTransfer address blocks) (host .card .rca)) readWait .state
+  abbrev pub blocksSteps : State
+  blocksSteps = runFrom s [] (transferData (sourceOf (host .settings)) (host .settings .config) buffer (blocksTransfer buffer address blocks) (host .card .rca)) blocksWait .state
 
-  read-served : readCame host index (512 * blocks) s l
-      ≡ served host (waitReady (sourceOf (host .settings)) (host .settings .config) (host .card .rca)) (readPlan host address blocks) (readNext host) s l
-  unfolding readCame readKnown readFrom
-  read-served =
+  blocks-served : blocksCame host buffer index (512 * blocks) s l
+      ≡ served host (waitReady (sourceOf (host .settings)) (host .settings .config) (host .card .rca)) (blocksPlan host buffer address blocks) (blocksNext host) s l
+  unfolding blocksCame blocksKnown blocksFrom
+  blocks-served =
       let whole : 512 * blocks % 512 ≡ 0 = omega arith in
       let count : 512 * blocks / 512 ≡ blocks = omega arith in
       rw (known, eq-eqb (512 * blocks % 512) 0 whole, count, place)
 
-  read-data : readWait .progress .pace ≡ Going
-      → readCame host index (512 * blocks) s l ≡ transferred host (readPlan host address blocks) (readNext host) s readWait
-  read-data g =
-      read-served
-      ∙ goes-on host (readPlan host address blocks) (readNext host) s
+  blocks-data : blocksWait .progress .pace ≡ Going
+      → blocksCame host buffer index (512 * blocks) s l ≡ transferred host (blocksPlan host buffer address blocks) (blocksNext host) s blocksWait
+  blocks-data g =
+      blocks-served
+      ∙ goes-on host (blocksPlan host buffer address blocks) (blocksNext host) s
       (waitReady (sourceOf (host .settings)) (host .settings .config) (host .card .rca)) l g
 
-  -- an accepted read: its data words, and the record as before
-  pub read-accepted : readCame host index (512 * blocks) s l .answer ≡ Answered.Accepted
-      → readCame host index (512 * blocks) s l
-      ≡ came Answered.Accepted (runFrom s [] (readPlan host address blocks) readWait .state) (runFrom s [] (readPlan host address blocks) readWait .value)
-      (kept host (runFrom s [] (readPlan host address blocks) readWait .state))
-  read-accepted r =
-      let g = served-accepted host (readPlan host address blocks) (readNext host) s
-      (waitReady (sourceOf (host .settings)) (host .settings .config) (host .card .rca)) l (rw read-served at r) in
-      read-data g ∙ data-accepted host (readPlan host address blocks) (readNext host) s readWait (rw (read-data g) at r)
+  -- an accepted one: its data words, none of a write, and the record as before
+  pub blocks-accepted : blocksCame host buffer index (512 * blocks) s l .answer ≡ Answered.Accepted
+      → blocksCame host buffer index (512 * blocks) s l
+      ≡ came Answered.Accepted (runFrom s [] (blocksPlan host buffer address blocks) blocksWait .state) (runFrom s [] (blocksPlan host buffer address blocks) blocksWait .value)
+      (kept host (runFrom s [] (blocksPlan host buffer address blocks) blocksWait .state))
+  blocks-accepted r =
+      let g = served-accepted host (blocksPlan host buffer address blocks) (blocksNext host) s
+      (waitReady (sourceOf (host .settings)) (host .settings .config) (host .card .rca)) l (rw blocks-served at r) in
+      blocks-data g ∙ data-accepted host (blocksPlan host buffer address blocks) (blocksNext host) s blocksWait (rw (blocks-data g) at r)
 
   -- a refused one: refused in its ready wait (line 4), or in its data phase (line 5)
-  pub read-refused-in : (e : Cause) → readCame host index (512 * blocks) s l .answer ≡ answerFor e → RefusedIn e readWait
-  read-refused-in e r =
-      refused-in host (readPlan host address blocks) (readNext host) s
-      (waitReady (sourceOf (host .settings)) (host .settings .config) (host .card .rca)) l e (rw read-served at r)
+  pub blocks-refused-in : (e : Cause) → blocksCame host buffer index (512 * blocks) s l .answer ≡ answerFor e → RefusedIn e blocksWait
+  blocks-refused-in e r =
+      refused-in host (blocksPlan host buffer address blocks) (blocksNext host) s
+      (waitReady (sourceOf (host .settings)) (host .settings .config) (host .card .rca)) l e (rw blocks-served at r)
 
   -- Line 4. 'Before the data phase of a read (ready wait): rows so far, record kept, no reset.'
-  pub read-early : (e : Cause) → readWait .progress .pace ≡ Stopped (haltOf e)
-      → readCame host index (512 * blocks) s l ≡ came (answerFor e) readWait [] (kept host readWait)
-  read-early e g =
-      read-served
-      ∙ early host (readPlan host address blocks) (readNext host) s
+  pub blocks-early : (e : Cause) → blocksWait .progress .pace ≡ Stopped (haltOf e)
+      → blocksCame host buffer index (512 * blocks) s l ≡ came (answerFor e) blocksWait [] (kept host blocksWait)
+  blocks-early e g =
+      blocks-served
+      ∙ early host (blocksPlan host buffer address blocks) (blocksNext host) s
       (waitReady (sourceOf (host .settings)) (host .settings .config) (host .card .rca)) l e g
 
   -- Line 5. 'In a data phase: reset rows, no record.'
-  pub read-refused-in-data : (e : Cause) → readWait .progress .pace ≡ Going → readCame host index (512 * blocks) s l .answer ≡ answerFor e
-      → ResetAfter e host readSteps (readCame host index (512 * blocks) s l)
-  read-refused-in-data e g r =
-      rw (read-data g)
-      (data-refused host (sourceOf (host .settings)) (host .settings .config) (readTransfer address blocks) (host .card .rca) (readNext host) s readWait e
-      (rw (read-data g) at r))
+  pub blocks-refused-in-data : (e : Cause) → blocksWait .progress .pace ≡ Going → blocksCame host buffer index (512 * blocks) s l .answer ≡ answerFor e
+      → ResetAfter e host blocksSteps (blocksCame host buffer index (512 * blocks) s l)
+  blocks-refused-in-data e g r =
+      rw (blocks-data g)
+      (data-refused host (sourceOf (host .settings)) (host .settings .config) buffer (blocksTransfer buffer address blocks) (host .card .rca) (blocksNext host) s blocksWait e
+      (rw (blocks-data g) at r))
 
 module _ (host : Sdmmc) (s : List ℕ) (l : List Row) (known : host .known ≡ true) where
   -- where CMD55 of a status call has come
@@ -155,7 +155,7 @@ module _ (host : Sdmmc) (s : List ℕ) (l : List Row) (known : host .known ≡ t
 
   -- where its data phase has come, before a refusal's reset rows
   abbrev pub statusSteps : State
-  statusSteps = runFrom s [] (transferData (sourceOf (host .settings)) (host .settings .config) statusTransfer (host .card .rca)) status55 .state
+  statusSteps = runFrom s [] (transferData (sourceOf (host .settings)) (host .settings .config) incoming statusTransfer (host .card .rca)) status55 .state
 
   status-served : statusCame host s l ≡ served host (appCommand (limitOf (host .settings)) (host .card .rca)) (statusPlan host) (statusNext host) s l
   unfolding statusCame
@@ -189,5 +189,5 @@ module _ (host : Sdmmc) (s : List ℕ) (l : List Row) (known : host .known ≡ t
       → ResetAfter e host statusSteps (statusCame host s l)
   status-refused-in-data e g r =
       rw (status-data g)
-      (data-refused host (sourceOf (host .settings)) (host .settings .config) statusTransfer (host .card .rca) (statusNext host) s status55 e
+      (data-refused host (sourceOf (host .settings)) (host .settings .config) incoming statusTransfer (host .card .rca) (statusNext host) s status55 e
       (rw (status-data g) at r))

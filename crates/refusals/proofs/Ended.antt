@@ -22,13 +22,14 @@ use Rattle.tape.proofs.Ends.{EndsThere, ends-there}
 use Rattle.tape.proofs.Room.{Written, free, run-fits, run-full}
 use Rattle.tape.proofs.Walk.{Rule, obeys}
 use Rattle.tape.proofs.Words.{Reach, reach, Closed, at-its-end, late-row}
+use Rattle.bus.specs.Transfer.{Buffer}
 use Rattle.bus.proofs.Delays.{fair}
 use Rattle.init.specs.Initialise.{sourceOf, noCard, initialise}
 use Rattle.init.proofs.Walks.{clockRule, initialise-obeys}
 use Rattle.host.specs.declared.host.Sdmmc.{Sdmmc}
-use Rattle.host.specs.Calls.{Came, untouched, freshLine, initFrom, initialised, readCame, statusCame}
-use Rattle.refusals.specs.Whole.{initAt, initWhole, readWhole, statusWhole, answerOf, Ran}
-use Rattle.refusals.proofs.Whole.{wouldWrite, ended-pace, plain, unclocked, read-walk, status-walk, steps-ran, read-ran, status-ran}
+use Rattle.host.specs.Calls.{Came, untouched, freshLine, initFrom, initialised, blocksCame, statusCame}
+use Rattle.refusals.specs.Whole.{initAt, initWhole, blocksWhole, statusWhole, answerOf, Ran}
+use Rattle.refusals.proofs.Whole.{wouldWrite, ended-pace, plain, unclocked, blocks-walk, status-walk, steps-ran, blocks-ran, status-ran}
 
 -- a reading finds no word, and there is room for the rows before it
 pub record RunsOut (l : List Row) (c : Reach) : Type 0 where
@@ -97,11 +98,11 @@ module _ (rule : Rule) {A : Type 0} (d : A) (p : Plan A) (h : Line) (s : List �
       by (no over) closed = full-ended closed (omega arith)
 
 module _ (host : Sdmmc) (s : List ℕ) (l : List Row) where
-  pub read-ended : (index bytes : ℕ)
-      → Ended s l (reach s (readWhole host index bytes) 0 (host .line)) (wouldWrite s [] (readWhole host index bytes) (host .line)) (readCame host index bytes s l)
-  read-ended index bytes =
-      ended-at plain [] (readWhole host index bytes) (host .line) s l (readCame host index bytes s l) (read-ran host s l index bytes)
-      (read-walk host index bytes .each) tt
+  pub blocks-ended : (buffer : Buffer) (index bytes : ℕ)
+      → Ended s l (reach s (blocksWhole host buffer index bytes) 0 (host .line)) (wouldWrite s [] (blocksWhole host buffer index bytes) (host .line)) (blocksCame host buffer index bytes s l)
+  blocks-ended buffer index bytes =
+      ended-at plain [] (blocksWhole host buffer index bytes) (host .line) s l (blocksCame host buffer index bytes s l) (blocks-ran host s l buffer index bytes)
+      (blocks-walk host buffer index bytes .each) tt
 
   pub status-ended : Ended s l (reach s (statusWhole host) 0 (host .line)) (wouldWrite s [] (statusWhole host) (host .line)) (statusCame host s l)
   status-ended = ended-at unclocked [] (statusWhole host) (host .line) s l (statusCame host s l) (status-ran host s l) (status-walk host .each) tt

@@ -1,5 +1,5 @@
 -- Which field a call's 13 carries: that of the step that refused. Of an initialisation and a status call it is told by the
--- command sent last and what the card had answered; a read is never answered 13.
+-- command sent last and what the card had answered; a read or a write is never answered 13.
 use Prim.Native.Nat.{ℕ, _≤_}
 use mathlib.Core.Bool.{false, _||_}
 use mathlib.Core.List.{List, []}
@@ -20,15 +20,16 @@ use Rattle.tape.specs.declared.rows.Row.{Row}
 use Rattle.tape.specs.Plan.{Plan}
 use Rattle.tape.specs.Run.{run}
 use Rattle.bus.specs.Sent.{lastSent}
+use Rattle.bus.specs.Transfer.{Buffer}
 use Rattle.bus.proofs.Shown.{Tells, run-shows, tells-fail, tells-hold, tells-then, tells-test, tells-obeyed, app-tells}
 use Rattle.bus.proofs.Walks.{not-13, data-obeys}
 use Rattle.init.specs.Initialise.{sourceOf, limitOf, noCard}
 use Rattle.init.proofs.Fields.{Not13, typeless, any, row-any, bad-clock, clock-not-13, Blamed, unblamed, keeps, app, initialise-tells}
 use Rattle.host.specs.declared.host.Sdmmc.{Sdmmc}
-use Rattle.host.specs.Calls.{Came, initialised, readCame, statusCame}
+use Rattle.host.specs.Calls.{Came, initialised, blocksCame, statusCame}
 use Rattle.refusals.specs.Fields.{CarriesField}
 use Rattle.refusals.specs.Whole.{initAt, initWhole, statusWhole, Ran}
-use Rattle.refusals.proofs.Whole.{refused-pace, initialise-ran, status-ran, read-not-13}
+use Rattle.refusals.proofs.Whole.{refused-pace, initialise-ran, status-ran, blocks-not-13}
 
 module _ (host : Sdmmc) (s : List ℕ) (l : List Row) where
   -- its plan tells
@@ -57,7 +58,7 @@ module _ (host : Sdmmc) (s : List ℕ) (l : List Row) where
   status-tells =
       tells-test s (host .known)
       (λ t. tells-then s (app s 0 (limitOf (host .settings)) (host .card .rca) (omega arith))
-      (λ u c x h. keeps s 0 (data-obeys typeless not-13 any row-any _ _ _ _) h))
+      (λ u c x h. keeps s 0 (data-obeys typeless not-13 any row-any _ _ _ _ _) h))
       (λ t. tells-fail s (unblamed s 0 0 E.NoCard no-card))
     where
       no-card : Not13 E.NoCard
@@ -79,7 +80,7 @@ module _ (host : Sdmmc) (s : List ℕ) (l : List Row) where
   status-alone =
       tells-test s (host .known)
       (λ t. tells-then s (app-tells s Alone (λ u c e o. other-alone u c e (not-13 e o)) (λ from u c ws a h field same. cc) 0 (limitOf (host .settings)) (host .card .rca) (omega arith))
-      (λ u c x h. tells-obeyed s typeless (λ u c. 0 ≤ u) (λ h. tt) (λ u c i. omega arith) (λ u c r w i. i) (λ u c e n i. other-alone u c e n) (data-obeys typeless not-13 any row-any _ _ _ _) h))
+      (λ u c x h. tells-obeyed s typeless (λ u c. 0 ≤ u) (λ h. tt) (λ u c i. omega arith) (λ u c r w i. i) (λ u c e n i. other-alone u c e n) (data-obeys typeless not-13 any row-any _ _ _ _ _) h))
       (λ t. tells-fail s (other-alone 0 0 E.NoCard (λ z. omega arith)))
 
   pub status-field-8 : (field : Field) → statusCame host s l .answer ≡ Answered.Refused (E.UnsupportedCardType field) → field ≡ AppCommand
@@ -88,6 +89,6 @@ module _ (host : Sdmmc) (s : List ℕ) (l : List Row) where
       let seen = run-shows s Alone (λ u c a. 0 ≤ u) [] (statusWhole host) 0 0 (host .line) l (status-alone .each) in
       seen .refused (E.UnsupportedCardType field) (refused-pace _ _ (sym (status-ran host s l .answer) ∙ r)) field refl
 
-  pub read-field : (index bytes : ℕ) → CarriesField s (readCame host index bytes s l)
+  pub blocks-field : (buffer : Buffer) (index bytes : ℕ) → CarriesField s (blocksCame host buffer index bytes s l)
   unfolding errorTold
-  read-field index bytes field r = absurd (read-not-13 host s l index bytes (E.UnsupportedCardType field) r refl)
+  blocks-field buffer index bytes field r = absurd (blocks-not-13 host s l buffer index bytes (E.UnsupportedCardType field) r refl)

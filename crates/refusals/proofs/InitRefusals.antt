@@ -26,7 +26,7 @@ use Rattle.refusals.proofs.Reset.{ends-refused, ends-accepted, ResetAft
 use Rattle.bus.specs.declared.transfer.Transfer.{Transfer}
 use Rattle.bus.specs.Command.{appCommand}
 use Rattle.bus.specs.Ready.{waitReady}
-use Rattle.bus.specs.Transfer.{blockingData, transferData}
+use Rattle.bus.specs.Transfer.{incoming, blockingData, transferData}
 use Rattle.init.specs.declared.settings.Settings.{Settings}
 use Rattle.init.specs.Initialise.{sourceOf, limitOf, noCard, beginInit, waitPowerUp, identify}
 use Rattle.init.specs.Initialise.{scrTransfer, blockLength, readScr, setWidth, transferClock, switchTransfer, offered, takeSwitch, askSwitch, switchSpeed, settleCard, initCard, initialise}
@@ -95,15 +95,15 @@ module _ (host : Sdmmc) (frequency : ℕ) (s : List ℕ) (l : List Row) (some : 
   -- Line 5, its end: 'inside initialisation the reset rows come twice'. A data phase begun at w on the way of the steps and
   -- refused: where the steps end its reset rows are written, and once more at the end of the call.
   pub initialise-twice : (transfer : Transfer) (rca : ℕ) (w : State) (x e : Cause)
-      → Inside s [] (blockingData (sourceOf (host .settings)) (host .settings .config) transfer rca) w Card
+      → Inside s [] (blockingData (sourceOf (host .settings)) (host .settings .config) incoming transfer rca) w Card
       (initCard (host .settings) c frequency) (at (begun (freshLine (c .frequency))) l)
-      → runFrom s [] (blockingData (sourceOf (host .settings)) (host .settings .config) transfer rca) w .state .progress .pace ≡ Stopped (haltOf x)
+      → runFrom s [] (blockingData (sourceOf (host .settings)) (host .settings .config) incoming transfer rca) w .state .progress .pace ≡ Stopped (haltOf x)
       → initialised host frequency s l .answer ≡ answerFor e
-      → (x ≡ e) × Guarded x (runFrom s [] (transferData (sourceOf (host .settings)) (host .settings .config) transfer rca) w .state) initSteps
+      → (x ≡ e) × Guarded x (runFrom s [] (transferData (sourceOf (host .settings)) (host .settings .config) incoming transfer rca) w .state) initSteps
       × ResetAfter e host initSteps (initialised host frequency s l)
   unfolding blockingData
   initialise-twice transfer rca w x e i inner r =
-      let p = transferData (sourceOf (host .settings)) (host .settings .config) transfer rca in
+      let p = transferData (sourceOf (host .settings)) (host .settings .config) incoming transfer rca in
       let there = inside-refused s [] (guard resetController p) w x inner Card (initCard (host .settings) c frequency) (at (begun (freshLine (c .frequency))) l) noCard i in
       let once : Guarded x (runFrom s [] p w .state) initSteps =
       rw there (guard-refused s [] p (w .progress .used) (w .progress .rows) (w .progress .line) (w .list) x inner) in
@@ -125,14 +125,14 @@ module _ (s : List ℕ) (set : Settings) (frequency : ℕ) (card : Card) (w : St
   asksScr = runFrom s (tt {0}) (appCommand (limitOf set) (card .rca)) (lengthens .state)
 
   pub scr-inside : waits .state .progress .pace ≡ Going → lengthens .state .progress .pace ≡ Going → asksScr .state .progress .pace ≡ Going
-      → Inside s [] (blockingData (sourceOf set) (set .config) scrTransfer (card .rca)) (asksScr .state) Card (settleCard set frequency card) w
+      → Inside s [] (blockingData (sourceOf set) (set .config) incoming scrTransfer (card .rca)) (asksScr .state) Card (settleCard set frequency card) w
   unfolding settleCard readScr
   scr-inside g1 g2 g3 =
       first {A = ℕ} 0 (readScr set card) _ w
       (later (tt {0}) (waitReady (sourceOf set) (set .config) (card .rca)) _ w g1
       (later (tt {0}) (blockLength (limitOf set) (card .«card_type»)) _ (waits .state) g2
       (later (tt {0}) (appCommand (limitOf set) (card .rca)) _ (lengthens .state) g3
-      (first [] (blockingData (sourceOf set) (set .config) scrTransfer (card .rca)) _ (asksScr .state) here))))
+      (first [] (blockingData (sourceOf set) (set .config) incoming scrTransfer (card .rca)) _ (asksScr .state) here))))
 
   abbrev pub readsScr : After ℕ
   readsScr = runFrom s 0 (readScr set card) w
@@ -144,7 +144,7 @@ module _ (s : List ℕ) (set : Settings) (frequency : ℕ) (card : Card) (w : St
   clocks = runFrom s (tt {0}) (transferClock set frequency (tranSpeed (wideOf (card .csd)))) (widens .state)
 
   abbrev pub asking : Plan (List ℕ)
-  asking = blockingData (sourceOf set) (set .config) (switchTransfer 0x00ff_fff1) (card .rca)
+  asking = blockingData (sourceOf set) (set .config) incoming (switchTransfer 0x00ff_fff1) (card .rca)
 
   abbrev pub asksSwitch : After (List ℕ)
   asksSwitch = runFrom s [] asking (clocks .state)
@@ -165,12 +165,12 @@ module _ (s : List ℕ) (set : Settings) (frequency : ℕ) (card : Card) (w : St
     ask-inside = up-to-switch (first [] asking _ (clocks .state) here)
 
     pub take-inside : asksSwitch .state .progress .pace ≡ Going → offered (asksSwitch .value) ≡ true
-        → Inside s [] (blockingData (sourceOf set) (set .config) (switchTransfer 0x80ff_fff1) (card .rca)) (asksSwitch .state) Card (settleCard set frequency card) w
+        → Inside s [] (blockingData (sourceOf set) (set .config) incoming (switchTransfer 0x80ff_fff1) (card .rca)) (asksSwitch .state) Card (settleCard set frequency card) w
     unfolding askSwitch takeSwitch
     take-inside g4 has =
         up-to-switch
         (later [] asking _ (clocks .state) g4
-        (rw has (first [] (blockingData (sourceOf set) (set .config) (switchTransfer 0x80ff_fff1) (card .rca)) _ (asksSwitch .state) here)))
+        (rw has (first [] (blockingData (sourceOf set) (set .config) incoming (switchTransfer 0x80ff_fff1) (card .rca)) _ (asksSwitch .state) here)))
 
 -- And that is inside the whole.
 module _ (s : List ℕ) (set : Settings) (c : Clock) (frequency : ℕ) (w : State) where

@@ -29,10 +29,11 @@ use Rattle.tape.proofs.Words.{within-script}
 use Rattle.host.proofs.Ran.{begun}
 use Rattle.bus.specs.Command.{appCommand}
 use Rattle.bus.specs.Ready.{waitReady}
+use Rattle.bus.specs.Transfer.{Buffer}
 use Rattle.init.specs.Initialise.{sourceOf, limitOf, noCard}
 use Rattle.init.specs.Initialise.{initialise}
 use Rattle.host.specs.Calls.{Came, untouched, holding, dropped, kept, ends, freshLine, initFrom, initialised}
-use Rattle.host.specs.Calls.{transferred, approached, served, readNext, readPlan, readFrom, readKnown, readCame}
+use Rattle.host.specs.Calls.{transferred, approached, served, blocksNext, blocksPlan, blocksFrom, blocksKnown, blocksCame}
 use Rattle.host.specs.Calls.{statusNext, statusPlan, statusCame, bufferOf, blocksFilled}
 use Rattle.host.specs.declared.host.Sdmmc.{Sdmmc}
 
@@ -150,19 +151,19 @@ initialise-leaves host frequency s l =
         (going-within s noCard (initialise (host .settings) c frequency) (at (begun (freshLine (c .frequency))) l) refl (omega arith))
         (going-kept s noCard (initialise (host .settings) c frequency) (at (begun (freshLine (c .frequency))) l) refl)
 
-pub read-leaves : (host : Sdmmc) (index bytes : ℕ) (s : List ℕ) (l : List Row) → Leaves host s l (readCame host index bytes s l)
-unfolding readCame readKnown readFrom
-read-leaves host index bytes s l =
+pub blocks-leaves : (host : Sdmmc) (buffer : Buffer) (index bytes : ℕ) (s : List ℕ) (l : List Row) → Leaves host s l (blocksCame host buffer index bytes s l)
+unfolding blocksCame blocksKnown blocksFrom
+blocks-leaves host buffer index bytes s l =
     by-cases (Leaves host s l) (host .known) _ _
     (by-cases (Leaves host s l) (eqb (bytes % 512) 0) _ _
     (by (addressOf (host .card .«card_type») (host .card .«block_count» .0) index (bytes / 512)))
     (untouched-leaves host E.InvalidBufferLength s l))
     (untouched-leaves host E.NoCard s l)
   where
-    by : (a : AddressAnswer) → Leaves host s l (readFrom host (bytes / 512) a s l)
+    by : (a : AddressAnswer) → Leaves host s l (blocksFrom host buffer (bytes / 512) a s l)
     by (Address.Refused e) = untouched-leaves host e s l
     by (Address.Address a) =
-        served-leaves host (waitReady (sourceOf (host .settings)) (host .settings .config) (host .card .rca)) (readPlan host a (bytes / 512)) (readNext host) s l (λ w ws. refl)
+        served-leaves host (waitReady (sourceOf (host .settings)) (host .settings .config) (host .card .rca)) (blocksPlan host buffer a (bytes / 512)) (blocksNext host) s l (λ w ws. refl)
 
 pub status-leaves : (host : Sdmmc) (s : List ℕ) (l : List Row) → Leaves host s l (statusCame host s l)
 unfolding statusCame

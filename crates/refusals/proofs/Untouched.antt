@@ -1,11 +1,10 @@
 -- Document 01's table of refusals, lines 1 and 2: refused at making, or before the first row.
 use Prim.Native.Nat.{ℕ, _+_, _*_, _-_, _/_, _%_, _≤_, _<_}
-use mathlib.Core.Bool.{Bool, true, false, cond, not, _||_}
+use mathlib.Core.Bool.{Bool, true, false, cond, _||_}
 use mathlib.Core.List.{List}
 use mathlib.Core.Path.{_≡_, refl}
 use native.Mathlib.Omega.{arith}
 use lib.Dec.{ltb}
-use lib.ListN.{length}
 use borrow.Author.Tests.{eq-eqb, ne-eqb, le-ltb, lt-ltb}
 use Rattle.types.proofs.Least.{refused-none}
 use Rattle.types.specs.declared.card.AddressAnswer.the-variants as Address
@@ -20,14 +19,12 @@ use Rattle.types.specs.declared.error.Error.the-variants as E
 use Rattle.types.specs.Leaf.{addressOf, clockOf}
 use Rattle.types.specs.Settings.{madeOf}
 use Rattle.tape.specs.declared.progress.Halt.the-variants.{Refused}
-use Rattle.tape.specs.Run.{at}
-use Rattle.tape.specs.declared.progress.Line.{Line}
 use Rattle.tape.specs.declared.rows.Row.{Row}
-use Rattle.refusals.proofs.Guards.{first}
+use Rattle.bus.specs.Transfer.{Buffer}
 use Rattle.init.specs.declared.settings.Settings.{Settings}
 use Rattle.init.specs.Initialise.{sourceOf, noCard}
 use Rattle.host.specs.Calls.{untouched, initialised}
-use Rattle.host.specs.Calls.{readFrom, readKnown, readCame}
+use Rattle.host.specs.Calls.{blocksFrom, blocksKnown, blocksCame}
 use Rattle.host.specs.Calls.{statusCame, noHost, clockedHost, judgedHost, made}
 use Rattle.host.specs.declared.host.Sdmmc.{Sdmmc}
 
@@ -114,44 +111,44 @@ making-accepted set z from2 upTo =
 
 module _ (host : Sdmmc) (s : List ℕ) (l : List Row) where
   -- 16
-  pub read-16 : (index bytes : ℕ) → host .known ≡ false → readCame host index bytes s l ≡ untouched host E.NoCard l
-  unfolding readCame
-  read-16 index bytes k = rw k
+  pub blocks-16 : (buffer : Buffer) (index bytes : ℕ) → host .known ≡ false → blocksCame host buffer index bytes s l ≡ untouched host E.NoCard l
+  unfolding blocksCame
+  blocks-16 buffer index bytes k = rw k
 
   pub status-16 : host .known ≡ false → statusCame host s l ≡ untouched host E.NoCard l
   unfolding statusCame
   status-16 k = rw k
 
   -- 19 for a byte length not a multiple of 512
-  pub read-19-length : (index bytes : ℕ) → host .known ≡ true → (bytes % 512 ≡ 0 → ⊥) → readCame host index bytes s l ≡ untouched host E.InvalidBufferLength l
-  unfolding readCame readKnown
-  read-19-length index bytes k n = rw (k, ne-eqb (bytes % 512) 0 n)
+  pub blocks-19-length : (buffer : Buffer) (index bytes : ℕ) → host .known ≡ true → (bytes % 512 ≡ 0 → ⊥) → blocksCame host buffer index bytes s l ≡ untouched host E.InvalidBufferLength l
+  unfolding blocksCame blocksKnown
+  blocks-19-length buffer index bytes k n = rw (k, ne-eqb (bytes % 512) 0 n)
 
   -- any refusal of the leaf rule for the address (19, 20)
-  pub read-refused : (index blocks : ℕ) (e : Error) → host .known ≡ true
+  pub blocks-refused : (buffer : Buffer) (index blocks : ℕ) (e : Error) → host .known ≡ true
       → addressOf (host .card .«card_type») (host .card .«block_count» .0) index blocks ≡ Address.Refused e
-      → readCame host index (512 * blocks) s l ≡ untouched host e l
-  unfolding readCame readKnown readFrom
-  read-refused index blocks e k a =
+      → blocksCame host buffer index (512 * blocks) s l ≡ untouched host e l
+  unfolding blocksCame blocksKnown blocksFrom
+  blocks-refused buffer index blocks e k a =
       let whole : 512 * blocks % 512 ≡ 0 = omega arith in
       let count : 512 * blocks / 512 ≡ blocks = omega arith in
       rw (k, eq-eqb (512 * blocks % 512) 0 whole, count, a)
 
   -- 19 for 0 blocks or over 511
-  pub read-19-none : (index : ℕ) → host .known ≡ true → readCame host index 0 s l ≡ untouched host E.InvalidBufferLength l
+  pub blocks-19-none : (buffer : Buffer) (index : ℕ) → host .known ≡ true → blocksCame host buffer index 0 s l ≡ untouched host E.InvalidBufferLength l
   unfolding addressOf
-  read-19-none index k = read-refused index 0 E.InvalidBufferLength k refl
+  blocks-19-none buffer index k = blocks-refused buffer index 0 E.InvalidBufferLength k refl
 
-  pub read-19-many : (index blocks : ℕ) → host .known ≡ true → 511 < blocks → readCame host index (512 * blocks) s l ≡ untouched host E.InvalidBufferLength l
+  pub blocks-19-many : (buffer : Buffer) (index blocks : ℕ) → host .known ≡ true → 511 < blocks → blocksCame host buffer index (512 * blocks) s l ≡ untouched host E.InvalidBufferLength l
   unfolding addressOf
-  read-19-many index blocks k many = read-refused index blocks E.InvalidBufferLength k (rw (lt-ltb 511 blocks many, or-true))
+  blocks-19-many buffer index blocks k many = blocks-refused buffer index blocks E.InvalidBufferLength k (rw (lt-ltb 511 blocks many, or-true))
 
   -- 20 when index plus count exceeds the block count
-  pub read-20 : (index blocks : ℕ) → host .known ≡ true → 1 ≤ blocks → blocks ≤ 511 → host .card .«block_count» .0 < index + blocks
-      → readCame host index (512 * blocks) s l ≡ untouched host E.AddressOutOfRange l
+  pub blocks-20 : (buffer : Buffer) (index blocks : ℕ) → host .known ≡ true → 1 ≤ blocks → blocks ≤ 511 → host .card .«block_count» .0 < index + blocks
+      → blocksCame host buffer index (512 * blocks) s l ≡ untouched host E.AddressOutOfRange l
   unfolding addressOf
-  read-20 index blocks k some most past =
-      read-refused index blocks E.AddressOutOfRange k
+  blocks-20 buffer index blocks k some most past =
+      blocks-refused buffer index blocks E.AddressOutOfRange k
       (rw (ne-eqb blocks 0 (λ e. omega arith), le-ltb 511 blocks most, lt-ltb (host .card .«block_count» .0) (index + blocks) past))
 
   -- 17 for an asked frequency of 0 or over 50,000,000

@@ -1,4 +1,4 @@
--- Theorems about whole calls. Each call does what its one plan does (`initialise-ran`, `read-ran`, `status-ran`); from that, of
+-- Theorems about whole calls. Each call does what its one plan does (`initialise-ran`, `blocks-ran`, `status-ran`); from that, of
 -- every call: when it answers 22, and how many rows it has then written; whence a 17 comes; and that an accepted read has filled
 -- its whole buffer. (21: Ended.antt.)
 use Prim.Native.Nat.{ℕ, _+_, _*_, _-_, _/_, _%_, _≤_, _<_, _^_, min}
@@ -38,16 +38,17 @@ use Rattle.tape.proofs.Values.{given}
 use Rattle.tape.proofs.Walk.{Rule, Obeys, Obeyed, run-obeys, on-fail, on-test, on-then}
 use Rattle.bus.specs.Command.{appCommand}
 use Rattle.bus.specs.Ready.{waitReady}
-use Rattle.bus.proofs.Bounds.{gives-words}
+use Rattle.bus.specs.Transfer.{Buffer, incoming}
+use Rattle.bus.proofs.Bounds.{countIn, gives-words}
 use Rattle.bus.proofs.Delays.{fair}
 use Rattle.bus.proofs.Walks.{Other, not-13, not-17, app-obeys, ready-obeys, data-obeys}
 use Rattle.init.specs.Initialise.{sourceOf, limitOf, noCard, initialise}
 use Rattle.init.proofs.Walks.{clockRule, initialise-obeys}
 use Rattle.host.specs.declared.host.Sdmmc.{Sdmmc}
 use Rattle.host.specs.Calls.{Came, untouched, holding, dropped, kept, ends, freshLine, initFrom, initialised}
-use Rattle.host.specs.Calls.{transferred, approached, served, readNext, readTransfer, readPlan, readFrom, readKnown, readCame, blocksFilled, bufferOf}
+use Rattle.host.specs.Calls.{transferred, approached, served, blocksNext, blocksTransfer, blocksPlan, blocksFrom, blocksKnown, blocksCame, readCame, blocksFilled, bufferOf}
 use Rattle.host.specs.Calls.{statusNext, statusPlan, statusCame}
-use Rattle.refusals.specs.Whole.{initAt, initWhole, readAt, readWhole, statusWhole, answerOf, Ran}
+use Rattle.refusals.specs.Whole.{initAt, initWhole, blocksAt, blocksWhole, statusWhole, answerOf, Ran}
 
 -- Each call does what its plan does.
 
@@ -107,18 +108,18 @@ module _ (host : Sdmmc) (s : List ℕ) (l : List Row) where
           let x = run s noCard (initialise (host .settings) c frequency) 0 0 (freshLine (c .frequency)) l in
           ends-ran (x .value) host (dropped host (x .state)) (holding host (x .state) (x .value)) [] (x .state)
 
-  pub read-ran : (index bytes : ℕ) → Ran (readCame host index bytes s l) (run s [] (readWhole host index bytes) 0 0 (host .line) l)
-  unfolding readCame readKnown readFrom readWhole readAt
-  read-ran index bytes =
+  pub blocks-ran : (buffer : Buffer) (index bytes : ℕ) → Ran (blocksCame host buffer index bytes s l) (run s [] (blocksWhole host buffer index bytes) 0 0 (host .line) l)
+  unfolding blocksCame blocksKnown blocksFrom blocksWhole blocksAt
+  blocks-ran buffer index bytes =
       both (does []) (host .known)
       (both (does []) (eqb (bytes % 512) 0) (at (addressOf (host .card .«card_type») (host .card .«block_count» .0) index (bytes / 512)))
       (untouched-ran [] host E.InvalidBufferLength s l))
       (untouched-ran [] host E.NoCard s l)
     where
-      at : (a : AddressAnswer) → Ran (readFrom host (bytes / 512) a s l) (run s [] (readAt host (bytes / 512) a) 0 0 (host .line) l)
+      at : (a : AddressAnswer) → Ran (blocksFrom host buffer (bytes / 512) a s l) (run s [] (blocksAt host buffer (bytes / 512) a) 0 0 (host .line) l)
       at (Address.Refused e) = untouched-ran [] host e s l
       at (Address.Address a) =
-          served-ran host (waitReady (sourceOf (host .settings)) (host .settings .config) (host .card .rca)) (readPlan host a (bytes / 512)) (readNext host) s l
+          served-ran host (waitReady (sourceOf (host .settings)) (host .settings .config) (host .card .rca)) (blocksPlan host buffer a (bytes / 512)) (blocksNext host) s l
 
   pub status-ran : Ran (statusCame host s l) (run s [] (statusWhole host) 0 0 (host .line) l)
   unfolding statusCame statusWhole
@@ -172,9 +173,9 @@ pub initialise-room : (host : Sdmmc) (frequency : ℕ) (s : List ℕ) (l : List 
     → Roomed l (wouldWrite s noCard (initWhole host frequency) (host .line)) (initialised host frequency s l)
 initialise-room host frequency s l = room noCard (initWhole host frequency) (host .line) s l _ (initialise-ran host s l frequency)
 
-pub read-room : (host : Sdmmc) (index bytes : ℕ) (s : List ℕ) (l : List Row)
-    → Roomed l (wouldWrite s [] (readWhole host index bytes) (host .line)) (readCame host index bytes s l)
-read-room host index bytes s l = room [] (readWhole host index bytes) (host .line) s l _ (read-ran host s l index bytes)
+pub blocks-room : (host : Sdmmc) (buffer : Buffer) (index bytes : ℕ) (s : List ℕ) (l : List Row)
+    → Roomed l (wouldWrite s [] (blocksWhole host buffer index bytes) (host .line)) (blocksCame host buffer index bytes s l)
+blocks-room host buffer index bytes s l = room [] (blocksWhole host buffer index bytes) (host .line) s l _ (blocks-ran host s l buffer index bytes)
 
 pub status-room : (host : Sdmmc) (s : List ℕ) (l : List Row) → Roomed l (wouldWrite s [] (statusWhole host) (host .line)) (statusCame host s l)
 status-room host s l = room [] (statusWhole host) (host .line) s l _ (status-ran host s l)
@@ -201,7 +202,7 @@ allowed-error ran o e r = o .refused e (refused-pace _ e (sym (ran .answer) ∙ 
 abbrev pub refusalRule : (Error → Type 0) → Rule
 refusalRule R = record { holds = λ h. Unit {0}; writes = λ r. Unit {0}; refuses = R; noted = λ r h i. tt }
 
--- a read is refused with neither UnsupportedCardType nor BadClock, a status call not with BadClock
+-- a read or a write is refused with neither UnsupportedCardType nor BadClock, a status call not with BadClock
 abbrev pub plain : Rule
 plain = refusalRule Other
 
@@ -228,9 +229,9 @@ address-other class blocks index count e r = by (eqb count 0 || ltb 511 count) (
     by false false r = units-other class index e r
 
 module _ (host : Sdmmc) where
-  pub read-walk : (index bytes : ℕ) → Obeys plain (List ℕ) (readWhole host index bytes)
-  unfolding readWhole readAt errorTold
-  read-walk index bytes =
+  pub blocks-walk : (buffer : Buffer) (index bytes : ℕ) → Obeys plain (List ℕ) (blocksWhole host buffer index bytes)
+  unfolding blocksWhole blocksAt errorTold
+  blocks-walk buffer index bytes =
       on-test (host .known)
       (on-test (eqb (bytes % 512) 0)
       (at (addressOf (host .card .«card_type») (host .card .«block_count» .0) index (bytes / 512)) refl)
@@ -238,29 +239,29 @@ module _ (host : Sdmmc) where
       (on-fail refl)
     where
       at : (a : AddressAnswer) → addressOf (host .card .«card_type») (host .card .«block_count» .0) index (bytes / 512) ≡ a
-          → Obeys plain (List ℕ) (readAt host (bytes / 512) a)
+          → Obeys plain (List ℕ) (blocksAt host buffer (bytes / 512) a)
       at (Address.Refused e) r = on-fail (address-other _ _ _ _ e r)
-      at (Address.Address a) r = on-then (ready-obeys plain (λ e o. o) (λ r o. tt) _ _ _) (λ _. data-obeys plain (λ e o. o) (λ r o. tt) (λ r. tt) _ _ _ _)
+      at (Address.Address a) r = on-then (ready-obeys plain (λ e o. o) (λ r o. tt) _ _ _) (λ _. data-obeys plain (λ e o. o) (λ r o. tt) (λ r. tt) _ _ _ _ _)
 
   pub status-walk : Obeys unclocked (List ℕ) (statusWhole host)
   unfolding statusWhole errorTold
   status-walk =
-      on-test (host .known) (on-then (app-obeys unclocked not-17 (λ r o. tt) (λ z. omega arith) _ _) (λ _. data-obeys unclocked not-17 (λ r o. tt) (λ r. tt) _ _ _ _)) (on-fail (λ z. omega arith))
+      on-test (host .known) (on-then (app-obeys unclocked not-17 (λ r o. tt) (λ z. omega arith) _ _) (λ _. data-obeys unclocked not-17 (λ r o. tt) (λ r. tt) _ _ _ _ _)) (on-fail (λ z. omega arith))
 
   module _ (s : List ℕ) (l : List Row) where
-    read-obeyed : (index bytes : ℕ) → Obeyed plain s 0 (run s [] (readWhole host index bytes) 0 0 (host .line) l)
-    read-obeyed index bytes = run-obeys plain s [] (readWhole host index bytes) 0 0 (host .line) l (read-walk index bytes .each) tt
+    blocks-obeyed : (buffer : Buffer) (index bytes : ℕ) → Obeyed plain s 0 (run s [] (blocksWhole host buffer index bytes) 0 0 (host .line) l)
+    blocks-obeyed buffer index bytes = run-obeys plain s [] (blocksWhole host buffer index bytes) 0 0 (host .line) l (blocks-walk buffer index bytes .each) tt
 
     status-obeyed : Obeyed unclocked s 0 (run s [] (statusWhole host) 0 0 (host .line) l)
     status-obeyed = run-obeys unclocked s [] (statusWhole host) 0 0 (host .line) l (status-walk .each) tt
 
     -- neither is refused with 17
-    pub read-not-17 : (index bytes : ℕ) (e : Error) → readCame host index bytes s l .answer ≡ Answered.Refused e → errorTold e .number ≡ 17 → ⊥
-    read-not-17 index bytes e r = not-17 e (allowed-error (read-ran host s l index bytes) (read-obeyed index bytes) e r)
+    pub blocks-not-17 : (buffer : Buffer) (index bytes : ℕ) (e : Error) → blocksCame host buffer index bytes s l .answer ≡ Answered.Refused e → errorTold e .number ≡ 17 → ⊥
+    blocks-not-17 buffer index bytes e r = not-17 e (allowed-error (blocks-ran host s l buffer index bytes) (blocks-obeyed buffer index bytes) e r)
 
-    -- nor a read with 13
-    pub read-not-13 : (index bytes : ℕ) (e : Error) → readCame host index bytes s l .answer ≡ Answered.Refused e → errorTold e .number ≡ 13 → ⊥
-    read-not-13 index bytes e r = not-13 e (allowed-error (read-ran host s l index bytes) (read-obeyed index bytes) e r)
+    -- nor a read or a write with 13
+    pub blocks-not-13 : (buffer : Buffer) (index bytes : ℕ) (e : Error) → blocksCame host buffer index bytes s l .answer ≡ Answered.Refused e → errorTold e .number ≡ 13 → ⊥
+    blocks-not-13 buffer index bytes e r = not-13 e (allowed-error (blocks-ran host s l buffer index bytes) (blocks-obeyed buffer index bytes) e r)
 
     pub status-not-17 : (e : Error) → statusCame host s l .answer ≡ Answered.Refused e → errorTold e .number ≡ 17 → ⊥
     status-not-17 = allowed-error (status-ran host s l) status-obeyed
@@ -297,49 +298,55 @@ module _ (host : Sdmmc) (from2 : 2 ≤ sourceOf (host .settings)) (c : Clock) (c
       by true t r = asked t
       by false t r = let told = allowed-error steps-ran steps-obeyed E.BadClock r refl in setting (told .0) (told .1)
 
--- An accepted read has taken exactly 128 words a block,
-Exact : ℕ → Came → Type 0
-Exact bytes x = x .answer ≡ Answered.Accepted → (bytes % 512 ≡ 0) × (length (x .taken) ≡ 128 * (bytes / 512))
+-- An accepted read has taken exactly 128 words a block, and a write none.
+Exact : Buffer → ℕ → Came → Type 0
+Exact buffer bytes x = x .answer ≡ Answered.Accepted → (bytes % 512 ≡ 0) × (length (x .taken) ≡ countIn buffer (128 * (bytes / 512)))
 
-ends-exact : (host refused accepted : Sdmmc) (words : List ℕ) (bytes : ℕ) (q : Pace) (w : State)
-    → (q ≡ Going → (bytes % 512 ≡ 0) × (length words ≡ 128 * (bytes / 512))) → Exact bytes (ends host refused accepted words q w)
+ends-exact : (buffer : Buffer) (host refused accepted : Sdmmc) (words : List ℕ) (bytes : ℕ) (q : Pace) (w : State)
+    → (q ≡ Going → (bytes % 512 ≡ 0) × (length words ≡ countIn buffer (128 * (bytes / 512)))) → Exact buffer bytes (ends host refused accepted words q w)
 unfolding Exact ends
-ends-exact host refused accepted words bytes Going w e = λ r. e refl
-ends-exact host refused accepted words bytes (Stopped (Refused x)) w e = λ r. let z : _≡_ {A = ℕ} 0 1 = cc in absurd (omega arith)
-ends-exact host refused accepted words bytes (Stopped ScriptEnded) w e = λ r. let z : _≡_ {A = ℕ} 0 1 = cc in absurd (omega arith)
-ends-exact host refused accepted words bytes (Stopped TraceFull) w e = λ r. let z : _≡_ {A = ℕ} 0 1 = cc in absurd (omega arith)
+ends-exact buffer host refused accepted words bytes Going w e = λ r. e refl
+ends-exact buffer host refused accepted words bytes (Stopped (Refused x)) w e = λ r. let z : _≡_ {A = ℕ} 0 1 = cc in absurd (omega arith)
+ends-exact buffer host refused accepted words bytes (Stopped ScriptEnded) w e = λ r. let z : _≡_ {A = ℕ} 0 1 = cc in absurd (omega arith)
+ends-exact buffer host refused accepted words bytes (Stopped TraceFull) w e = λ r. let z : _≡_ {A = ℕ} 0 1 = cc in absurd (omega arith)
 
-untouched-exact : (host : Sdmmc) (e : Error) (l : List Row) (bytes : ℕ) → Exact bytes (untouched host e l)
+untouched-exact : (buffer : Buffer) (host : Sdmmc) (e : Error) (l : List Row) (bytes : ℕ) → Exact buffer bytes (untouched host e l)
 unfolding Exact
-untouched-exact host e l bytes = λ r. let z : _≡_ {A = ℕ} 0 1 = cc in absurd (omega arith)
+untouched-exact buffer host e l bytes = λ r. let z : _≡_ {A = ℕ} 0 1 = cc in absurd (omega arith)
 
-module _ (host : Sdmmc) (index bytes : ℕ) (s : List ℕ) (l : List Row) where
-  from-exact : bytes % 512 ≡ 0 → (a : AddressAnswer) → Exact bytes (readFrom host (bytes / 512) a s l)
-  unfolding readFrom served approached transferred
-  from-exact whole (Address.Refused e) = untouched-exact host e l bytes
+module _ (host : Sdmmc) (buffer : Buffer) (index bytes : ℕ) (s : List ℕ) (l : List Row) where
+  from-exact : bytes % 512 ≡ 0 → (a : AddressAnswer) → Exact buffer bytes (blocksFrom host buffer (bytes / 512) a s l)
+  unfolding blocksFrom served approached transferred
+  from-exact whole (Address.Refused e) = untouched-exact buffer host e l bytes
   from-exact whole (Address.Address a) = by (w .progress .pace) refl
     where
       w : State
       w = run s (tt {0}) (waitReady (sourceOf (host .settings)) (host .settings .config) (host .card .rca)) 0 0 (host .line) l .state
 
-      by : (q : Pace) → w .progress .pace ≡ q → Exact bytes (approached host (readPlan host a (bytes / 512)) (readNext host) s q w)
+      by : (q : Pace) → w .progress .pace ≡ q → Exact buffer bytes (approached host (blocksPlan host buffer a (bytes / 512)) (blocksNext host) s q w)
       by Going g =
-          let x = runFrom s [] (readPlan host a (bytes / 512)) w in
-          let gave = from-going {s = s} {d = []} {p = readPlan host a (bytes / 512)} {w = w} {v = x .value} {w′ = x .state} g refl in
-          let words = gives-words (sourceOf (host .settings)) (host .settings .config) (readTransfer a (bytes / 512)) (host .card .rca) in
-          ends-exact host (dropped host (x .state)) (readNext host (x .state) (x .value)) (x .value) bytes (x .state .progress .pace) (x .state)
+          let x = runFrom s [] (blocksPlan host buffer a (bytes / 512)) w in
+          let gave = from-going {s = s} {d = []} {p = blocksPlan host buffer a (bytes / 512)} {w = w} {v = x .value} {w′ = x .state} g refl in
+          let words = gives-words (sourceOf (host .settings)) (host .settings .config) buffer (blocksTransfer buffer a (bytes / 512)) (host .card .rca) in
+          ends-exact buffer host (dropped host (x .state)) (blocksNext host (x .state) (x .value)) (x .value) bytes (x .state .progress .pace) (x .state)
           (λ through. (whole, given words gave through))
-      by (Stopped h) g = ends-exact host (kept host w) host [] bytes (Stopped h) w (λ through. let z : _≡_ {A = ℕ} 0 1 = cc in absurd (omega arith))
+      by (Stopped h) g = ends-exact buffer host (kept host w) host [] bytes (Stopped h) w (λ through. let z : _≡_ {A = ℕ} 0 1 = cc in absurd (omega arith))
 
-  pub read-exact : readCame host index bytes s l .answer ≡ Answered.Accepted
-      → (bytes % 512 ≡ 0) × (length (readCame host index bytes s l .taken) ≡ 128 * (bytes / 512))
-  unfolding readCame readKnown Exact
-  read-exact = by-cases (Exact bytes) (host .known) _ _ (by (eqb (bytes % 512) 0) refl) (untouched-exact host E.NoCard l bytes)
+  pub blocks-exact : blocksCame host buffer index bytes s l .answer ≡ Answered.Accepted
+      → (bytes % 512 ≡ 0) × (length (blocksCame host buffer index bytes s l .taken) ≡ countIn buffer (128 * (bytes / 512)))
+  unfolding blocksCame blocksKnown Exact
+  blocks-exact = by-cases (Exact buffer bytes) (host .known) _ _ (by (eqb (bytes % 512) 0) refl) (untouched-exact buffer host E.NoCard l bytes)
     where
       by : (b : Bool) → eqb (bytes % 512) 0 ≡ b
-          → Exact bytes (cond b (readFrom host (bytes / 512) (addressOf (host .card .«card_type») (host .card .«block_count» .0) index (bytes / 512)) s l) (untouched host E.InvalidBufferLength l))
+          → Exact buffer bytes (cond b (blocksFrom host buffer (bytes / 512) (addressOf (host .card .«card_type») (host .card .«block_count» .0) index (bytes / 512)) s l) (untouched host E.InvalidBufferLength l))
       by true t = from-exact (eqb-true (bytes % 512) 0 t) (addressOf (host .card .«card_type») (host .card .«block_count» .0) index (bytes / 512))
-      by false t = untouched-exact host E.InvalidBufferLength l bytes
+      by false t = untouched-exact buffer host E.InvalidBufferLength l bytes
+
+module _ (host : Sdmmc) (index bytes : ℕ) (s : List ℕ) (l : List Row) where
+  pub read-exact : readCame host index bytes s l .answer ≡ Answered.Accepted
+      → (bytes % 512 ≡ 0) × (length (readCame host index bytes s l .taken) ≡ 128 * (bytes / 512))
+  unfolding countIn
+  read-exact r = blocks-exact host incoming index bytes s l r
 
   -- so it has filled every byte of a buffer of its length: nothing in it is stale
   pub read-filled : (buffer : List ℕ) → length buffer ≡ bytes → readCame host index bytes s l .answer ≡ Answered.Accepted

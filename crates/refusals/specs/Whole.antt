@@ -1,5 +1,5 @@
 -- Each call as one plan, from its first check to its last row, so that what is said of a call's rows and words is said of one
--- run: a read and a status call are served by two, the approach and the data phase.
+-- run: a read, a write and a status call are served by two, the approach and the data phase.
 use Prim.Native.Nat.{ℕ, _/_, _%_}
 use mathlib.Core.Bool.{cond, _||_, false}
 use mathlib.Core.List.{List}
@@ -21,9 +21,10 @@ use Rattle.tape.specs.Plan.{Plan, hold, fail, _then_}
 use Rattle.tape.specs.Run.{After}
 use Rattle.bus.specs.Command.{appCommand}
 use Rattle.bus.specs.Ready.{waitReady}
+use Rattle.bus.specs.Transfer.{Buffer}
 use Rattle.init.specs.Initialise.{sourceOf, limitOf, initialise}
 use Rattle.host.specs.declared.host.Sdmmc.{Sdmmc}
-use Rattle.host.specs.Calls.{Came, freshLine, readPlan, statusPlan}
+use Rattle.host.specs.Calls.{Came, freshLine, blocksPlan, statusPlan}
 
 -- an initialisation holds a fresh line before its first row
 unfoldable pub initAt : Sdmmc → ℕ → ClockAnswer → Plan Card
@@ -35,16 +36,16 @@ initWhole host frequency =
     cond (eqb frequency 0 || ltb 50_000_000 frequency) (fail E.BadClock)
     (initAt host frequency (clockOf (sourceOf (host .settings)) 400_000 false))
 
-unfoldable pub readAt : Sdmmc → ℕ → AddressAnswer → Plan (List ℕ)
-readAt host blocks (Address.Refused e) = fail e
-readAt host blocks (Address.Address a) =
-    waitReady (sourceOf (host .settings)) (host .settings .config) (host .card .rca) then λ _. readPlan host a blocks
+unfoldable pub blocksAt : Sdmmc → Buffer → ℕ → AddressAnswer → Plan (List ℕ)
+blocksAt host buffer blocks (Address.Refused e) = fail e
+blocksAt host buffer blocks (Address.Address a) =
+    waitReady (sourceOf (host .settings)) (host .settings .config) (host .card .rca) then λ _. blocksPlan host buffer a blocks
 
-unfoldable pub readWhole : Sdmmc → ℕ → ℕ → Plan (List ℕ)
-readWhole host index bytes =
+unfoldable pub blocksWhole : Sdmmc → Buffer → ℕ → ℕ → Plan (List ℕ)
+blocksWhole host buffer index bytes =
     cond (host .known)
     (cond (eqb (bytes % 512) 0)
-    (readAt host (bytes / 512) (addressOf (host .card .«card_type») (host .card .«block_count» .0) index (bytes / 512)))
+    (blocksAt host buffer (bytes / 512) (addressOf (host .card .«card_type») (host .card .«block_count» .0) index (bytes / 512)))
     (fail E.InvalidBufferLength))
     (fail E.NoCard)
 

@@ -7,7 +7,7 @@ use native.Mathlib.Omega.{arith}
 use lib.Dec.{eqb}
 use lib.ListN.{length, length-append}
 use lib.Pow.{pow-lt}
-use Rattle.text.specs.Digits.{decimalOf, hexOf}
+use Rattle.text.specs.Digits.{decimalOf}
 use Rattle.text.specs.Typed.{typed}
 use Rattle.text.proofs.Decimal.{digits-at-most, ten-digits}
 use Rattle.text.proofs.Hex.{hex-length}
@@ -15,7 +15,6 @@ use Rattle.types.specs.Bits.{bits, clear}
 use Rattle.tape.specs.declared.script.Reading.{Reading}
 use Rattle.tape.specs.declared.script.Reading.the-variants.{Status, RespCmd, Response, Dma, DCount, Data}
 use Rattle.tape.proofs.Laws.{by-cases}
-use Rattle.types.specs.Sd.{wideOf}
 use Rattle.types.specs.Answer.{flag}
 use Rattle.types.specs.declared.card.Card.{Card}
 use Rattle.types.specs.declared.error.Answer.{Answer}
@@ -27,12 +26,12 @@ use Rattle.host.specs.declared.host.Sdmmc.{Sdmmc}
 use Rattle.book.specs.declared.layout.Asked.{Asked}
 use Rattle.book.specs.Lines.{answerText, callLine}
 use Rattle.book.proofs.Short.{answer-short}
-use Rattle.report.specs.Report.{wordsText, classText, recordText, signallingText, lineText, heldText, stateText}
+use Rattle.report.specs.Report.{wordsText, classText, recordText, signallingText, heldText, stateText}
 use Rattle.sheet.specs.Lines.{beginsText}
 use Rattle.events.specs.declared.event.Event.{Event}
 use Rattle.events.specs.declared.event.Event.the-variants.{Read, Missed, Wrote}
-use Rattle.events.specs.Event.{kindText, wordText, readText, missedText, wroteText, eventText}
-use Rattle.events.specs.Meaning.{says, plural, counted, waits, Line, rowTable, firstLine, rowMeaning, Flag, flags, joint, noneLeft, flagsText, channel, remain, readingMeaning}
+use Rattle.events.specs.Event.{kindText, eventText}
+use Rattle.events.specs.Meaning.{says, plural, counted, waits, Line, rowTable, firstLine, rowMeaning, Flag, flags, joint, flagsText, channel, remain, readingMeaning}
 
 -- a text of two, either of which is short
 one-of : (b : Bool) (xs ys : List ℕ) {n : ℕ} → length xs ≤ n → length ys ≤ n → length (cond b xs ys) ≤ n
@@ -95,7 +94,7 @@ table-short value small = (
                             omega arith,
                             (
                               rw (length-append, length-append, length-append) (omega (arith, ten-digits value small, plural-short value)),
-                              tt,
+                              (omega arith, tt),
                             ),
                           ),
                         ),

@@ -5,7 +5,7 @@ use mathlib.Core.Bool.{true}
 use mathlib.Core.List.{List}
 use Rattle.tape.specs.declared.progress.Line.{Line}
 use Rattle.tape.specs.Plan.{Plan}
-use Rattle.step.specs.Next.{Next, asks, tells, over, refused, next, heard, told, missed, wantOf, waits, lineAfter}
+use Rattle.step.specs.Next.{Next, asks, tells, over, refused, next, heard, told, missed, wantOf, waits, lineAfter, filledIn}
 use Rattle.step.specs.Context.{Context, plug, plugNext, next-plug, wants-plug, heard-plug, missed-plug, told-plug, line-plug}
 use Rattle.step.specs.Command.{commandPlan, commandNext}
 use Rattle.step.specs.declared.command.Command.{Command}
@@ -59,3 +59,11 @@ command-goes k c s h e =
 
 pub command-gate : {B : Type 0} (k : Context B (List ℕ)) (c : Command) (h : Line) → lineAfter (next (plug k (commandPlan c)) h) .gated ≡ h .gated
 command-gate k c h = ap (λ (l : Line). l .gated) (inside-line k (commandPlan c) h (command-waits c h)) ∙ command-gated c h
+
+-- what a plan waits for names no word by its place
+pub filled-want : {A : Type 0} (sent : List ℕ) (x : Next A) → filledIn sent (wantOf x) ≡ wantOf x
+unfolding filledIn wantOf
+filled-want sent (asks h r k z) = refl
+filled-want sent (tells h r p) = refl
+filled-want sent (over h a) = refl
+filled-want sent (refused h c) = refl

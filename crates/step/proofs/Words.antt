@@ -9,22 +9,24 @@ use lib.Seq.{take-all}
 use Rattle.tape.specs.declared.script.Reading.{Reading}
 use Rattle.tape.specs.declared.script.Reading.the-variants as Reading
 use Rattle.tape.specs.Plan.{Plan, give, refuse, read, write, look, hold, handle}
-use Rattle.step.specs.Next.{Handed, handed}
+use Rattle.step.specs.Next.{Lent, Handed, HandedBy, handedTo, handed}
 use Rattle.step.specs.Transfer.{blocksOf, transferOf, placeOf, putAt}
+use Rattle.step.specs.declared.wants.Wants.{Wants}
+use Rattle.step.specs.declared.wants.Wants.the-variants as Wa
 use Rattle.step.specs.declared.phase.Phase.{Phase}
 use Rattle.step.specs.declared.phase.Phase.the-variants as P
 
--- words in front of words
-pub appends : (ws : List ℕ) (w : ℕ) (p : Plan (List ℕ))
-    → handle (λ rest. give (ws ++ rest)) refuse (handle (λ rest. give (w ∷ rest)) refuse p)
-    ≡ handle (λ rest. give ((ws ++ (w ∷ [])) ++ rest)) refuse p
+-- words in front of words, and what is made of them
+pub appends : (f : List ℕ → List ℕ) (ws : List ℕ) (w : ℕ) (p : Plan (List ℕ))
+    → handle (λ rest. give (f (ws ++ rest))) refuse (handle (λ rest. give (w ∷ rest)) refuse p)
+    ≡ handle (λ rest. give (f ((ws ++ (w ∷ [])) ++ rest))) refuse p
 unfolding handle
-appends ws w (give a) = ap give (sym (append-assoc ws (w ∷ []) a))
-appends ws w (refuse c) = refl
-appends ws w (read r k z) = λ i. read r (λ v. appends ws w (k v) i) (appends ws w z i)
-appends ws w (write r p) = ap (write r) (appends ws w p)
-appends ws w (look k) = λ i. look (λ h. appends ws w (k h) i)
-appends ws w (hold h p) = ap (hold h) (appends ws w p)
+appends f ws w (give a) = ap (λ (l : List ℕ). give (f l)) (sym (append-assoc ws (w ∷ []) a))
+appends f ws w (refuse c) = refl
+appends f ws w (read r k z) = λ i. read r (λ v. appends f ws w (k v) i) (appends f ws w z i)
+appends f ws w (write r p) = ap (write r) (appends f ws w p)
+appends f ws w (look k) = λ i. look (λ h. appends f ws w (k h) i)
+appends f ws w (hold h p) = ap (hold h) (appends f ws w p)
 
 pub then-give : {A : Type 0} (p : Plan A) → handle give refuse p ≡ p
 unfolding handle
@@ -55,14 +57,14 @@ held-more (suc k) w (x ∷ xs) h =
     rw e (ap (λ l. x ∷ l) (held-more k w xs (omega arith)))
 
 -- `handed` is one way to hand them out
-pub is-handed : (r : Reading) (w : ℕ) (g : List ℕ) → Handed r w g (handed r w g)
-unfolding Handed handed
+pub is-handed : (r : Reading) (w : ℕ) (g : Lent) → Handed r w g (handed r w g)
+unfolding Handed handedTo
 is-handed Reading.Status w g = refl
 is-handed Reading.RespCmd w g = refl
 is-handed (Reading.Response i) w g = refl
 is-handed Reading.Dma w g = refl
 is-handed Reading.DCount w g = refl
-is-handed (Reading.Data k) w g = one-more k w g
+is-handed (Reading.Data k) w g = (refl, one-more k w (g .taken))
 
 -- a transfer has words
 pub some-words : (p : Phase) → 1 ≤ transferOf p .words
@@ -72,6 +74,7 @@ some-words P.Check = omega arith
 some-words P.Switch = omega arith
 some-words P.Status = omega arith
 some-words (P.Blocks a n) = omega arith
+some-words (P.Sends a n) = omega arith
 
 -- a place is one of the transfer's
 pub place-fits : (p : Phase) (m : ℕ) → placeOf p m < transferOf p .words
@@ -81,3 +84,16 @@ place-fits p m = let some = some-words p in omega arith
 pub put-more : (held : List ℕ) (k w : ℕ) → k < 16 → length held ≡ 16 → take (k + 1) (putAt held k w) ≡ take k held ++ (w ∷ [])
 unfolding putAt
 put-more held k w small long = rw (lt-ltb _ _ small) (held-more k w held (omega arith))
+
+-- what is to be sent stays
+pub handed-sent : (v : Wants) (w : ℕ) (g g′ : Lent) → HandedBy v w g g′ → g′ .sent ≡ g .sent
+unfolding HandedBy Handed
+handed-sent (Wa.Read Reading.Status) w g g′ e = ap (λ (l : Lent). l .sent) e
+handed-sent (Wa.Read Reading.RespCmd) w g g′ e = ap (λ (l : Lent). l .sent) e
+handed-sent (Wa.Read (Reading.Response i)) w g g′ e = ap (λ (l : Lent). l .sent) e
+handed-sent (Wa.Read Reading.Dma) w g g′ e = ap (λ (l : Lent). l .sent) e
+handed-sent (Wa.Read Reading.DCount) w g g′ e = ap (λ (l : Lent). l .sent) e
+handed-sent (Wa.Read (Reading.Data k)) w g g′ e = e .0
+handed-sent (Wa.Write r) w g g′ e = ap (λ (l : Lent). l .sent) e
+handed-sent (Wa.Send k) w g g′ e = ap (λ (l : Lent). l .sent) e
+handed-sent Wa.Nothing w g g′ e = ap (λ (l : Lent). l .sent) e

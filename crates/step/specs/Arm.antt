@@ -1,10 +1,9 @@
 -- The rows that ready the data path, and the rows that stop it, from each of them on.
 use Prim.Native.Nat.{ℕ, _*_}
 use mathlib.Core.Path.{_≡_, refl}
-use mathlib.Core.Bool.{true}
 use mathlib.Core.List.{List, [], _∷_}
 use Rattle.tape.specs.declared.rows.Row.{Row}
-use Rattle.tape.specs.Rows.{MASK, DCTRL, ICR, DTIMER, DLEN, DCTRL2, dctrlOf}
+use Rattle.tape.specs.Rows.{MASK, DCTRL, ICR, DTIMER, DLEN, DCTRL2}
 use Rattle.bus.specs.declared.transfer.Transfer.{Transfer}
 use Rattle.step.specs.Rows.{armRows, stopRows}
 use Rattle.step.specs.declared.arm.Arm.{Arm}
@@ -24,16 +23,14 @@ module _ (timeout : ℕ) (transfer : Transfer) where
   armRow A.Icr = record { register = ICR; value = 0x73a }
   armRow A.Dtimer = record { register = DTIMER; value = timeout }
   armRow A.Dlen = record { register = DLEN; value = 4 * transfer .words }
-  armRow A.Dctrl = record { register = DCTRL; value = dctrlOf true (transfer .«block_size») }
 
   unfoldable pub armRest : Arm → List Row
-  armRest A.Dctrl2 = armRow A.Mask ∷ armRow A.Off ∷ armRow A.Icr ∷ armRow A.Dtimer ∷ armRow A.Dlen ∷ armRow A.Dctrl ∷ []
-  armRest A.Mask = armRow A.Off ∷ armRow A.Icr ∷ armRow A.Dtimer ∷ armRow A.Dlen ∷ armRow A.Dctrl ∷ []
-  armRest A.Off = armRow A.Icr ∷ armRow A.Dtimer ∷ armRow A.Dlen ∷ armRow A.Dctrl ∷ []
-  armRest A.Icr = armRow A.Dtimer ∷ armRow A.Dlen ∷ armRow A.Dctrl ∷ []
-  armRest A.Dtimer = armRow A.Dlen ∷ armRow A.Dctrl ∷ []
-  armRest A.Dlen = armRow A.Dctrl ∷ []
-  armRest A.Dctrl = []
+  armRest A.Dctrl2 = armRow A.Mask ∷ armRow A.Off ∷ armRow A.Icr ∷ armRow A.Dtimer ∷ armRow A.Dlen ∷ []
+  armRest A.Mask = armRow A.Off ∷ armRow A.Icr ∷ armRow A.Dtimer ∷ armRow A.Dlen ∷ []
+  armRest A.Off = armRow A.Icr ∷ armRow A.Dtimer ∷ armRow A.Dlen ∷ []
+  armRest A.Icr = armRow A.Dtimer ∷ armRow A.Dlen ∷ []
+  armRest A.Dtimer = armRow A.Dlen ∷ []
+  armRest A.Dlen = []
 
   abbrev pub armLeft : Arm → List Row
   armLeft a = armRow a ∷ armRest a

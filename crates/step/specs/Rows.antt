@@ -1,10 +1,9 @@
 -- Blocks of rows, one row after the other: those that reset the controller, that ready the data path, and that stop it.
 use Prim.Native.Nat.{ℕ, _*_}
-use mathlib.Core.Bool.{true}
 use mathlib.Core.List.{List, [], _∷_}
 use Rattle.tape.specs.declared.rows.Row.{Row}
 use Rattle.tape.specs.Plan.{Nothing, Plan, give, write}
-use Rattle.tape.specs.Rows.{MASK, DCTRL, ICR, DTIMER, DLEN, DCTRL2, CMD, POWER, CLKCR, ARG, dctrlOf}
+use Rattle.tape.specs.Rows.{MASK, DCTRL, ICR, DTIMER, DLEN, DCTRL2, CMD, POWER, CLKCR, ARG}
 use Rattle.bus.specs.declared.transfer.Transfer.{Transfer}
 
 abbrev pub rowOf : ℕ → ℕ → Row
@@ -22,7 +21,7 @@ resetRows =
 abbrev pub armRows : ℕ → Transfer → List Row
 armRows timeout transfer =
     rowOf DCTRL2 0 ∷ rowOf MASK 0 ∷ rowOf DCTRL 0 ∷ rowOf ICR 0x73a ∷ rowOf DTIMER timeout ∷ rowOf DLEN (4 * transfer .words)
-    ∷ rowOf DCTRL (dctrlOf true (transfer .«block_size»)) ∷ []
+    ∷ []
 
 abbrev pub stopRows : List Row
 stopRows = rowOf MASK 0 ∷ rowOf DCTRL 0 ∷ rowOf ICR 0x73a ∷ []

@@ -1,5 +1,5 @@
 -- A data phase under way: what is ahead of it at each of its places. It is the plan of the bus, from that place on; `ws` are the
--- data words that it has come to so far.
+-- words that it is to send, and the data words that it has come to so far.
 use Prim.Native.Nat.{ℕ, suc, _+_, _-_, min}
 use mathlib.Core.Path.{_≡_}
 use mathlib.Core.Bool.{Bool, cond, not, true, false, _||_}
@@ -14,16 +14,16 @@ use Rattle.tape.specs.declared.rows.Row.{Row}
 use Rattle.tape.specs.declared.script.Reading.{Reading}
 use Rattle.tape.specs.declared.script.Reading.the-variants as Reading
 use Rattle.tape.specs.Plan.{Nothing, Plan, give, refuse, _then_, refusing, ensure, until}
-use Rattle.tape.specs.Rows.{CLKCR, clkenOf}
-use Rattle.tape.specs.Steps.{word, waitIdle, resetController, setClken, dataFrom, dataWords}
+use Rattle.tape.specs.Rows.{CLKCR, DCTRL, clkenOf, dctrlOf}
+use Rattle.tape.specs.Steps.{word, row, waitIdle, resetController, setClken, dataFrom, sendFrom, sendWords}
 use Rattle.bus.specs.declared.response.Response.the-variants.{R1}
 use Rattle.bus.specs.declared.transfer.Transfer.{Transfer}
 use Rattle.bus.specs.Command.{commandInner}
 use Rattle.bus.specs.Ready.{waitReady}
-use Rattle.bus.specs.Transfer.{arm, Polled, dataComplete, drained, settle, receive, closeGate, stopTransmission, endData, blockingData}
+use Rattle.bus.specs.Transfer.{Buffer, incoming, outgoing, arm, orderData, beforeCommand, afterCommand, landed, Polled, dataComplete, drained, settle, receive, closeGate, stopTransmission, endData, blockingData}
 use Rattle.init.specs.Initialise.{scrTransfer, switchTransfer}
-use Rattle.host.specs.Calls.{readTransfer, statusTransfer}
-use Rattle.step.specs.Next.{Next, over, refused, next, Handed}
+use Rattle.host.specs.Calls.{blocksTransfer, statusTransfer}
+use Rattle.step.specs.Next.{Next, over, refused, next, Lent, Handed}
 use Rattle.step.specs.Context.{Context, whole, inside, plug, andThen}
 use Rattle.step.specs.Command.{commandPlan}
 use Rattle.step.specs.Why.{causeOf}
@@ -44,7 +44,7 @@ use Rattle.step.specs.declared.transfer.Data.the-variants as D
 use Rattle.step.specs.declared.transfer.DataStep.{DataStep}
 use Rattle.step.specs.declared.transfer.DataStep.the-variants as S
 
--- a read is of 1 to 511 blocks
+-- a read or a write is of 1 to 511 blocks
 unfoldable pub blocksOf : ℕ → ℕ
 blocksOf n = 1 + min (n - 1) 510
 
@@ -53,7 +53,20 @@ transferOf P.Scr = scrTransfer
 transferOf P.Check = switchTransfer 0x00ff_fff1
 transferOf P.Switch = switchTransfer 0x80ff_fff1
 transferOf P.Status = statusTransfer
-transferOf (P.Blocks address blocks) = readTransfer address (blocksOf blocks)
+transferOf (P.Blocks address blocks) = blocksTransfer incoming address (blocksOf blocks)
+transferOf (P.Sends address blocks) = blocksTransfer (outgoing []) address (blocksOf blocks)
+
+-- whether its words go to the card
+unfoldable pub sendsOf : Phase → Bool
+sendsOf P.Scr = false
+sendsOf P.Check = false
+sendsOf P.Switch = false
+sendsOf P.Status = false
+sendsOf (P.Blocks address blocks) = false
+sendsOf (P.Sends address blocks) = true
+
+abbrev pub bufferOf : Phase → List ℕ → Buffer
+bufferOf p sent = cond (sendsOf p) (outgoing sent) incoming
 
 -- the last place of a data word; the place of the one with so many after it, and how many are after it: any number is one of
 -- these
@@ -66,17 +79,25 @@ placeOf p m = topOf p - m
 abbrev pub afterOf : Phase → ℕ → ℕ
 afterOf p m = topOf p - placeOf p m
 
+-- what it gives of these: none where its words go to the card
+abbrev pub givenOf : Phase → List ℕ → List ℕ
+givenOf p taken = cond (sendsOf p) [] taken
+
 -- all its words
-abbrev pub allOf : Phase → List ℕ → List ℕ
-allOf p ws = take (transferOf p .words) ws
+abbrev pub allOf : Phase → Lent → List ℕ
+allOf p ws = givenOf p (take (transferOf p .words) (ws .taken))
 
 -- the words so far, where g were handed out: a read's are those, the others a call keeps itself
-unfoldable pub wordsBy : Phase → List ℕ → List ℕ → List ℕ
-wordsBy P.Scr held g = held
-wordsBy P.Check held g = held
-wordsBy P.Switch held g = held
-wordsBy P.Status held g = held
-wordsBy (P.Blocks a n) held g = g
+unfoldable pub takenBy : Phase → List ℕ → List ℕ → List ℕ
+takenBy P.Scr held taken = held
+takenBy P.Check held taken = held
+takenBy P.Switch held taken = held
+takenBy P.Status held taken = held
+takenBy (P.Blocks a n) held taken = taken
+takenBy (P.Sends a n) held taken = taken
+
+abbrev pub wordsBy : Phase → List ℕ → Lent → Lent
+wordsBy p held g = record { sent = g .sent; taken = takenBy p held (g .taken) }
 
 -- what it keeps after a word at place k: sixteen words have room for it
 unfoldable pub putAt : List ℕ → ℕ → ℕ → List ℕ
@@ -88,6 +109,7 @@ keptBy P.Check k held w = putAt held k w
 keptBy P.Switch k held w = putAt held k w
 keptBy P.Status k held w = putAt held k w
 keptBy (P.Blocks a n) k held w = held
+keptBy (P.Sends a n) k held w = held
 
 -- what each of its readings reads
 unfoldable pub readingAt : Phase → Reads → Reading
@@ -112,51 +134,70 @@ module _ (bus : Bus) (phase : Phase) where
   abbrev transfer : Transfer
   transfer = transferOf phase
 
-  -- the whole of it
-  abbrev pub phasePlan : Plan (List ℕ)
-  phasePlan = blockingData source config transfer (bus .rca)
+  abbrev words : ℕ
+  words = transfer .words
 
-  -- CONTEXTS. Under its guard; inside `receive`; inside `startData`
+  -- the whole of it
+  abbrev pub phasePlan : List ℕ → Plan (List ℕ)
+  phasePlan sent = blockingData source config (bufferOf phase sent) transfer (bus .rca)
+
+  -- CONTEXTS. Under its guard; once the poll that completes has come, and its words; inside `startData`
   abbrev pub guarded : Context (List ℕ) (List ℕ)
   guarded = inside give (refusing resetController) whole
 
   abbrev pub received : Context (List ℕ) (List ℕ)
   received = andThen (λ ws. endData source config (transfer .index) (bus .rca) then λ _. give ws) guarded
 
-  abbrev pub started : Context (List ℕ) Nothing
-  started =
+  abbrev pub started : Lent → Context (List ℕ) Nothing
+  started ws =
       andThen
-      (λ _. receive limit (transfer .words) then λ ws. endData source config (transfer .index) (bus .rca) then λ _. give ws)
+      (λ _. receive limit (bufferOf phase (ws .sent)) words then λ ws. endData source config (transfer .index) (bus .rca) then λ _. give ws)
       guarded
 
   -- what follows the rows that ready the data path
-  abbrev pub armed : Context (List ℕ) Nothing
-  armed = andThen (λ _. setClken true then λ _. commandInner limit (transfer .index) (transfer .argument) R1 then λ _. give tt) started
+  abbrev pub armed : Lent → Context (List ℕ) Nothing
+  armed ws =
+      andThen
+      (λ _. beforeCommand (bufferOf phase (ws .sent)) transfer
+      then λ _. orderData config transfer
+      then λ _. afterCommand (bufferOf phase (ws .sent)) transfer)
+      (started ws)
+
+  -- what follows the row of DCTRL: the data command, or the words that are sent
+  abbrev pub controlled : Lent → Context (List ℕ) Nothing
+  controlled ws =
+      andThen
+      (λ _. cond (sendsOf phase) (sendWords (ws .sent) words) (orderData config transfer then λ _. afterCommand (bufferOf phase (ws .sent)) transfer))
+      (started ws)
+
+  -- what follows the data command
+  abbrev pub ordered : Lent → Context (List ℕ) Nothing
+  ordered ws = andThen (λ _. afterCommand (bufferOf phase (ws .sent)) transfer) (started ws)
 
   -- where the data command returns to
-  unfoldable pub startSite : Context (List ℕ) (List ℕ)
-  startSite = andThen (λ _. give (tt {0})) started
+  unfoldable pub startSite : Lent → Context (List ℕ) (List ℕ)
+  startSite ws = andThen (λ _. give (tt {0})) (ordered ws)
 
   -- where a poll returns to, with so many left
-  abbrev pub polls : Context (List ℕ) Bool
-  polls = andThen (λ _. give (tt {0})) (andThen (λ _. dataWords (transfer .words)) received)
+  abbrev pub polls : Lent → Context (List ℕ) Bool
+  polls ws = andThen (λ _. give (tt {0})) (andThen (λ _. landed (bufferOf phase (ws .sent)) words) received)
 
-  abbrev pub loop : ℕ → Context (List ℕ) Bool
-  loop n = andThen (λ done. cond done (give done) (until n (λ done. done) dataComplete)) polls
+  abbrev pub loop : Lent → ℕ → Context (List ℕ) Bool
+  loop ws n = andThen (λ done. cond done (give done) (until n (λ done. done) dataComplete)) (polls ws)
 
   -- where the end returns to, once all words are there
-  unfoldable pub ending : List ℕ → Context (List ℕ) Nothing
+  unfoldable pub ending : Lent → Context (List ℕ) Nothing
   ending ws = andThen (λ _. give (allOf phase ws)) guarded
 
   -- after the rows that stop the data path; after the clock's gate; after CMD12
-  abbrev pub stopping : List ℕ → Context (List ℕ) Nothing
+  abbrev pub stopping : Lent → Context (List ℕ) Nothing
   stopping ws =
       andThen (λ _. closeGate then λ _. stopTransmission limit (transfer .index) then λ _. waitReady source config (bus .rca)) (ending ws)
 
-  unfoldable pub unclocked : List ℕ → Context (List ℕ) Nothing
+  unfoldable pub unclocked : Lent → Context (List ℕ) Nothing
   unclocked ws = andThen (λ _. stopTransmission limit (transfer .index) then λ _. waitReady source config (bus .rca)) (ending ws)
 
-  unfoldable pub stopSite : List ℕ → Context (List ℕ) (List ℕ)
+  unfoldable pub stopSite : Lent → Context (List ℕ) (List ℕ)
   stopSite ws = andThen (λ _. give (tt {0})) (andThen (λ _. waitReady source config (bus .rca)) (ending ws))
 
   -- where a refusal's reset rows lead
@@ -167,17 +208,19 @@ module _ (bus : Bus) (phase : Phase) where
   unfoldable pub refusal : Why → Plan (List ℕ)
   refusal why = plug guarded (refuse (causeOf why))
 
-  unfoldable pub idling : ℕ → Plan (List ℕ)
-  idling n =
-      plug
-      (andThen (λ _. arm (config .«data_transfer_timeout») transfer then λ _. setClken true then λ _. commandInner limit (transfer .index) (transfer .argument) R1 then λ _. give tt) started)
-      (waitIdle n true)
+  unfoldable pub idling : Lent → ℕ → Plan (List ℕ)
+  idling ws n = plug (andThen (λ _. arm (config .«data_transfer_timeout») transfer) (armed ws)) (waitIdle n true)
 
-  abbrev pub opening : Plan (List ℕ)
-  opening = plug started (setClken true then λ _. commandInner limit (transfer .index) (transfer .argument) R1 then λ _. give tt)
+  -- the row of DCTRL
+  abbrev pub controlRow : Row
+  controlRow = rowOf DCTRL (dctrlOf (not (sendsOf phase)) (transfer .«block_size»))
 
-  unfoldable pub polling : ℕ → Plan (List ℕ)
-  polling n = plug polls (until n (λ done. done) dataComplete)
+  -- word k of what is sent, and the n - 1 after it
+  abbrev pub sending : Lent → ℕ → ℕ → Plan (List ℕ)
+  sending ws k n = plug (started ws) (sendFrom (ws .sent) k n)
+
+  unfoldable pub polling : Lent → ℕ → Plan (List ℕ)
+  polling ws n = plug (polls ws) (until n (λ done. done) dataComplete)
 
   abbrev firstly : Polled → Plan Bool
   firstly first = cond (clear 0x4000_0000 (first .dma)) settle (give false)
@@ -192,30 +235,31 @@ module _ (bus : Bus) (phase : Phase) where
       then λ dma. ensure (clear 0x8000_0000 dma) E.Dma
       then λ _. give (record { status = status; dma = dma })
 
-  abbrev pub counting : ℕ → Plan (List ℕ)
-  counting n = plug (loop n) (word Reading.DCount then (λ w. ensure (eqb w 0) E.IncompleteTransfer) then λ _. give true)
+  abbrev pub counting : Lent → ℕ → Plan (List ℕ)
+  counting ws n = plug (loop ws n) (word Reading.DCount then (λ w. ensure (eqb w 0) E.IncompleteTransfer) then λ _. give true)
 
   -- data word k and the rest, after the words so far
   abbrev pub taking : ℕ → ℕ → List ℕ → Plan (List ℕ)
-  taking k n ws = plug (andThen (λ rest. give (ws ++ rest)) received) (dataFrom k n)
+  taking k n taken = plug (andThen (λ rest. give (givenOf phase (taken ++ rest))) received) (dataFrom k n)
 
-  unfoldable pub readsPlan : List ℕ → Reads → Plan (List ℕ)
-  readsPlan ws (R.Idle n) = idling (suc n)
-  readsPlan ws (R.First n) = polling (suc n)
-  readsPlan ws (R.FirstDma n v) = plug (andThen firstly (loop n)) (dmaOf v)
-  readsPlan ws (R.Again n) = plug (loop n) settle
-  readsPlan ws (R.AgainDma n v) = plug (andThen afterwards (loop n)) (dmaOf v)
-  readsPlan ws (R.Count n) = counting n
-  readsPlan ws (R.Word m) = taking (placeOf phase m) (suc (afterOf phase m)) (take (placeOf phase m) ws)
+  unfoldable pub readsPlan : Lent → Reads → Plan (List ℕ)
+  readsPlan ws (R.Idle n) = idling ws (suc n)
+  readsPlan ws (R.First n) = polling ws (suc n)
+  readsPlan ws (R.FirstDma n v) = plug (andThen firstly (loop ws n)) (dmaOf v)
+  readsPlan ws (R.Again n) = plug (loop ws n) settle
+  readsPlan ws (R.AgainDma n v) = plug (andThen afterwards (loop ws n)) (dmaOf v)
+  readsPlan ws (R.Count n) = counting ws n
+  readsPlan ws (R.Word m) = taking (placeOf phase m) (suc (afterOf phase m)) (take (placeOf phase m) (ws .taken))
 
   -- after the rows that stop the data path
-  unfoldable pub stopped : List ℕ → Plan (List ℕ)
+  unfoldable pub stopped : Lent → Plan (List ℕ)
   stopped ws = plug (stopping ws) (rowsFrom [])
 
-  unfoldable pub writesPlan : List ℕ → Writes → Plan (List ℕ)
+  unfoldable pub writesPlan : Lent → Writes → Plan (List ℕ)
   writesPlan ws (W.Reset r why) = plug (closing why) (rowsFrom (rowsLeft r))
-  writesPlan ws (W.Arm a) = plug armed (rowsFrom (armLeft (config .«data_transfer_timeout») transfer a))
-  writesPlan ws W.Open = opening
+  writesPlan ws (W.Arm a) = plug (armed ws) (rowsFrom (armLeft (config .«data_transfer_timeout») transfer a))
+  writesPlan ws W.Control = plug (controlled ws) (row (controlRow .register) (controlRow .value))
+  writesPlan ws W.Open = plug (ordered ws) (orderData config transfer)
   writesPlan ws (W.Stop s) = plug (stopping ws) (rowsFrom (stopLeft s))
   writesPlan ws W.Gate = plug (unclocked ws) (setClken false)
 
@@ -223,33 +267,37 @@ module _ (bus : Bus) (phase : Phase) where
   unfoldable pub rowAt : Line → Writes → Row
   rowAt h (W.Reset r why) = resetRow r
   rowAt h (W.Arm a) = armRow (config .«data_transfer_timeout») transfer a
+  rowAt h W.Control = controlRow
   rowAt h W.Open = rowOf CLKCR (clkenOf (h .clkcr) true)
   rowAt h (W.Stop s) = stopRow s
   rowAt h W.Gate = rowOf CLKCR (clkenOf (h .clkcr) false)
 
-  unfoldable pub toldPlan : List ℕ → Writes → Plan (List ℕ)
+  unfoldable pub toldPlan : Lent → Writes → Plan (List ℕ)
   toldPlan ws (W.Reset r why) = plug (closing why) (rowsFrom (restLeft r))
-  toldPlan ws (W.Arm a) = plug armed (rowsFrom (armRest (config .«data_transfer_timeout») transfer a))
-  toldPlan ws W.Open = plug startSite (commandInner limit (transfer .index) (transfer .argument) R1)
+  toldPlan ws (W.Arm a) = plug (armed ws) (rowsFrom (armRest (config .«data_transfer_timeout») transfer a))
+  toldPlan ws W.Control = plug (controlled ws) (give tt)
+  toldPlan ws W.Open = plug (startSite ws) (commandInner limit (transfer .index) (transfer .argument) R1)
   toldPlan ws (W.Stop s) = plug (stopping ws) (rowsFrom (stopRest s))
   toldPlan ws W.Gate = plug (unclocked ws) (give tt)
 
-  unfoldable pub dataPlan : List ℕ → Data → Plan (List ℕ)
+  unfoldable pub dataPlan : Lent → Data → Plan (List ℕ)
   dataPlan ws (D.Asks r) = readsPlan ws r
   dataPlan ws (D.Tells t) = writesPlan ws t
-  dataPlan ws (D.Start c) = plug startSite (commandPlan c)
+  dataPlan ws (D.Sends m) = sending ws (placeOf phase m) (suc (afterOf phase m))
+  dataPlan ws (D.Start c) = plug (startSite ws) (commandPlan c)
   dataPlan ws (D.Stop c) = plug (stopSite ws) (commandPlan c)
   dataPlan ws (D.Ready r) = plug (ending ws) (readyPlan bus r)
 
-  unfoldable pub dataNext : List ℕ → DataStep → Line → Next (List ℕ)
+  unfoldable pub dataNext : Lent → DataStep → Line → Next (List ℕ)
   dataNext ws (S.On d) h = next (dataPlan ws d) h
   dataNext ws S.Done h = over h (allOf phase ws)
   dataNext ws (S.Failed why) h = refused h (causeOf why)
 
 -- ws′ has the word w after a reading, where ws were there before it
-unfoldable pub HandedAt : Phase → Data → ℕ → List ℕ → List ℕ → Type 0
+unfoldable pub HandedAt : Phase → Data → ℕ → Lent → Lent → Type 0
 HandedAt p (D.Asks r) w ws ws′ = Handed (readingAt p r) w ws ws′
 HandedAt p (D.Tells t) w ws ws′ = ws′ ≡ ws
+HandedAt p (D.Sends m) w ws ws′ = ws′ ≡ ws
 HandedAt p (D.Start c) w ws ws′ = ws′ ≡ ws
 HandedAt p (D.Stop c) w ws ws′ = ws′ ≡ ws
 HandedAt p (D.Ready r) w ws ws′ = ws′ ≡ ws
@@ -267,6 +315,7 @@ heldAfter p (R.Word m) held w = keptBy p (placeOf p m) held w
 unfoldable pub heldBy : Phase → Data → List ℕ → ℕ → List ℕ
 heldBy p (D.Asks r) held w = heldAfter p r held w
 heldBy p (D.Tells t) held w = held
+heldBy p (D.Sends m) held w = held
 heldBy p (D.Start c) held w = held
 heldBy p (D.Stop c) held w = held
 heldBy p (D.Ready r) held w = held

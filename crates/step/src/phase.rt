@@ -1,20 +1,23 @@
 // What a data phase is for, and the place of each of its words.
 ghost use mathlib.Core.Path.{_≡_};
-ghost use mathlib.Core.List.{List, [], _∷_, _++_};
-ghost use Prim.Native.Nat.{ℕ, _+_, _<_};
-ghost use lib.ListN.{length, take};
+ghost use mathlib.Core.Bool.{cond};
+ghost use Prim.Native.Nat.{_*_, _<_};
+ghost use lib.Dec.{eqb};
+ghost use lib.ListN.{length};
 ghost use Rattle.tape.specs.declared.script.Reading.the-variants as Reading;
-ghost use Rattle.step.specs.Next.{Handed};
-ghost use Rattle.step.specs.Transfer.{blocksOf, transferOf, topOf, placeOf, wordsBy, putAt, keptBy};
+ghost use Rattle.step.specs.Next.{Lent, Handed};
+ghost use Rattle.step.specs.Transfer.{blocksOf, transferOf, sendsOf, topOf, placeOf, wordsBy, putAt, keptBy};
 use bus::transfer::Transfer;
 
-// What a data phase reads: the SCR, a switch status (asked about, or switched), the SD status, or blocks from an address on.
+// What a data phase reads: the SCR, a switch status (asked about, or switched), the SD status, or blocks from an address on. The last
+// is of blocks that are sent.
 pub enum Phase {
     Scr,
     Check,
     Switch,
     Status,
     Blocks(u32, u16),
+    Sends(u32, u16),
 }
 
 // Sixteen words with another one at this place.
@@ -40,21 +43,21 @@ fn blocks(n: u16) -> u16
     if n > 511 { 511 } else { n }
 }
 
-// CMD17 for one block, CMD18 for more.
-fn read_blocks(address: u32, n: u16) -> Transfer
-    ensures { λ r. ⌜ r ≡ transferOf (Phase.Blocks address n) ⌝ }
+// One command for one block, another for more.
+fn move_blocks(one: u8, more: u8, address: u32, n: u16) -> Transfer
+    ensures { λ r. ⌜ r ≡ record { index = cond (eqb (blocksOf n) 1) one more; argument = address; «block_size» = 9; words = 128 * blocksOf n } ⌝ }
 {
     let count = blocks(n);
     if count == 1 {
         Transfer {
-            index: 17,
+            index: one,
             argument: address,
             block_size: 9,
             words: 128,
         }
     } else {
         Transfer {
-            index: 18,
+            index: more,
             argument: address,
             block_size: 9,
             words: 128 * count,
@@ -92,7 +95,22 @@ impl Phase {
                 block_size: 6,
                 words: 16,
             },
-            Phase::Blocks(address, n) => read_blocks(address, n),
+            Phase::Blocks(address, n) => move_blocks(17, 18, address, n),
+            Phase::Sends(address, n) => move_blocks(24, 25, address, n),
+        }
+    }
+
+    // Whether its words go to the card.
+    pub fn sends(self) -> bool
+        ensures { λ r. ⌜ r ≡ sendsOf self ⌝ }
+    {
+        match self {
+            Phase::Scr => false,
+            Phase::Check => false,
+            Phase::Switch => false,
+            Phase::Status => false,
+            Phase::Blocks(_, _) => false,
+            Phase::Sends(_, _) => true,
         }
     }
 
@@ -116,7 +134,7 @@ impl Phase {
     // The words that a call keeps, with the one at this place; a read's are not kept.
     pub fn kept(self, place: u16, held: [u32; 16], word: u32) -> [u32; 16]
         ensures set { λ r. ⌜ r ≡ keptBy self place held word ⌝ }
-        ensures more { λ r. ⌜ ((g g′ : List ℕ) → place < transferOf self .words → Handed (Reading.Data place) word g g′ → take (place + 1) (wordsBy self (keptBy self place held word) g′) ≡ take place (wordsBy self held g) ++ (word ∷ [])) ⌝ }
+        ensures more { λ r. ⌜ ((g g′ : Lent) → place < transferOf self .words → Handed (Reading.Data place) word g g′ → Handed (Reading.Data place) word (wordsBy self held g) (wordsBy self (keptBy self place held word) g′)) ⌝ }
     {
         match self {
             Phase::Scr => put(held, place, word),
@@ -124,6 +142,7 @@ impl Phase {
             Phase::Switch => put(held, place, word),
             Phase::Status => put(held, place, word),
             Phase::Blocks(_, _) => held,
+            Phase::Sends(_, _) => held,
         }
     }
 }

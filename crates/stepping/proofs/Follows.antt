@@ -37,13 +37,13 @@ use Rattle.step.specs.declared.reset.ResetStep.{ResetStep}
 use Rattle.step.specs.declared.reset.ResetStep.the-variants as ReS
 use Rattle.step.specs.Command.{listOf}
 use Rattle.step.specs.Context.{plug}
-use Rattle.step.specs.Next.{Next, next}
+use Rattle.step.specs.Next.{Next, next, Lent}
 use Rattle.step.specs.Reset.{restLeft, stepLeft}
 use Rattle.step.specs.Why.{causeOf}
 use Rattle.step.specs.declared.why.Why.{Why}
 use Rattle.step.specs.declared.why.Why.the-variants as Y
 use Rattle.step.specs.Rows.{rowsFrom}
-use Rattle.step.specs.Transfer.{transferOf, allOf}
+use Rattle.step.specs.Transfer.{transferOf, allOf, sendsOf}
 use Rattle.stepping.specs.Closing.{Closing}
 use Rattle.stepping.specs.Sites as Sites
 use Rattle.stepping.specs.Ahead.{cardBy, initialOf, frequencyOf, excused, forgiven, phaseOf, lineSet, resetOn, closeOn, rcaOf, waitRca, sentSite, waitSite, getsSite, clockOn, changeSite, idling, refusal, powering, writesPlan, toldPlan, endPlan, followPlan}
@@ -94,11 +94,11 @@ module _ (j : Job) (k : Known) (h : Line) where
   abbrev sent : Sent → Plan (List ℕ) → Next Closing
   sent s p = next (plug (sentSite j k s) p) h
 
-  abbrev follows : Known → List ℕ → Follow → Next Closing
+  abbrev follows : Known → Lent → Follow → Next Closing
   follows k ws f = next (followPlan j k ws f) h
 
   -- a command that failed: CMD8 forgives Timeout
-  pub fails : (ws : List ℕ) (s : Sent) (e : Why) → forgiven s e ≡ false → follows k ws (F.Refuses e) ≡ sent s (refuse (causeOf e))
+  pub fails : (ws : Lent) (s : Sent) (e : Why) → forgiven s e ≡ false → follows k ws (F.Refuses e) ≡ sent s (refuse (causeOf e))
   unfolding followPlan forgiven excused sentSite refusal late handle plug
   fails ws S.Cmd0 e f = refl
   fails ws S.Cmd8 (Y.Failed e) f = rw f
@@ -129,7 +129,7 @@ module _ (j : Job) (k : Known) (h : Line) where
   unforgiven S.Width55 = refl
   unforgiven S.Width6 = refl
 
-  pub spent : (ws : List ℕ) (s : Sent) → follows k ws (F.Refuses (Y.Failed E.SoftwareTimeout)) ≡ sent s (fail E.SoftwareTimeout)
+  pub spent : (ws : Lent) (s : Sent) → follows k ws (F.Refuses (Y.Failed E.SoftwareTimeout)) ≡ sent s (fail E.SoftwareTimeout)
   spent ws s = fails ws s (Y.Failed E.SoftwareTimeout) (unforgiven s)
 
   not-false : false ≡ true → ⊥
@@ -151,7 +151,7 @@ module _ (j : Job) (k : Known) (h : Line) where
   forgives S.Width55 e f = absurd (not-false f)
   forgives S.Width6 e f = absurd (not-false f)
 
-  module _ (ws : List ℕ) where
+  module _ (ws : Lent) where
     -- power-up
     pub powers-over : (v : Bool) → follows k ws (F.Refuses (Y.Failed E.SoftwareTimeout)) ≡ next (powering j v 0) h
     unfolding followPlan refusal powering until handle plug
@@ -255,7 +255,7 @@ module _ (j : Job) (k : Known) (h : Line) where
       scr-untaken e = rw e
 
       pub scr-taken : clear 0x20 (w .a) ≡ false → follows k ws (F.Gets G.Scr) ≡ came S.Scr55
-      unfolding followPlan sentSite getsSite rcaOf phaseOf transferOf ensure handle plug
+      unfolding followPlan sentSite getsSite rcaOf phaseOf transferOf sendsOf ensure handle plug
       scr-taken e = rw e
 
       pub width-untaken : clear 0x20 (w .a) ≡ true → follows k ws (F.Refuses (Y.Failed (E.UnsupportedCardType AppCommand))) ≡ came S.Width55
@@ -320,7 +320,7 @@ module _ (j : Job) (k : Known) (h : Line) where
 
     pub clock-fast : (ltb 25_000_000 frequency && not (eqb (sdSpec (k .scr .0)) 0)) ≡ true
         → next (followPlan j k ws (F.Gets G.Check)) (lineSet k (R.Clock C.Transfer) h) ≡ next (toldPlan j k (R.Clock C.Transfer)) h
-    unfolding followPlan toldPlan lineSet changeSite getsSite rcaOf phaseOf transferOf holdClock holdGated switchSpeed askSwitch handle plug next
+    unfolding followPlan toldPlan lineSet changeSite getsSite rcaOf phaseOf transferOf sendsOf holdClock holdGated switchSpeed askSwitch handle plug next
     clock-fast e = rw e
 
     pub clock-slow : (ltb 25_000_000 frequency && not (eqb (sdSpec (k .scr .0)) 0)) ≡ false
@@ -334,7 +334,7 @@ module _ (j : Job) (k : Known) (h : Line) where
 
     -- the switch
     pub check-offers : (l : List ℕ) → offered l ≡ true → follows k ws (F.Gets G.Switch) ≡ next (plug (getsSite j k G.Check) (give l)) h
-    unfolding followPlan getsSite rcaOf phaseOf transferOf takeSwitch handle plug
+    unfolding followPlan getsSite rcaOf phaseOf transferOf sendsOf takeSwitch handle plug
     check-offers l e = rw e
 
     pub check-declines : (l : List ℕ) → offered l ≡ false → follows k ws (F.Over Z.Found) ≡ next (plug (getsSite j k G.Check) (give l)) h
@@ -360,7 +360,7 @@ module _ (j : Job) (k : Known) (h : Line) where
     unfolding followPlan refusal delayed handle plug
     switch-refused l x e d = ap (λ (p : Plan Nothing). next (plug (Sites.switchDelay (j .host) initial frequency card (k .scr)) p) h) d ∙ switch-done l e
 
-    pub own-got : (l : List ℕ) → follows k l (F.Over Z.Accepted) ≡ next (plug (getsSite j k G.Asked) (give (allOf (phaseOf (j .asked) G.Asked) l))) h
+    pub own-got : (l : Lent) → follows k l (F.Over Z.Accepted) ≡ next (plug (getsSite j k G.Asked) (give (allOf (phaseOf (j .asked) G.Asked) l))) h
     unfolding followPlan endPlan getsSite phaseOf handle plug
     own-got l = refl
 

@@ -29,7 +29,7 @@ use Rattle.step.specs.declared.transfer.Data.{Data}
 use Rattle.step.specs.declared.transfer.DataStep.the-variants as DS
 use Rattle.step.specs.Command.{commandPlan, commandNext, endNext, listOf, begunPlan, begunNext}
 use Rattle.step.specs.Context.{plug, plugNext, next-plug}
-use Rattle.step.specs.Next.{Next, next, heard, missed}
+use Rattle.step.specs.Next.{Next, next, heard, missed, Lent}
 use Rattle.step.specs.Ready.{readyPlan, readyNext, waitsNext}
 use Rattle.step.specs.Why.{causeOf}
 use Rattle.step.specs.declared.why.Why.{Why}
@@ -66,52 +66,52 @@ unfolding resetController row handle rowsFrom
 reset-rows = refl
 
 module _ (j : Job) (k : Known) (h : Line) where
-  abbrev follows : List ℕ → Follow → Next Closing
+  abbrev follows : Lent → Follow → Next Closing
   follows ws f = next (followPlan j k ws f) h
 
   -- a ready wait that is over
-  pub ready-read : (ws : List ℕ) → follows ws (F.Gets G.Asked) ≡ next (plug (waitSite j k W.Read) (give tt)) h
+  pub ready-read : (ws : Lent) → follows ws (F.Gets G.Asked) ≡ next (plug (waitSite j k (ws .sent) W.Blocks) (give tt)) h
   unfolding followPlan waitSite getsSite rcaOf phaseOf handle plug
   ready-read ws = refl
 
-  pub ready-standard : (ws : List ℕ) → classOf (highCapacity (k .ocr)) ≡ SDSC → follows ws (F.Sends S.Cmd16 16 512 R1) ≡ next (plug (waitSite j k W.Selected) (give tt)) h
+  pub ready-standard : (ws : Lent) → classOf (highCapacity (k .ocr)) ≡ SDSC → follows ws (F.Sends S.Cmd16 16 512 R1) ≡ next (plug (waitSite j k (ws .sent) W.Selected) (give tt)) h
   unfolding followPlan waitSite sentSite blockLength handle plug
   ready-standard ws e = rw e
 
-  pub ready-high : (ws : List ℕ) → classOf (highCapacity (k .ocr)) ≡ SDHC → follows ws (F.Sends S.Scr55 55 (k .rca * 2 ^ 16) R1) ≡ next (plug (waitSite j k W.Selected) (give tt)) h
+  pub ready-high : (ws : Lent) → classOf (highCapacity (k .ocr)) ≡ SDHC → follows ws (F.Sends S.Scr55 55 (k .rca * 2 ^ 16) R1) ≡ next (plug (waitSite j k (ws .sent) W.Selected) (give tt)) h
   unfolding followPlan waitSite sentSite blockLength appCommand handle plug
   ready-high ws e = rw e
 
-  pub unready-read : (ws : List ℕ) (e : Why) → follows ws (F.Over (Z.Keeping e)) ≡ next (plug (waitSite j k W.Read) (refuse (causeOf e))) h
+  pub unready-read : (ws : Lent) (e : Why) → follows ws (F.Over (Z.Keeping e)) ≡ next (plug (waitSite j k (ws .sent) W.Blocks) (refuse (causeOf e))) h
   unfolding followPlan endPlan waitSite handle plug
   unready-read ws e = refl
 
-  pub unready-selected : (ws : List ℕ) (e : Why) → follows ws (F.Refuses e) ≡ next (plug (waitSite j k W.Selected) (refuse (causeOf e))) h
+  pub unready-selected : (ws : Lent) (e : Why) → follows ws (F.Refuses e) ≡ next (plug (waitSite j k (ws .sent) W.Selected) (refuse (causeOf e))) h
   unfolding followPlan refusal waitSite handle plug
   unready-selected ws e = refl
 
   -- CMD55 of a status call
-  pub app-untaken : (ws : List ℕ) (w : Words) → clear 0x20 (w .a) ≡ true → follows ws (F.Over (Z.Keeping (Y.Failed (E.UnsupportedCardType AppCommand)))) ≡ next (plug (siteOf j k T.App) (give (listOf w))) h
+  pub app-untaken : (ws : Lent) (w : Words) → clear 0x20 (w .a) ≡ true → follows ws (F.Over (Z.Keeping (Y.Failed (E.UnsupportedCardType AppCommand)))) ≡ next (plug (siteOf j k (ws .sent) T.App) (give (listOf w))) h
   unfolding followPlan endPlan siteOf ensure handle plug
   app-untaken ws w e = rw e
 
-  pub app-taken : (ws : List ℕ) (w : Words) → clear 0x20 (w .a) ≡ false → follows ws (F.Gets G.Asked) ≡ next (plug (siteOf j k T.App) (give (listOf w))) h
+  pub app-taken : (ws : Lent) (w : Words) → clear 0x20 (w .a) ≡ false → follows ws (F.Gets G.Asked) ≡ next (plug (siteOf j k (ws .sent) T.App) (give (listOf w))) h
   unfolding followPlan siteOf getsSite rcaOf phaseOf ensure handle plug
   app-taken ws w e = rw e
 
-  pub app-failed : (ws : List ℕ) (e : Why) → follows ws (F.Over (Z.Keeping e)) ≡ next (plug (siteOf j k T.App) (refuse (causeOf e))) h
+  pub app-failed : (ws : Lent) (e : Why) → follows ws (F.Over (Z.Keeping e)) ≡ next (plug (siteOf j k (ws .sent) T.App) (refuse (causeOf e))) h
   unfolding followPlan endPlan siteOf handle plug
   app-failed ws e = refl
 
-  pub init-site : (s : Sent) (p : Words) → next (plug (sentSite j k s) (give (listOf p))) h ≡ next (plug (siteOf j k (T.Init s)) (give (listOf p))) h
+  pub init-site : (ws : Lent) (s : Sent) (p : Words) → next (plug (sentSite j k s) (give (listOf p))) h ≡ next (plug (siteOf j k (ws .sent) (T.Init s)) (give (listOf p))) h
   unfolding siteOf
-  init-site s p = refl
+  init-site ws s p = refl
 
-  pub init-failed : (s : Sent) (e : Why) → next (plug (sentSite j k s) (refuse (causeOf e))) h ≡ next (plug (siteOf j k (T.Init s)) (refuse (causeOf e))) h
+  pub init-failed : (ws : Lent) (s : Sent) (e : Why) → next (plug (sentSite j k s) (refuse (causeOf e))) h ≡ next (plug (siteOf j k (ws .sent) (T.Init s)) (refuse (causeOf e))) h
   unfolding siteOf
-  init-failed s e = refl
+  init-failed ws s e = refl
 
-  module _ (held g : List ℕ) where
+  module _ (held : List ℕ) (g : Lent) where
     -- a refusal: the reset rows of its guard
     pub closes : (e : Why) → next (atPlan j k held g (A.Tells (R.Close Re.Mask e))) h ≡ next (refusal j e) h
     unfolding atPlan writesPlan refusal plug handle
@@ -137,22 +137,22 @@ module _ (j : Job) (k : Known) (h : Line) where
 
     -- a ready wait at its start
     pub waits-on : (w : Waiting) (r : Ready) → waitsNext (busWith j (waitRca j k w)) (Wa.On r) h ≡ next (waitReady (j .host .settings .source .0) (j .host .settings .config) (waitRca j k w)) h
-        → next (atPlan j k held g (A.Ready w r)) h ≡ next (plug (waitSite j k w) (waitReady (j .host .settings .source .0) (j .host .settings .config) (waitRca j k w))) h
+        → next (atPlan j k held g (A.Ready w r)) h ≡ next (plug (waitSite j k (g .sent) w) (waitReady (j .host .settings .source .0) (j .host .settings .config) (waitRca j k w))) h
     unfolding atPlan waitsNext
-    waits-on w r e = same-plug (waitSite j k w) _ _ h e
+    waits-on w r e = same-plug (waitSite j k (g .sent) w) _ _ h e
 
     waits-spent : (w : Waiting) → waitsNext (busWith j (waitRca j k w)) Wa.Spent h ≡ next (waitReady (j .host .settings .source .0) (j .host .settings .config) (waitRca j k w)) h
-        → next (plug (waitSite j k w) (fail E.SoftwareTimeout)) h ≡ next (plug (waitSite j k w) (waitReady (j .host .settings .source .0) (j .host .settings .config) (waitRca j k w))) h
+        → next (plug (waitSite j k (g .sent) w) (fail E.SoftwareTimeout)) h ≡ next (plug (waitSite j k (g .sent) w) (waitReady (j .host .settings .source .0) (j .host .settings .config) (waitRca j k w))) h
     unfolding waitsNext next
-    waits-spent w e = same-plug (waitSite j k w) (fail E.SoftwareTimeout) (waitReady (j .host .settings .source .0) (j .host .settings .config) (waitRca j k w)) h e
+    waits-spent w e = same-plug (waitSite j k (g .sent) w) (fail E.SoftwareTimeout) (waitReady (j .host .settings .source .0) (j .host .settings .config) (waitRca j k w)) h e
 
-    pub waits-read : waitsNext (busWith j (waitRca j k W.Read)) Wa.Spent h ≡ next (waitReady (j .host .settings .source .0) (j .host .settings .config) (waitRca j k W.Read)) h
-        → next (atPlan j k held g (A.Over (Z.Keeping (Y.Failed E.SoftwareTimeout)))) h ≡ next (plug (waitSite j k W.Read) (waitReady (j .host .settings .source .0) (j .host .settings .config) (waitRca j k W.Read))) h
+    pub waits-read : waitsNext (busWith j (waitRca j k W.Blocks)) Wa.Spent h ≡ next (waitReady (j .host .settings .source .0) (j .host .settings .config) (waitRca j k W.Blocks)) h
+        → next (atPlan j k held g (A.Over (Z.Keeping (Y.Failed E.SoftwareTimeout)))) h ≡ next (plug (waitSite j k (g .sent) W.Blocks) (waitReady (j .host .settings .source .0) (j .host .settings .config) (waitRca j k W.Blocks))) h
     unfolding atPlan followPlan
-    waits-read e = unready-read (wordsIn j G.Asked held g) (Y.Failed E.SoftwareTimeout) ∙ waits-spent W.Read e
+    waits-read e = unready-read (wordsIn j G.Asked held g) (Y.Failed E.SoftwareTimeout) ∙ waits-spent W.Blocks e
 
     pub waits-selected : waitsNext (busWith j (waitRca j k W.Selected)) Wa.Spent h ≡ next (waitReady (j .host .settings .source .0) (j .host .settings .config) (waitRca j k W.Selected)) h
-        → next (refusal j (Y.Failed E.SoftwareTimeout)) h ≡ next (plug (waitSite j k W.Selected) (waitReady (j .host .settings .source .0) (j .host .settings .config) (waitRca j k W.Selected))) h
+        → next (refusal j (Y.Failed E.SoftwareTimeout)) h ≡ next (plug (waitSite j k (g .sent) W.Selected) (waitReady (j .host .settings .source .0) (j .host .settings .config) (waitRca j k W.Selected))) h
     unfolding followPlan
     waits-selected e = unready-selected g (Y.Failed E.SoftwareTimeout) ∙ waits-spent W.Selected e
 
@@ -187,33 +187,33 @@ module _ (j : Job) (k : Known) (h : Line) where
     idle-ends Ch.Switch n w e = rw e
 
     -- a data phase at its start
-    pub gets-on : (gets : Gets) (d : Data) → ((ws : List ℕ) (h : Line) → next (dataPlan (busWith j (rcaOf j k gets)) (phaseOf (j .asked) gets) ws d) h ≡ next (phasePlan (busWith j (rcaOf j k gets)) (phaseOf (j .asked) gets)) h)
-        → next (atPlan j k held g (A.Data gets d)) h ≡ next (plug (getsSite j k gets) (phasePlan (busWith j (rcaOf j k gets)) (phaseOf (j .asked) gets))) h
+    pub gets-on : (gets : Gets) (d : Data) → ((ws : Lent) (h : Line) → next (dataPlan (busWith j (rcaOf j k gets)) (phaseOf (j .asked) gets) ws d) h ≡ next (phasePlan (busWith j (rcaOf j k gets)) (phaseOf (j .asked) gets) (ws .sent)) h)
+        → next (atPlan j k held g (A.Data gets d)) h ≡ next (plug (getsSite j k gets) (phasePlan (busWith j (rcaOf j k gets)) (phaseOf (j .asked) gets) (g .sent))) h
     unfolding atPlan
     gets-on gets d e = same-plug (getsSite j k gets) _ _ h (e (wordsIn j gets held g) h)
 
     -- a part after an answer
-    pub command-on : (s : Site) (c : Command) → next (atPlan j k held g (A.Command s c)) h ≡ plugNext (siteOf j k s) (commandNext (C.On c) h)
+    pub command-on : (s : Site) (c : Command) → next (atPlan j k held g (A.Command s c)) h ≡ plugNext (siteOf j k (g .sent) s) (commandNext (C.On c) h)
     unfolding atPlan commandNext
-    command-on s c = next-plug (siteOf j k s) (commandPlan c) h
+    command-on s c = next-plug (siteOf j k (g .sent) s) (commandPlan c) h
 
-    pub command-well : (s : Site) (w : Words) → next (plug (siteOf j k s) (give (listOf w))) h ≡ plugNext (siteOf j k s) (commandNext (C.Over (X.Well w)) h)
+    pub command-well : (s : Site) (w : Words) → next (plug (siteOf j k (g .sent) s) (give (listOf w))) h ≡ plugNext (siteOf j k (g .sent) s) (commandNext (C.Over (X.Well w)) h)
     unfolding commandNext endNext plugNext next
     command-well s w = refl
 
-    pub command-badly : (s : Site) (e : Why) → next (plug (siteOf j k s) (refuse (causeOf e))) h ≡ plugNext (siteOf j k s) (commandNext (C.Over (X.Badly e)) h)
+    pub command-badly : (s : Site) (e : Why) → next (plug (siteOf j k (g .sent) s) (refuse (causeOf e))) h ≡ plugNext (siteOf j k (g .sent) s) (commandNext (C.Over (X.Badly e)) h)
     unfolding commandNext endNext plugNext next
     command-badly s e = refl
 
-    pub ready-on : (w : Waiting) (r : Ready) → next (atPlan j k held g (A.Ready w r)) h ≡ plugNext (waitSite j k w) (readyNext (busWith j (waitRca j k w)) (RS.On r) h)
+    pub ready-on : (w : Waiting) (r : Ready) → next (atPlan j k held g (A.Ready w r)) h ≡ plugNext (waitSite j k (g .sent) w) (readyNext (busWith j (waitRca j k w)) (RS.On r) h)
     unfolding atPlan readyNext
-    ready-on w r = next-plug (waitSite j k w) (readyPlan (busWith j (waitRca j k w)) r) h
+    ready-on w r = next-plug (waitSite j k (g .sent) w) (readyPlan (busWith j (waitRca j k w)) r) h
 
-    pub ready-done : (w : Waiting) → next (plug (waitSite j k w) (give tt)) h ≡ plugNext (waitSite j k w) (readyNext (busWith j (waitRca j k w)) RS.Done h)
+    pub ready-done : (w : Waiting) → next (plug (waitSite j k (g .sent) w) (give tt)) h ≡ plugNext (waitSite j k (g .sent) w) (readyNext (busWith j (waitRca j k w)) RS.Done h)
     unfolding readyNext plugNext
     ready-done w = refl
 
-    pub ready-failed : (w : Waiting) (e : Why) → next (plug (waitSite j k w) (refuse (causeOf e))) h ≡ plugNext (waitSite j k w) (readyNext (busWith j (waitRca j k w)) (RS.Failed e) h)
+    pub ready-failed : (w : Waiting) (e : Why) → next (plug (waitSite j k (g .sent) w) (refuse (causeOf e))) h ≡ plugNext (waitSite j k (g .sent) w) (readyNext (busWith j (waitRca j k w)) (RS.Failed e) h)
     unfolding readyNext plugNext
     ready-failed w e = refl
 

@@ -1,4 +1,4 @@
--- What is ahead of a call at each of its places. `g` are the data words that were handed out so far.
+-- What is ahead of a call at each of its places. `g` are the words that it is to send, and those that were handed out so far.
 use Prim.Native.Nat.{ℕ, suc}
 use mathlib.Core.Bool.{Bool, true, false}
 use mathlib.Core.List.{List}
@@ -22,7 +22,7 @@ use Rattle.step.specs.declared.phase.Phase.{Phase}
 use Rattle.step.specs.declared.phase.Phase.the-variants as P
 use Rattle.step.specs.Command.{commandPlan, listOf}
 use Rattle.step.specs.Context.{Context, whole, inside, plug, andThen}
-use Rattle.step.specs.Next.{Next, next}
+use Rattle.step.specs.Next.{Next, next, Lent}
 use Rattle.step.specs.Ready.{readyPlan}
 use Rattle.step.specs.Reset.{resetRow, restLeft, rowsLeft}
 use Rattle.step.specs.Rows.{rowOf, rowsFrom}
@@ -30,7 +30,7 @@ use Rattle.step.specs.Transfer.{allOf, wordsBy, phasePlan, dataPlan}
 use Rattle.step.specs.Why.{causeOf}
 use Rattle.step.specs.declared.why.Why.{Why}
 use Rattle.step.specs.declared.why.Why.the-variants as Y
-use Rattle.stepping.specs.Closing.{Closing, keeping, dropping, finding, accepting, readHost, statusHost}
+use Rattle.stepping.specs.Closing.{Closing, keeping, dropping, finding, accepting, blocksHost, statusHost}
 use Rattle.stepping.specs.Sites as Sites
 use Rattle.stepping.specs.declared.call.Asked.{Asked}
 use Rattle.stepping.specs.declared.call.Asked.the-variants as Q
@@ -67,21 +67,25 @@ unfoldable pub initialOf : Asked → Clock
 initialOf (Q.Card c f) = c
 initialOf Q.Status = noClock
 initialOf (Q.Blocks a n) = noClock
+initialOf (Q.Sends a n) = noClock
 
 unfoldable pub frequencyOf : Asked → ℕ
 frequencyOf (Q.Card c f) = f
 frequencyOf Q.Status = 0
 frequencyOf (Q.Blocks a n) = 0
+frequencyOf (Q.Sends a n) = 0
 
 unfoldable pub phaseBy : Asked → Phase
 phaseBy (Q.Card c f) = P.Status
 phaseBy Q.Status = P.Status
 phaseBy (Q.Blocks a n) = P.Blocks a n
+phaseBy (Q.Sends a n) = P.Sends a n
 
 unfoldable pub hostBy : Asked → Sdmmc → Line → List ℕ → Sdmmc
 hostBy (Q.Card c f) host = statusHost host
 hostBy Q.Status host = statusHost host
-hostBy (Q.Blocks a n) host = readHost host
+hostBy (Q.Blocks a n) host = blocksHost host
+hostBy (Q.Sends a n) host = blocksHost host
 
 -- Timeout at CMD8 is no refusal; that no word will come is one
 unfoldable pub excused : Why → Bool
@@ -151,8 +155,8 @@ module _ (j : Job) where
   abbrev pub ownSite : Context Closing (List ℕ)
   ownSite = inside (accepting (j .host) (hostBy (j .asked) (j .host))) (dropping (j .host)) whole
 
-  abbrev pub own : Plan Closing
-  own = plug ownSite (phasePlan (busWith (j .host .card .rca)) (phaseBy (j .asked)))
+  abbrev pub own : List ℕ → Plan Closing
+  own sent = plug ownSite (phasePlan (busWith (j .host .card .rca)) (phaseBy (j .asked)) sent)
 
   -- a refusal of an initialisation
   unfoldable pub refusal : Why → Plan Closing
@@ -163,7 +167,7 @@ module _ (j : Job) where
   powering v n = plug (Sites.powered (j .host) initial frequency) (Sites.powerUps (j .host) initial frequency v n)
 
   -- the words of a data phase, of those that it keeps and those that were handed out
-  abbrev pub wordsIn : Gets → List ℕ → List ℕ → List ℕ
+  abbrev pub wordsIn : Gets → List ℕ → Lent → Lent
   wordsIn gets held g = wordsBy (phaseAt gets) held g
 
   module _ (k : Known) where
@@ -174,7 +178,7 @@ module _ (j : Job) where
     rcaOf G.Switch = k .rca
 
     unfoldable pub waitRca : Waiting → ℕ
-    waitRca W.Read = j .host .card .rca
+    waitRca W.Blocks = j .host .card .rca
     waitRca W.Selected = k .rca
 
     -- where a command returns to
@@ -192,13 +196,13 @@ module _ (j : Job) where
     sentSite S.Width55 = Sites.width55 (j .host) initial frequency (cardBy k) (k .scr)
     sentSite S.Width6 = Sites.width6 (j .host) initial frequency (cardBy k) (k .scr)
 
-    unfoldable pub siteOf : Site → Context Closing (List ℕ)
-    siteOf T.App = Sites.app (j .host) own
-    siteOf (T.Init s) = sentSite s
+    unfoldable pub siteOf : List ℕ → Site → Context Closing (List ℕ)
+    siteOf sent T.App = Sites.app (j .host) (own sent)
+    siteOf sent (T.Init s) = sentSite s
 
-    unfoldable pub waitSite : Waiting → Context Closing Nothing
-    waitSite W.Read = Sites.approached (j .host) own
-    waitSite W.Selected = Sites.selected (j .host) initial frequency (cardBy k)
+    unfoldable pub waitSite : List ℕ → Waiting → Context Closing Nothing
+    waitSite sent W.Blocks = Sites.approached (j .host) (own sent)
+    waitSite sent W.Selected = Sites.selected (j .host) initial frequency (cardBy k)
 
     unfoldable pub getsSite : Gets → Context Closing (List ℕ)
     getsSite G.Asked = ownSite
@@ -255,32 +259,32 @@ module _ (j : Job) where
     toldPlan (R.Settle v) = plug (Sites.switchDelay (j .host) initial frequency (cardBy k) (k .scr)) (give tt)
     toldPlan (R.Close r why) = plug (Sites.refused (j .host) initial frequency why) (rowsFrom (restLeft r))
 
-    unfoldable pub endPlan : List ℕ → End → Plan Closing
+    unfoldable pub endPlan : Lent → End → Plan Closing
     endPlan ws Z.Accepted = accepting (j .host) (hostBy (j .asked) (j .host)) (allOf (phaseBy (j .asked)) ws)
     endPlan ws Z.Found = finding (j .host) (withScr (cardBy k) (k .scr .0))
     endPlan ws (Z.Keeping why) = keeping (j .host) (causeOf why)
     endPlan ws (Z.Dropping why) = dropping (j .host) (causeOf why)
 
     -- what follows a step
-    unfoldable pub followPlan : List ℕ → Follow → Plan Closing
+    unfoldable pub followPlan : Lent → Follow → Plan Closing
     followPlan ws (F.Sends s index argument response) = plug (sentSite s) (command limitAt index argument response)
-    followPlan ws (F.Waits w) = plug (waitSite w) (waitReady (j .host .settings .source .0) (j .host .settings .config) (waitRca w))
-    followPlan ws (F.Gets gets) = plug (getsSite gets) (phasePlan (busWith (rcaOf gets)) (phaseAt gets))
+    followPlan ws (F.Waits w) = plug (waitSite (ws .sent) w) (waitReady (j .host .settings .source .0) (j .host .settings .config) (waitRca w))
+    followPlan ws (F.Gets gets) = plug (getsSite gets) (phasePlan (busWith (rcaOf gets)) (phaseAt gets) (ws .sent))
     followPlan ws (F.Idles c) = idling c limitAt
     followPlan ws (F.Tells t) = writesPlan t
     followPlan ws (F.Refuses why) = refusal why
     followPlan ws (F.Over e) = endPlan ws e
 
-    unfoldable pub atPlan : List ℕ → List ℕ → At → Plan Closing
-    atPlan held g (A.Command s c) = plug (siteOf s) (commandPlan c)
-    atPlan held g (A.Ready w r) = plug (waitSite w) (readyPlan (busWith (waitRca w)) r)
+    unfoldable pub atPlan : List ℕ → Lent → At → Plan Closing
+    atPlan held g (A.Command s c) = plug (siteOf (g .sent) s) (commandPlan c)
+    atPlan held g (A.Ready w r) = plug (waitSite (g .sent) w) (readyPlan (busWith (waitRca w)) r)
     atPlan held g (A.Data gets d) = plug (getsSite gets) (dataPlan (busWith (rcaOf gets)) (phaseAt gets) (wordsIn gets held g) d)
     atPlan held g (A.Idle c n) = idling c (suc n)
     atPlan held g (A.Tells t) = writesPlan t
     atPlan held g (A.Over e) = endPlan (wordsIn G.Asked held g) e
 
-  abbrev pub thenNext : List ℕ → Then → Line → Next Closing
+  abbrev pub thenNext : Lent → Then → Line → Next Closing
   thenNext ws t h = next (followPlan (t .known) ws (t .follow)) h
 
-  abbrev pub standNext : List ℕ → List ℕ → Stand → Line → Next Closing
+  abbrev pub standNext : List ℕ → Lent → Stand → Line → Next Closing
   standNext held g s h = next (atPlan (s .known) held g (s .at)) h

@@ -35,9 +35,9 @@ module _ (host : Sdmmc) where
   unfoldable pub accepting : (Line → List ℕ → Sdmmc) → List ℕ → Plan Closing
   accepting next ws = look (λ line. give (closing Answered.Accepted (next line ws) ws))
 
-  -- the next host of a read, and that of a status call
-  abbrev pub readHost : Line → List ℕ → Sdmmc
-  readHost line ws = hostOf (host .settings) line (host .known) (host .card)
+  -- the next host of a read or a write, and that of a status call
+  abbrev pub blocksHost : Line → List ℕ → Sdmmc
+  blocksHost line ws = hostOf (host .settings) line (host .known) (host .card)
 
   abbrev pub statusHost : Line → List ℕ → Sdmmc
   statusHost line ws = hostOf (host .settings) line true (withStatus (host .card) (sdStatusOf ws))

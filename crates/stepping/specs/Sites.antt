@@ -21,7 +21,7 @@ use Rattle.bus.specs.declared.response.Response.the-variants.{None, R1, R2, R3}
 use Rattle.bus.specs.Clock.{configureClock, clockDelay}
 use Rattle.bus.specs.Command.{firstOf, command, appCommand}
 use Rattle.bus.specs.Ready.{retryDelay}
-use Rattle.bus.specs.Transfer.{blockingData}
+use Rattle.bus.specs.Transfer.{incoming, blockingData}
 use Rattle.init.specs.declared.settings.Settings.{Settings}
 use Rattle.init.specs.Initialise.{limitOf, sourceOf, version, late, cardVersion, poweredUp, tryPowerUp, waitPowerUp, select, publish, identify, blockLength, scrTransfer, setWidth, setClock, transferClock, offered, switched, takeSwitch, switchSpeed, withScr, settleCard}
 use Rattle.host.specs.declared.host.Sdmmc.{Sdmmc}
@@ -152,7 +152,7 @@ module _ (host : Sdmmc) (initial : Clock) (frequency : ℕ) where
       andThen
       (λ _. blockLength limit (card .«card_type»)
       then λ _. appCommand limit (card .rca)
-      then λ _. blockingData source (set .config) scrTransfer (card .rca)
+      then λ _. blockingData source (set .config) incoming scrTransfer (card .rca)
       then λ ws. give (scrOf (getD ws 0 0) (getD ws 1 0)))
       (scrRead card)
 
@@ -161,7 +161,7 @@ module _ (host : Sdmmc) (initial : Clock) (frequency : ℕ) where
       andThen (λ _. give (tt {0}))
       (andThen
       (λ _. appCommand limit (card .rca)
-      then λ _. blockingData source (set .config) scrTransfer (card .rca)
+      then λ _. blockingData source (set .config) incoming scrTransfer (card .rca)
       then λ ws. give (scrOf (getD ws 0 0) (getD ws 1 0)))
       (scrRead card))
 
@@ -169,7 +169,7 @@ module _ (host : Sdmmc) (initial : Clock) (frequency : ℕ) where
   scr55 card =
       andThen (λ ws. ensure (not (clear 0x20 (firstOf ws))) (E.UnsupportedCardType AppCommand))
       (andThen
-      (λ _. blockingData source (set .config) scrTransfer (card .rca)
+      (λ _. blockingData source (set .config) incoming scrTransfer (card .rca)
       then λ ws. give (scrOf (getD ws 0 0) (getD ws 1 0)))
       (scrRead card))
 

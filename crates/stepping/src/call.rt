@@ -20,12 +20,13 @@ use types::clock::Hertz;
 use types::register::BlockCount;
 use types::status::Scr;
 
-// What is asked for: a card, by the clock of identification and the asked frequency; its SD status; or blocks from an address
-// on.
+// What is asked for: a card, by the clock of identification and the asked frequency; its SD status; blocks from an address on;
+// or that blocks be sent there.
 pub enum Asked {
     Card(Clock, u32),
     Status,
     Blocks(u32, u16),
+    Sends(u32, u16),
 }
 
 // What a call goes by, from its start to its end: the host before it, and what is asked of it.
@@ -68,9 +69,9 @@ pub enum Site {
     Init(Sent),
 }
 
-// A ready wait outside data phases: before a read, or after CMD7.
+// A ready wait outside data phases: before blocks are read or written, or after CMD7.
 pub enum Waiting {
-    Read,
+    Blocks,
     Selected,
 }
 
@@ -177,6 +178,7 @@ impl Asked {
             Asked::Card(clock, _) => clock,
             Asked::Status => no_clock(),
             Asked::Blocks(_, _) => no_clock(),
+            Asked::Sends(_, _) => no_clock(),
         }
     }
 
@@ -188,10 +190,11 @@ impl Asked {
             Asked::Card(_, frequency) => frequency,
             Asked::Status => 0,
             Asked::Blocks(_, _) => 0,
+            Asked::Sends(_, _) => 0,
         }
     }
 
-    // What a data phase reads.
+    // What a data phase reads, or sends.
     pub fn phase(self, gets: Gets) -> Phase
         ensures { λ r. ⌜ r ≡ phaseOf self gets ⌝ }
     {
@@ -200,6 +203,7 @@ impl Asked {
                 Asked::Card(_, _) => Phase::Status,
                 Asked::Status => Phase::Status,
                 Asked::Blocks(address, blocks) => Phase::Blocks(address, blocks),
+                Asked::Sends(address, blocks) => Phase::Sends(address, blocks),
             },
             Gets::Scr => Phase::Scr,
             Gets::Check => Phase::Check,
@@ -251,7 +255,7 @@ impl Job {
         ensures { λ r. ⌜ r ≡ waitRca self known waiting ⌝ }
     {
         match waiting {
-            Waiting::Read => self.host.card.rca,
+            Waiting::Blocks => self.host.card.rca,
             Waiting::Selected => known.rca,
         }
     }

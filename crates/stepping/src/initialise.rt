@@ -1,7 +1,6 @@
 // What follows each step of an initialisation, in the driver's order.
 ghost use mathlib.Core.Path.{_≡_};
-ghost use mathlib.Core.List.{List};
-ghost use Prim.Native.Nat.{ℕ, _*_, _^_};
+ghost use Prim.Native.Nat.{_*_, _^_};
 ghost use lib.ListN.{take, getD};
 ghost use Rattle.types.specs.Leaf.{clockOf};
 ghost use Rattle.types.specs.Words.{scrOf};
@@ -10,7 +9,7 @@ ghost use Rattle.tape.specs.Plan.{give, refuse};
 ghost use Rattle.init.specs.Initialise.{setClock, offered, switched};
 ghost use Rattle.step.specs.Command.{listOf};
 ghost use Rattle.step.specs.Context.{plug};
-ghost use Rattle.step.specs.Next.{next};
+ghost use Rattle.step.specs.Next.{next, Lent};
 ghost use Rattle.step.specs.Transfer.{allOf};
 ghost use Rattle.step.specs.Why.{causeOf};
 ghost use Rattle.stepping.specs.Sites.{begun, opened, widened, clockSet, switchDelay};
@@ -129,7 +128,7 @@ impl Known {
 impl Job {
     // So many attempts to power up.
     fn powers(self, known: Known, left: u32) -> Follow
-        ensures { λ r. ⌜ ((ws : List ℕ) (h : Line) → next (followPlan self known ws r) h ≡ next (powering self (known .version2) left) h) ⌝ }
+        ensures { λ r. ⌜ ((ws : Lent) (h : Line) → next (followPlan self known ws r) h ≡ next (powering self (known .version2) left) h) ⌝ }
     {
         if left == 0 {
             return Follow::Refuses(Why::Failed(Error::SoftwareTimeout));
@@ -140,7 +139,7 @@ impl Job {
 
     // The card's version is known: all attempts to power up.
     fn versions(self, known: Known, version2: bool) -> Then
-        ensures { λ r. ⌜ ((ws : List ℕ) (h : Line) → thenNext self ws r h ≡ next (plug (begun (self .host) (initialOf (self .asked)) (frequencyOf (self .asked))) (give version2)) h) ⌝ }
+        ensures { λ r. ⌜ ((ws : Lent) (h : Line) → thenNext self ws r h ≡ next (plug (begun (self .host) (initialOf (self .asked)) (frequencyOf (self .asked))) (give version2)) h) ⌝ }
     {
         let mut found = known;
         found.version2 = version2;
@@ -150,7 +149,7 @@ impl Job {
 
     // The answer to CMD8.
     fn versioned(self, known: Known, words: Words) -> Then
-        ensures { λ r. ⌜ ((ws : List ℕ) (h : Line) → thenNext self ws r h ≡ next (plug (sentSite self known Sent.Cmd8) (give (listOf words))) h) ⌝ }
+        ensures { λ r. ⌜ ((ws : Lent) (h : Line) → thenNext self ws r h ≡ next (plug (sentSite self known Sent.Cmd8) (give (listOf words))) h) ⌝ }
     {
         let word = words.a;
         if word == Interface::CONDITION {
@@ -165,7 +164,7 @@ impl Job {
 
     // The answer to CMD55: ACMD41.
     fn power_told(self, known: Known, left: u32, words: Words) -> Follow
-        ensures { λ r. ⌜ ((ws : List ℕ) (h : Line) → next (followPlan self known ws r) h ≡ next (plug (sentSite self known (Sent.Power55 left)) (give (listOf words))) h) ⌝ }
+        ensures { λ r. ⌜ ((ws : Lent) (h : Line) → next (followPlan self known ws r) h ≡ next (plug (sentSite self known (Sent.Power55 left)) (give (listOf words))) h) ⌝ }
     {
         if words.a & CardStatus::APP_CMD == 0 {
             return Follow::Refuses(Why::Failed(Error::UnsupportedCardType(Field::AppCommand)));
@@ -176,7 +175,7 @@ impl Job {
 
     // The answer to ACMD41: the card's OCR.
     fn power_known(self, known: Known, left: u32, words: Words) -> Then
-        ensures { λ r. ⌜ ((ws : List ℕ) (h : Line) → thenNext self ws r h ≡ next (plug (sentSite self known (Sent.Power41 left)) (give (listOf words))) h) ⌝ }
+        ensures { λ r. ⌜ ((ws : Lent) (h : Line) → thenNext self ws r h ≡ next (plug (sentSite self known (Sent.Power41 left)) (give (listOf words))) h) ⌝ }
     {
         let ocr = words.a;
         if ocr & Ocr::VOLTAGE == 0 {
@@ -194,7 +193,7 @@ impl Job {
 
     // The answer to CMD2: the card's CID.
     fn named(self, known: Known, words: Words) -> Then
-        ensures { λ r. ⌜ ((ws : List ℕ) (h : Line) → thenNext self ws r h ≡ next (plug (sentSite self known Sent.Cmd2) (give (listOf words))) h) ⌝ }
+        ensures { λ r. ⌜ ((ws : Lent) (h : Line) → thenNext self ws r h ≡ next (plug (sentSite self known Sent.Cmd2) (give (listOf words))) h) ⌝ }
     {
         let mut found = known;
         found.cid = words;
@@ -203,7 +202,7 @@ impl Job {
 
     // The answer to CMD3: the card's address.
     fn addressed(self, known: Known, words: Words) -> Then
-        ensures { λ r. ⌜ ((ws : List ℕ) (h : Line) → thenNext self ws r h ≡ next (plug (sentSite self known Sent.Cmd3) (give (listOf words))) h) ⌝ }
+        ensures { λ r. ⌜ ((ws : Lent) (h : Line) → thenNext self ws r h ≡ next (plug (sentSite self known Sent.Cmd3) (give (listOf words))) h) ⌝ }
     {
         let rca = identify::address(words.a);
         if rca == 0 {
@@ -216,7 +215,7 @@ impl Job {
 
     // The answer to CMD9: the card's CSD.
     fn described(self, known: Known, words: Words) -> Then
-        ensures { λ r. ⌜ ((ws : List ℕ) (h : Line) → thenNext self ws r h ≡ next (plug (sentSite self known Sent.Cmd9) (give (listOf words))) h) ⌝ }
+        ensures { λ r. ⌜ ((ws : Lent) (h : Line) → thenNext self ws r h ≡ next (plug (sentSite self known Sent.Cmd9) (give (listOf words))) h) ⌝ }
     {
         let told = words::response_value(words.list());
         if identify::agree(known.ocr, told) {
@@ -242,7 +241,7 @@ impl Job {
 
     // The answer to CMD55: the SCR.
     fn scr_told(self, known: Known, words: Words) -> Follow
-        ensures { λ r. ⌜ ((ws : List ℕ) (h : Line) → next (followPlan self known ws r) h ≡ next (plug (sentSite self known Sent.Scr55) (give (listOf words))) h) ⌝ }
+        ensures { λ r. ⌜ ((ws : Lent) (h : Line) → next (followPlan self known ws r) h ≡ next (plug (sentSite self known Sent.Scr55) (give (listOf words))) h) ⌝ }
     {
         if words.a & CardStatus::APP_CMD == 0 {
             return Follow::Refuses(Why::Failed(Error::UnsupportedCardType(Field::AppCommand)));
@@ -252,7 +251,7 @@ impl Job {
 
     // The answer to CMD55: ACMD6.
     fn width_told(self, known: Known, words: Words) -> Follow
-        ensures { λ r. ⌜ ((ws : List ℕ) (h : Line) → next (followPlan self known ws r) h ≡ next (plug (sentSite self known Sent.Width55) (give (listOf words))) h) ⌝ }
+        ensures { λ r. ⌜ ((ws : Lent) (h : Line) → next (followPlan self known ws r) h ≡ next (plug (sentSite self known Sent.Width55) (give (listOf words))) h) ⌝ }
     {
         if words.a & CardStatus::APP_CMD == 0 {
             return Follow::Refuses(Why::Failed(Error::UnsupportedCardType(Field::AppCommand)));
@@ -273,7 +272,7 @@ impl Job {
 
     // A transfer clock of at most this.
     fn transfers_at(self, known: Known, requested: u32) -> Then
-        ensures { λ r. ⌜ ((ws : List ℕ) (h : Line) → thenNext self ws r h ≡ next (plug (clockSet (self .host) (initialOf (self .asked)) (frequencyOf (self .asked)) (cardBy known) (known .scr)) (setClock (self .host .settings) requested)) h) ⌝ }
+        ensures { λ r. ⌜ ((ws : Lent) (h : Line) → thenNext self ws r h ≡ next (plug (clockSet (self .host) (initialOf (self .asked)) (frequencyOf (self .asked)) (cardBy known) (known .scr)) (setClock (self .host .settings) requested)) h) ⌝ }
     {
         let answer = self.clocks(requested);
         match answer {
@@ -288,7 +287,7 @@ impl Job {
 
     // The transfer clock: the least of what is asked for, 25 MHz and the card's rate.
     fn transfers(self, known: Known) -> Then
-        ensures { λ r. ⌜ ((ws : List ℕ) (h : Line) → thenNext self ws r h ≡ next (plug (widened (self .host) (initialOf (self .asked)) (frequencyOf (self .asked)) (cardBy known) (known .scr)) (give tt)) h) ⌝ }
+        ensures { λ r. ⌜ ((ws : Lent) (h : Line) → thenNext self ws r h ≡ next (plug (widened (self .host) (initialOf (self .asked)) (frequencyOf (self .asked)) (cardBy known) (known .scr)) (give tt)) h) ⌝ }
     {
         let told = known.csd;
         let csd = words::response_value(told.list());
@@ -305,7 +304,7 @@ impl Job {
 
     // The clock of SDR25, of at most what is asked for and 50 MHz.
     fn speeds(self, known: Known) -> Then
-        ensures { λ r. ⌜ ((ws : List ℕ) (h : Line) → thenNext self ws r h ≡ next (plug (switchDelay (self .host) (initialOf (self .asked)) (frequencyOf (self .asked)) (cardBy known) (known .scr)) (give tt)) h) ⌝ }
+        ensures { λ r. ⌜ ((ws : Lent) (h : Line) → thenNext self ws r h ≡ next (plug (switchDelay (self .host) (initialOf (self .asked)) (frequencyOf (self .asked)) (cardBy known) (known .scr)) (give tt)) h) ⌝ }
     {
         let asked = self.asked;
         let answer = self.clocks(speed::lesser(asked.frequency(), Switch::SDR25));
@@ -321,7 +320,7 @@ impl Job {
 
     // The list of what follows each command of an initialisation.
     pub fn came(self, known: Known, sent: Sent, words: Words) -> Then
-        ensures { λ r. ⌜ ((ws : List ℕ) (h : Line) → thenNext self ws r h ≡ next (plug (sentSite self known sent) (give (listOf words))) h) ⌝ }
+        ensures { λ r. ⌜ ((ws : Lent) (h : Line) → thenNext self ws r h ≡ next (plug (sentSite self known sent) (give (listOf words))) h) ⌝ }
     {
         match sent {
             Sent::Cmd0 => known.and(Follow::Sends(
@@ -346,7 +345,7 @@ impl Job {
 
     // A command of an initialisation failed: only CMD8 forgives, and Timeout alone.
     pub fn failed(self, known: Known, sent: Sent, why: Why) -> Then
-        ensures { λ r. ⌜ ((ws : List ℕ) (h : Line) → thenNext self ws r h ≡ next (plug (sentSite self known sent) (refuse (causeOf why))) h) ⌝ }
+        ensures { λ r. ⌜ ((ws : Lent) (h : Line) → thenNext self ws r h ≡ next (plug (sentSite self known sent) (refuse (causeOf why))) h) ⌝ }
     {
         if forgives(sent, why) {
             self.versions(known, false)
@@ -357,7 +356,7 @@ impl Job {
 
     // The SCR was read: ACMD6, where the card has the lines that are connected.
     fn scr_read(self, known: Known, held: [u32; 16]) -> Then
-        ensures { λ r. ⌜ ((ws : List ℕ) (h : Line) → thenNext self ws r h ≡ next (plug (getsSite self known Gets.Scr) (give (take 2 held))) h) ⌝ }
+        ensures { λ r. ⌜ ((ws : Lent) (h : Line) → thenNext self ws r h ≡ next (plug (getsSite self known Gets.Scr) (give (take 2 held))) h) ⌝ }
     {
         let scr = scr_of(held);
         if speed::fits(scr, self.host.settings.wide) {
@@ -371,7 +370,7 @@ impl Job {
 
     // A switch status was read: the switch, where the card has SDR25.
     fn checked(self, known: Known, held: [u32; 16]) -> Follow
-        ensures { λ r. ⌜ ((ws : List ℕ) (h : Line) → next (followPlan self known ws r) h ≡ next (plug (getsSite self known Gets.Check) (give (take 16 held))) h) ⌝ }
+        ensures { λ r. ⌜ ((ws : Lent) (h : Line) → next (followPlan self known ws r) h ≡ next (plug (getsSite self known Gets.Check) (give (take 16 held))) h) ⌝ }
     {
         if offers(held) {
             Follow::Gets(Gets::Switch)
@@ -382,7 +381,7 @@ impl Job {
 
     // The switch status after the switch was read: 8 cycles of the clock that is still set.
     fn switched(self, known: Known, held: [u32; 16], clock: Hertz) -> Follow
-        ensures { λ r. ⌜ ((ws : List ℕ) (h : Line) → h .clock ≡ clock → next (followPlan self known ws r) h ≡ next (plug (getsSite self known Gets.Switch) (give (take 16 held))) h) ⌝ }
+        ensures { λ r. ⌜ ((ws : Lent) (h : Line) → h .clock ≡ clock → next (followPlan self known ws r) h ≡ next (plug (getsSite self known Gets.Switch) (give (take 16 held))) h) ⌝ }
     {
         if took(held) {
             let answer = clock::delay(self.host.settings.source, clock, 8);
@@ -397,7 +396,7 @@ impl Job {
 
     // The list of what follows each data phase, of which the call keeps these words.
     pub fn got(self, known: Known, held: [u32; 16], gets: Gets, clock: Hertz) -> Then
-        ensures { λ r. ⌜ ((g : List ℕ) (h : Line) → h .clock ≡ clock → thenNext self (wordsIn self Gets.Asked held g) r h ≡ next (plug (getsSite self known gets) (give (allOf (phaseOf (self .asked) gets) (wordsIn self gets held g)))) h) ⌝ }
+        ensures { λ r. ⌜ ((g : Lent) (h : Line) → h .clock ≡ clock → thenNext self (wordsIn self Gets.Asked held g) r h ≡ next (plug (getsSite self known gets) (give (allOf (phaseOf (self .asked) gets) (wordsIn self gets held g)))) h) ⌝ }
     {
         match gets {
             Gets::Asked => known.and(Follow::Over(End::Accepted)),
@@ -409,7 +408,7 @@ impl Job {
 
     // A data phase was refused, behind its own reset rows: an initialisation's guard writes them once more.
     pub fn lost(self, known: Known, gets: Gets, why: Why) -> Follow
-        ensures { λ r. ⌜ ((ws : List ℕ) (h : Line) → next (followPlan self known ws r) h ≡ next (plug (getsSite self known gets) (refuse (causeOf why))) h) ⌝ }
+        ensures { λ r. ⌜ ((ws : Lent) (h : Line) → next (followPlan self known ws r) h ≡ next (plug (getsSite self known gets) (refuse (causeOf why))) h) ⌝ }
     {
         match gets {
             Gets::Asked => Follow::Over(End::Dropping(why)),
@@ -421,7 +420,7 @@ impl Job {
 
     // The clock is on: 80 cycles of it.
     fn opens(self, known: Known) -> Follow
-        ensures { λ r. ⌜ ((ws : List ℕ) (h : Line) → next (followPlan self known ws r) h ≡ next (plug (opened (self .host) (initialOf (self .asked)) (frequencyOf (self .asked))) (give tt)) h) ⌝ }
+        ensures { λ r. ⌜ ((ws : Lent) (h : Line) → next (followPlan self known ws r) h ≡ next (plug (opened (self .host) (initialOf (self .asked)) (frequencyOf (self .asked))) (give tt)) h) ⌝ }
     {
         let asked = self.asked;
         let initial = asked.initial();
@@ -434,7 +433,7 @@ impl Job {
 
     // A clock is set: power after the initial one; SDR25 after the transfer clock, where it is asked for and the card has it.
     fn clocked(self, known: Known, change: Change) -> Follow
-        ensures { λ r. ⌜ ((ws : List ℕ) (h : Line) → next (followPlan self known ws r) (lineSet known (Writes.Clock change) h) ≡ next (toldPlan self known (Writes.Clock change)) h) ⌝ }
+        ensures { λ r. ⌜ ((ws : Lent) (h : Line) → next (followPlan self known ws r) (lineSet known (Writes.Clock change) h) ≡ next (toldPlan self known (Writes.Clock change)) h) ⌝ }
     {
         match change {
             Change::Initial => Follow::Tells(Writes::Power),
@@ -452,7 +451,7 @@ impl Job {
 
     // The list of what follows each row of an initialisation.
     pub fn gone(self, known: Known, writes: Writes) -> Then
-        ensures { λ r. ⌜ ((ws : List ℕ) (h : Line) → thenNext self ws r (lineSet known writes h) ≡ next (toldPlan self known writes) h) ⌝ }
+        ensures { λ r. ⌜ ((ws : Lent) (h : Line) → thenNext self ws r (lineSet known writes h) ≡ next (toldPlan self known writes) h) ⌝ }
     {
         match writes {
             Writes::Reset(reset) => known.and(reset_on(reset.after())),

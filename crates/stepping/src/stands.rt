@@ -8,7 +8,7 @@ ghost use Rattle.bus.specs.Command.{command};
 ghost use Rattle.bus.specs.Ready.{waitReady};
 ghost use Rattle.step.specs.Command.{commandNext, listOf};
 ghost use Rattle.step.specs.Context.{plug, plugNext};
-ghost use Rattle.step.specs.Next.{next, heard};
+ghost use Rattle.step.specs.Next.{next, heard, Lent};
 ghost use Rattle.step.specs.Ready.{readyNext};
 ghost use Rattle.step.specs.Transfer.{phasePlan, dataNext};
 ghost use Rattle.step.specs.Why.{causeOf};
@@ -48,10 +48,10 @@ use types::status::CardStatus;
 impl Job {
     // The card is ready.
     fn readied(self, known: Known, waiting: Waiting) -> Follow
-        ensures { λ r. ⌜ ((ws : List ℕ) (h : Line) → next (followPlan self known ws r) h ≡ next (plug (waitSite self known waiting) (give tt)) h) ⌝ }
+        ensures { λ r. ⌜ ((ws : Lent) (h : Line) → next (followPlan self known ws r) h ≡ next (plug (waitSite self known (ws .sent) waiting) (give tt)) h) ⌝ }
     {
         match waiting {
-            Waiting::Read => Follow::Gets(Gets::Asked),
+            Waiting::Blocks => Follow::Gets(Gets::Asked),
             Waiting::Selected => {
                 let class = identify::class(known.ocr);
                 match class {
@@ -64,17 +64,17 @@ impl Job {
 
     // The card is not ready.
     fn unready(self, known: Known, waiting: Waiting, why: Why) -> Follow
-        ensures { λ r. ⌜ ((ws : List ℕ) (h : Line) → next (followPlan self known ws r) h ≡ next (plug (waitSite self known waiting) (refuse (causeOf why))) h) ⌝ }
+        ensures { λ r. ⌜ ((ws : Lent) (h : Line) → next (followPlan self known ws r) h ≡ next (plug (waitSite self known (ws .sent) waiting) (refuse (causeOf why))) h) ⌝ }
     {
         match waiting {
-            Waiting::Read => Follow::Over(End::Keeping(why)),
+            Waiting::Blocks => Follow::Over(End::Keeping(why)),
             Waiting::Selected => Follow::Refuses(why),
         }
     }
 
     // A command came back: the SD status follows a status call's CMD55.
     fn answered(self, known: Known, site: Site, words: Words) -> Then
-        ensures { λ r. ⌜ ((ws : List ℕ) (h : Line) → thenNext self ws r h ≡ next (plug (siteOf self known site) (give (listOf words))) h) ⌝ }
+        ensures { λ r. ⌜ ((ws : Lent) (h : Line) → thenNext self ws r h ≡ next (plug (siteOf self known (ws .sent) site) (give (listOf words))) h) ⌝ }
     {
         match site {
             Site::App => {
@@ -92,7 +92,7 @@ impl Job {
 
     // A command failed.
     fn refused(self, known: Known, site: Site, why: Why) -> Then
-        ensures { λ r. ⌜ ((ws : List ℕ) (h : Line) → thenNext self ws r h ≡ next (plug (siteOf self known site) (refuse (causeOf why))) h) ⌝ }
+        ensures { λ r. ⌜ ((ws : Lent) (h : Line) → thenNext self ws r h ≡ next (plug (siteOf self known (ws .sent) site) (refuse (causeOf why))) h) ⌝ }
     {
         match site {
             Site::App => known.and(Follow::Over(End::Keeping(why))),
@@ -102,7 +102,7 @@ impl Job {
 
     // A refusal: the reset rows of the guard come first.
     pub fn closes(self, known: Known, why: Why) -> At
-        ensures { λ r. ⌜ ((held g : List ℕ) (h : Line) → next (atPlan self known held g r) h ≡ next (refusal self why) h) ⌝ }
+        ensures { λ r. ⌜ ((held : List ℕ) (g : Lent) (h : Line) → next (atPlan self known held g r) h ≡ next (refusal self why) h) ⌝ }
     {
         At::Tells(Writes::Close(Reset::Mask, why))
     }
@@ -117,7 +117,7 @@ impl Job {
         argument: u32,
         response: Response,
     ) -> At
-        ensures { λ r. ⌜ ((held g : List ℕ) (h : Line) → h .gated ≡ gated → next (atPlan self known held g r) h ≡ next (plug (sentSite self known sent) (command (limitAt self) index argument response)) h) ⌝ }
+        ensures { λ r. ⌜ ((held : List ℕ) (g : Lent) (h : Line) → h .gated ≡ gated → next (atPlan self known held g r) h ≡ next (plug (sentSite self known sent) (command (limitAt self) index argument response)) h) ⌝ }
     {
         let limit = self.host.settings.config.poll_limit;
         let begun = Command::begin(limit, index, argument, response, gated);
@@ -129,14 +129,14 @@ impl Job {
 
     // A ready wait at its start.
     pub fn waits(self, known: Known, gated: bool, waiting: Waiting) -> At
-        ensures { λ r. ⌜ ((held g : List ℕ) (h : Line) → h .gated ≡ gated → next (atPlan self known held g r) h ≡ next (plug (waitSite self known waiting) (waitReady (self .host .settings .source .0) (self .host .settings .config) (waitRca self known waiting))) h) ⌝ }
+        ensures { λ r. ⌜ ((held : List ℕ) (g : Lent) (h : Line) → h .gated ≡ gated → next (atPlan self known held g r) h ≡ next (plug (waitSite self known (g .sent) waiting) (waitReady (self .host .settings .source .0) (self .host .settings .config) (waitRca self known waiting))) h) ⌝ }
     {
         let bus = self.bus(self.wait_rca(known, waiting));
         let begun = bus.wait_ready(gated);
         match begun {
             Waits::On(ready) => At::Ready(waiting, ready),
             Waits::Spent => match waiting {
-                Waiting::Read => At::Over(End::Keeping(Why::Failed(Error::SoftwareTimeout))),
+                Waiting::Blocks => At::Over(End::Keeping(Why::Failed(Error::SoftwareTimeout))),
                 Waiting::Selected => self.closes(known, Why::Failed(Error::SoftwareTimeout)),
             },
         }
@@ -144,7 +144,7 @@ impl Job {
 
     // An idle wait before a clock row, with so many polls.
     fn idles(self, known: Known, change: Change, polls: u32) -> At
-        ensures { λ r. ⌜ ((held g : List ℕ) (h : Line) → next (atPlan self known held g r) h ≡ next (idling self known change polls) h) ⌝ }
+        ensures { λ r. ⌜ ((held : List ℕ) (g : Lent) (h : Line) → next (atPlan self known held g r) h ≡ next (idling self known change polls) h) ⌝ }
     {
         if polls == 0 {
             return self.closes(known, Why::Failed(Error::SoftwareTimeout));
@@ -155,7 +155,7 @@ impl Job {
 
     // A data phase at its start.
     fn gets(self, known: Known, gets: Gets) -> At
-        ensures { λ r. ⌜ ((held g : List ℕ) (h : Line) → next (atPlan self known held g r) h ≡ next (plug (getsSite self known gets) (phasePlan (busWith self (rcaOf self known gets)) (phaseOf (self .asked) gets))) h) ⌝ }
+        ensures { λ r. ⌜ ((held : List ℕ) (g : Lent) (h : Line) → next (atPlan self known held g r) h ≡ next (plug (getsSite self known gets) (phasePlan (busWith self (rcaOf self known gets)) (phaseOf (self .asked) gets) (g .sent))) h) ⌝ }
     {
         let asked = self.asked;
         let phase = asked.phase(gets);
@@ -165,7 +165,7 @@ impl Job {
 
     // Where a call stands, by what follows.
     fn stands(self, known: Known, gated: bool, follow: Follow) -> At
-        ensures { λ r. ⌜ ((held g : List ℕ) (h : Line) → h .gated ≡ gated → next (atPlan self known held g r) h ≡ next (followPlan self known (wordsIn self Gets.Asked held g) follow) h) ⌝ }
+        ensures { λ r. ⌜ ((held : List ℕ) (g : Lent) (h : Line) → h .gated ≡ gated → next (atPlan self known held g r) h ≡ next (followPlan self known (wordsIn self Gets.Asked held g) follow) h) ⌝ }
     {
         match follow {
             Follow::Sends(sent, index, argument, response) => self.sends(
@@ -191,7 +191,7 @@ impl Job {
 
     // The same, with what is known by then.
     pub fn follows(self, gated: bool, after: Then) -> Stand
-        ensures { λ r. ⌜ ((held g : List ℕ) (h : Line) → h .gated ≡ gated → standNext self held g r h ≡ thenNext self (wordsIn self Gets.Asked held g) after h) ⌝ }
+        ensures { λ r. ⌜ ((held : List ℕ) (g : Lent) (h : Line) → h .gated ≡ gated → standNext self held g r h ≡ thenNext self (wordsIn self Gets.Asked held g) after h) ⌝ }
     {
         let known = after.known;
         let follow = after.follow;
@@ -203,7 +203,7 @@ impl Job {
 
     // A command after an answer.
     pub fn commanded(self, known: Known, gated: bool, site: Site, step: CommandStep) -> Stand
-        ensures { λ r. ⌜ ((held g : List ℕ) (h : Line) → h .gated ≡ gated → standNext self held g r h ≡ plugNext (siteOf self known site) (commandNext step h)) ⌝ }
+        ensures { λ r. ⌜ ((held : List ℕ) (g : Lent) (h : Line) → h .gated ≡ gated → standNext self held g r h ≡ plugNext (siteOf self known (g .sent) site) (commandNext step h)) ⌝ }
     {
         match step {
             CommandStep::On(command) => known.at(At::Command(site, command)),
@@ -216,7 +216,7 @@ impl Job {
 
     // A ready wait after an answer.
     pub fn waited(self, known: Known, gated: bool, waiting: Waiting, step: ReadyStep) -> Stand
-        ensures { λ r. ⌜ ((held g : List ℕ) (h : Line) → h .gated ≡ gated → standNext self held g r h ≡ plugNext (waitSite self known waiting) (readyNext (busWith self (waitRca self known waiting)) step h)) ⌝ }
+        ensures { λ r. ⌜ ((held : List ℕ) (g : Lent) (h : Line) → h .gated ≡ gated → standNext self held g r h ≡ plugNext (waitSite self known (g .sent) waiting) (readyNext (busWith self (waitRca self known waiting)) step h)) ⌝ }
     {
         match step {
             ReadyStep::On(ready) => known.at(At::Ready(waiting, ready)),
@@ -238,7 +238,7 @@ impl Job {
         gets: Gets,
         step: DataStep,
     ) -> Stand
-        ensures { λ r. ⌜ ((g : List ℕ) → standNext self held g r line ≡ plugNext (getsSite self known gets) (dataNext (busWith self (rcaOf self known gets)) (phaseOf (self .asked) gets) (wordsIn self gets held g) step line)) ⌝ }
+        ensures { λ r. ⌜ ((g : Lent) → standNext self held g r line ≡ plugNext (getsSite self known gets) (dataNext (busWith self (rcaOf self known gets)) (phaseOf (self .asked) gets) (wordsIn self gets held g) step line)) ⌝ }
     {
         let clock = line.clock;
         match step {
@@ -254,7 +254,7 @@ impl Job {
 
     // After a status word of an idle wait: the clock's row once nothing is under way.
     pub fn idled(self, known: Known, change: Change, more: u32, word: u32) -> Stand
-        ensures { λ r. ⌜ ((held g : List ℕ) (h : Line) → standNext self held g r h ≡ heard (next (idling self known change (suc more)) h) word) ⌝ }
+        ensures { λ r. ⌜ ((held : List ℕ) (g : Lent) (h : Line) → standNext self held g r h ≡ heard (next (idling self known change (suc more)) h) word) ⌝ }
     {
         if word & Sta::BUSY == 0 {
             known.at(At::Tells(Writes::Clock(change)))

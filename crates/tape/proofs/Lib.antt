@@ -6,6 +6,7 @@ pub mod Loops
 pub mod Lying
 pub mod Converts
 pub mod Room
+pub mod Sending
 pub mod Stops
 pub mod Words
 pub mod Values

@@ -20,8 +20,9 @@ use Rattle.tape.specs.declared.rows.Row.{Row}
 use Rattle.tape.specs.declared.script.Reading.{Reading}
 use Rattle.tape.specs.Plan.{Nothing, Cause, failed, ended, Plan, give, refuse, read, write, look, hold, handle, _then_, refusing, fail, ensure, until}
 use Rattle.tape.specs.Layout.{rowOf}
+use Rattle.tape.specs.Rows.{FIFO}
 use Rattle.tape.specs.Run.{After, noted, run}
-use Rattle.tape.specs.Steps.{word, row, dataFrom}
+use Rattle.tape.specs.Steps.{word, row, dataFrom, sendFrom}
 use Rattle.tape.proofs.Laws.{by-cases}
 
 -- `noted`: a row leaves such a line as it was, but for CLKCR
@@ -265,6 +266,11 @@ module _ {rule : Rule} where
   unfolding dataFrom
   on-data k zero = on-give
   on-data k (suc n) = on-then (on-word _) (λ w. on-then (on-data (k + 1) n) (λ ws. on-give))
+
+  pub on-send : ((value : ℕ) → rule .writes (record { register = FIFO; value = value })) → (ws : List ℕ) (k n : ℕ) → Obeys rule Nothing (sendFrom ws k n)
+  unfolding sendFrom
+  on-send any ws k zero = on-give
+  on-send any ws k (suc n) = on-then (on-row _ _ (any _)) (λ _. on-send any ws (k + 1) n)
 
   -- Of steps that only write, and of the guard and the gate, which do such steps after every refusal.
 

@@ -21,7 +21,7 @@ use Rattle.tape.specs.Plan.{Cause, failed, ended, Plan, give, refuse, re
 use Rattle.tape.specs.Plan.{until}
 use Rattle.tape.specs.Run.{State, After, noted, run, doesAt, Gave}
 use Rattle.tape.proofs.Laws.{by-cases, run-out}
-use Rattle.tape.specs.Steps.{word, row, dataFrom}
+use Rattle.tape.specs.Steps.{word, row, dataFrom, sendFrom}
 use Rattle.tape.proofs.Room.{Written, Free, with-row, free}
 
 -- How far a plan comes in a script, given endless room: whether a reading finds no word, and the rows before that.
@@ -249,6 +249,12 @@ pub at-most-data : (k n : ℕ) → AtMost n (dataFrom k n)
 unfolding dataFrom
 at-most-data k zero = at-most-give
 at-most-data k (suc n) = at-most-then 1 n (at-most-word _) (λ w. at-most-then n 0 (at-most-data (k + 1) n) (λ ws. at-most-give) (omega arith)) (omega arith)
+
+-- rows take none
+pub at-most-send : (ws : List ℕ) (k n : ℕ) → AtMost 0 (sendFrom ws k n)
+unfolding sendFrom
+at-most-send ws k zero = at-most-give
+at-most-send ws k (suc n) = at-most-after (at-most-row _ _) (λ _. at-most-send ws (k + 1) n)
 
 abbrev pub isEnded : Pace → Bool
 isEnded Going = false

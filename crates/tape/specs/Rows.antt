@@ -1,4 +1,4 @@
--- Document 01, 'Script and rows': the rows by number, and how their values are packed.
+-- Document 01, 'Script and rows', and P5 of document 02: the rows by number, and how their values are packed.
 use Prim.Native.Nat.{ℕ, _+_, _*_, _/_, _%_}
 use mathlib.Core.Path.{_≡_}
 use mathlib.Core.Bool.{Bool, true, false, cond}
@@ -38,6 +38,10 @@ DCTRL2 = 10
 -- the spin count of a delay
 abbrev pub DELAY : ℕ
 DELAY = 11
+
+-- a word sent to the card
+abbrev pub FIFO : ℕ
+FIFO = 12
 
 -- CLKCR = divisor field + 256 if enabled + 2048 if wide + 1024 and 16384 (flow control) if bypass
 abbrev pub clkcrOf : Clock → Bool → Bool → ℕ

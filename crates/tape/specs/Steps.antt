@@ -2,6 +2,7 @@
 use Prim.Native.Nat.{ℕ, zero, suc, _+_}
 use mathlib.Core.Bool.{Bool, cond}
 use mathlib.Core.List.{List, [], _∷_}
+use lib.ListN.{getD}
 use Rattle.types.specs.declared.card.Signalling.{Signalling}
 use Rattle.types.specs.declared.clock.Hertz.{Hertz}
 use Rattle.types.specs.Bits.{clear}
@@ -9,7 +10,7 @@ use Rattle.tape.specs.declared.progress.Line.{Line}
 use Rattle.tape.specs.declared.script.Reading.{Reading}
 use Rattle.tape.specs.declared.script.Reading.the-variants.{Status, Data}
 use Rattle.tape.specs.Plan.{Nothing, Plan, ended, give, refuse, read, write, look, hold, _then_, until}
-use Rattle.tape.specs.Rows.{POWER, CLKCR, ARG, CMD, DTIMER, DLEN, DCTRL, ICR, MASK, DCTRL2, clkenOf}
+use Rattle.tape.specs.Rows.{POWER, CLKCR, ARG, CMD, DTIMER, DLEN, DCTRL, ICR, MASK, DCTRL2, FIFO, clkenOf}
 
 -- one word
 unfoldable pub word : Reading → Plan ℕ
@@ -72,3 +73,11 @@ dataFrom k (suc n) = word (Data k) then λ w. dataFrom (k + 1) n then λ ws. giv
 
 abbrev pub dataWords : ℕ → Plan (List ℕ)
 dataWords n = dataFrom 0 n
+
+-- n words of ws from place k on, one after the other, each a row of FIFO
+unfoldable pub sendFrom : List ℕ → ℕ → ℕ → Plan Nothing
+sendFrom ws k zero = give tt
+sendFrom ws k (suc n) = row FIFO (getD ws k 0) then λ _. sendFrom ws (k + 1) n
+
+abbrev pub sendWords : List ℕ → ℕ → Plan Nothing
+sendWords ws n = sendFrom ws 0 n

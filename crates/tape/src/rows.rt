@@ -40,6 +40,8 @@ impl Row {
     pub const DCTRL2: u32 = 10;
     // The spin count of a delay.
     pub const DELAY: u32 = 11;
+    // A word sent to the card.
+    pub const FIFO: u32 = 12;
     // In its word the register lies above the value.
     pub const ABOVE: u64 = 0x1_0000_0000;
 

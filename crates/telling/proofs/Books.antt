@@ -17,9 +17,9 @@ use Rattle.feed.specs.Turns.{starts}
 use Rattle.book.specs.declared.layout.Asked.{Asked}
 use Rattle.book.specs.declared.layout.Opened.{Opened}
 use Rattle.book.specs.declared.layout.Opened.the-variants as O
-use Rattle.book.specs.Layout.{wordsOf}
+use Rattle.types.specs.Words.{wordsOf}
 use Rattle.book.specs.Readers.{askedAt, callAsked, openedOf}
-use Rattle.book.proofs.Load.{length-words}
+use Rattle.types.proofs.Back.{length-words}
 use Rattle.book.proofs.Opening.{opened-some}
 use Rattle.bench.specs.declared.trace.Opening.{Opening}
 use Rattle.bench.specs.Bench.{asking}
@@ -31,22 +31,22 @@ use Rattle.sheet.specs.Sheet.{Tells}
 use Rattle.sheet.specs.Lines.{beginsText}
 use Rattle.tracing.specs.Traced.{Point, startOf, callsOf}
 use Rattle.tracing.proofs.Traces.{opened-start, opened-calls}
-use Rattle.telling.specs.Told.{Leaf, leaf, eventsOf, begun, endsOn, callOut, stepped, afterCalls, Tellings}
+use Rattle.telling.specs.Told.{Leaf, leaf, eventsOf, begins, endsOn, callOut, stepped, afterCalls, Tellings}
 use Rattle.telling.proofs.Lines.{as-leaf}
 
 -- a call's lines, its events and its last two lines are all of it
-module _ (number : ℕ) (host : Sdmmc) (ws : List ℕ) (asked : Asked) (bytes : ℕ) (l : List Row) where
-  pub call-out : {at : ℕ} {out out₁ out₂ out₃ : List ℕ} {begins : Sheet} {c : Called}
-      → Tells (beginsText number asked) (record { at = 0; written = true }) out begins out₁
-      → c ≡ calledOf (comes host (asking l bytes ws asked))
-      → leaf at out₂ ≡ eventsOf (callAsked ws asked .script) (starts (begun host asked bytes)) l (leaf (begins .at) out₁)
-      → out₃ ≡ endsOn number c (leaf at out₂) .out → out₃ ≡ callOut number host ws asked bytes l out
-  call-out {at} {out₂ = out₂} begins called events ends =
-      let c = calledOf (comes host (asking l bytes ws asked)) in
+module _ (number : ℕ) (host : Sdmmc) (ws : List ℕ) (asked : Asked) (buffer : List ℕ) (l : List Row) where
+  pub call-out : {at : ℕ} {out out₁ out₂ out₃ : List ℕ} {sheet : Sheet} {c : Called}
+      → Tells (beginsText number asked) (record { at = 0; written = true }) out sheet out₁
+      → c ≡ calledOf (comes host (asking l buffer ws asked))
+      → leaf at out₂ ≡ eventsOf (callAsked ws asked .script) (starts (begins host ws asked buffer)) l (leaf (sheet .at) out₁)
+      → out₃ ≡ endsOn number c (leaf at out₂) .out → out₃ ≡ callOut number host ws asked buffer l out
+  call-out {at} {out₂ = out₂} first called events ends =
+      let c = calledOf (comes host (asking l buffer ws asked)) in
       ends
       ∙ ap (λ (c : Called). endsOn number c (leaf at out₂) .out) called
       ∙ ap (λ (p : Leaf). endsOn number c p .out) events
-      ∙ ap (λ (p : Leaf). endsOn number c (eventsOf (callAsked ws asked .script) (starts (begun host asked bytes)) l p) .out) (as-leaf begins)
+      ∙ ap (λ (p : Leaf). endsOn number c (eventsOf (callAsked ws asked .script) (starts (begins host ws asked buffer)) l p) .out) (as-leaf first)
 
 -- after k calls
 pub record Stands (ws : List ℕ) (room : ℕ) (start : Point) (k : ℕ) (host : Sdmmc) (place : ℕ) (out : List ℕ) : Type 0 where
@@ -61,7 +61,7 @@ first ws room start = record { hosted = refl; placed = refl; laid = refl }
 -- and after one more
 pub one-more : (ws : List ℕ) (room : ℕ) (start : Point) (k : ℕ) (host host′ : Sdmmc) (place place′ : ℕ) (out out′ : List ℕ) → Stands ws room start k host place out
     → host′ ≡ comes host (callAt ws k place room) .host → place′ ≡ placeAfter ws k place
-    → out′ ≡ callOut (k + 1) host ws (askedAt ws k place) (bytesAt ws k place) (rowsIn (replicate (min room 4096) 0)) out → Stands ws room start (k + 1) host′ place′ out′
+    → out′ ≡ callOut (k + 1) host ws (askedAt ws k place) (replicate (bytesAt ws k place) 0) (rowsIn (replicate (min room 4096) 0)) out → Stands ws room start (k + 1) host′ place′ out′
 unfolding afterCalls
 one-more ws room start k host host′ place place′ out out′ s h p l =
     let was : record { host = host; place = place; out = out } ≡ afterCalls ws room start k = λ i. record { host = s .hosted i; place = s .placed i; out = s .laid i } in
@@ -101,7 +101,7 @@ module _ (bytes words last : List ℕ) (room : ℕ) (r : Opening) (all : Bool) (
   by O.Bad e s t = none-told (take (r .words) last) (wordsOf bytes) room _ all out″ t
 
   pub book-told : OpensAs (openedOf bytes (length words)) (wordsOf bytes) r → Laid 0 (headOf (openedOf bytes (length words)) (wordsOf bytes)) out (r .at) out′
-      → Tellings (take (r .words) last) room (record { host = r .host; place = r .«script_at»; out = out′ }) (r .calls) all out″
+      → Tellings (take (r .words) last) room (record { host = r .host; place = r .«body_at»; out = out′ }) (r .calls) all out″
       → Tellings (wordsOf bytes) room (startOf (openedOf bytes (length words)) (wordsOf bytes) out) (callsOf (openedOf bytes (length words)) (wordsOf bytes)) all out″
   book-told s l t =
       let o = openedOf bytes (length words) in

@@ -12,12 +12,14 @@ use Rattle.tape.specs.Layout.{rowsIn}
 use Rattle.tape.specs.Plan.{Plan}
 use Rattle.host.specs.declared.host.Called.{Called}
 use Rattle.host.specs.declared.host.Sdmmc.{Sdmmc}
-use Rattle.host.specs.Calls.{calledOf}
+use Rattle.types.specs.Words.{wordsOf}
+use Rattle.bus.specs.Transfer.{incoming, outgoing}
+use Rattle.host.specs.Calls.{calledOf, blocksFilled}
 use Rattle.calls.specs.Serve.{comes}
 use Rattle.step.specs.Next as N
 use Rattle.stepping.specs.Closing.{Closing}
 use Rattle.underway.specs.Under.{Under}
-use Rattle.underway.specs.Whole.{initCall, readCall, statusCall}
+use Rattle.underway.specs.Whole.{initCall, blocksCall, statusCall}
 use Rattle.feed.specs.declared.turn.Event.{Event}
 use Rattle.feed.specs.declared.turn.Event.the-variants as F
 use Rattle.feed.specs.Runs.{nextSpan}
@@ -68,22 +70,31 @@ module _ (s : List ℕ) where
   abbrev pub eventsOf : Way → List Row → Leaf → Leaf
   eventsOf w l p = turnsOn (suc (nextSpan s (w .call .ahead) (w .used))) w l p
 
--- a call of a book at its start
-unfoldable pub planOf : Sdmmc → ℕ → ℕ → ℕ → Plan Closing
-planOf host kind a bytes = cond (eqb kind 1) (initCall host a) (cond (eqb kind 2) (readCall host a bytes) (statusCall host))
+-- a call of a book at its start: a write sends these words
+unfoldable pub planOf : Sdmmc → ℕ → ℕ → List ℕ → ℕ → Plan Closing
+planOf host kind a sent bytes =
+    cond (eqb kind 1) (initCall host a)
+    (cond (eqb kind 2) (blocksCall host incoming a bytes)
+    (cond (eqb kind 4) (blocksCall host (outgoing sent) a bytes) (statusCall host)))
 
-abbrev pub begun : Sdmmc → Asked → ℕ → Under
-begun host asked bytes = record { before = host; ahead = N.next (planOf host (asked .kind) (asked .a) bytes) (host .line) }
+abbrev pub begun : Sdmmc → Asked → List ℕ → ℕ → Under
+begun host asked sent bytes =
+    record { before = host; ahead = N.next (planOf host (asked .kind) (asked .a) sent bytes) (host .line) }
+
+-- with a buffer, into which the data words of a write are laid
+abbrev pub begins : Sdmmc → List ℕ → Asked → List ℕ → Under
+begins host ws asked buffer =
+    begun host asked (wordsOf (blocksFilled (callAsked ws asked .«data») buffer)) (length buffer)
 
 -- the last two lines of a call
 abbrev pub endsOn : ℕ → Called → Leaf → Leaf
 endsOn number c p = lined (stateText (c .host)) (lined (callLine number (c .answer) (c .words) (c .rows)) p)
 
 -- ALL OF A CALL, in the buffer from its start on
-abbrev pub callOut : ℕ → Sdmmc → List ℕ → Asked → ℕ → List Row → List ℕ → List ℕ
-callOut number host ws asked bytes l out =
-    endsOn number (calledOf (comes host (asking l bytes ws asked)))
-    (eventsOf (callAsked ws asked .script) (starts (begun host asked bytes)) l (lined (beginsText number asked) (leaf 0 out)))
+abbrev pub callOut : ℕ → Sdmmc → List ℕ → Asked → List ℕ → List Row → List ℕ → List ℕ
+callOut number host ws asked buffer l out =
+    endsOn number (calledOf (comes host (asking l buffer ws asked)))
+    (eventsOf (callAsked ws asked .script) (starts (begins host ws asked buffer)) l (lined (beginsText number asked) (leaf 0 out)))
     .out
 
 -- call k of a book's words, counted from 0, with so many rows of room
@@ -91,7 +102,7 @@ abbrev pub stepped : List ℕ → ℕ → ℕ → Point → Point
 stepped ws room k p = record {
   host = comes (p .host) (callAt ws k (p .place) room) .host;
   place = placeAfter ws k (p .place);
-  out = callOut (k + 1) (p .host) ws (askedAt ws k (p .place)) (bytesAt ws k (p .place)) (rowsIn (replicate (min room 4096) 0)) (p .out);
+  out = callOut (k + 1) (p .host) ws (askedAt ws k (p .place)) (replicate (bytesAt ws k (p .place)) 0) (rowsIn (replicate (min room 4096) 0)) (p .out);
 }
 
 -- after the first so many calls

@@ -11,9 +11,9 @@ use Rattle.host.specs.declared.host.Sdmmc.{Sdmmc}
 use Rattle.calls.specs.Serve.{comes}
 use Rattle.book.specs.declared.layout.Opened.{Opened}
 use Rattle.book.specs.declared.layout.Opened.the-variants as O
-use Rattle.book.specs.Layout.{wordsOf}
+use Rattle.types.specs.Words.{wordsOf}
 use Rattle.book.specs.Readers.{openedOf}
-use Rattle.book.proofs.Load.{length-words}
+use Rattle.types.proofs.Back.{length-words}
 use Rattle.book.proofs.Opening.{opened-some}
 use Rattle.bench.specs.declared.trace.Opening.{Opening}
 use Rattle.bench.specs.Opens.{OpensAs, headOf}
@@ -57,7 +57,7 @@ some-calls k calls s h = record { served = k; within = h; whole = never; left = 
 
 -- a book that was opened, by how it was
 pub opened-start : (o : Opened) (ws out out′ : List ℕ) (r : Opening) → OpensAs o ws r → Laid 0 (headOf o ws) out (r .at) out′
-    → record { host = r .host; place = r .«script_at»; out = out′ } ≡ startOf o ws out
+    → record { host = r .host; place = r .«body_at»; out = out′ } ≡ startOf o ws out
 unfolding OpensAs startOf
 opened-start (O.Words n) ws out out′ r s l = λ i. record { host = s .host i; place = s .place i; out = l .laid i }
 opened-start O.Bad ws out out′ r s l = λ i. record { host = s .host i; place = s .place i; out = l .laid i }
@@ -86,7 +86,7 @@ module _ (bytes words last : List ℕ) (room : ℕ) (r : Opening) (all : Bool) (
   by O.Bad e s t = none-traced (take (r .words) last) (wordsOf bytes) room _ all out″ t
 
   pub book-traced : OpensAs (openedOf bytes (length words)) (wordsOf bytes) r → Laid 0 (headOf (openedOf bytes (length words)) (wordsOf bytes)) out (r .at) out′
-      → Traces (take (r .words) last) room (record { host = r .host; place = r .«script_at»; out = out′ }) (r .calls) all out″
+      → Traces (take (r .words) last) room (record { host = r .host; place = r .«body_at»; out = out′ }) (r .calls) all out″
       → Traces (wordsOf bytes) room (startOf (openedOf bytes (length words)) (wordsOf bytes) out) (callsOf (openedOf bytes (length words)) (wordsOf bytes)) all out″
   book-traced s l t =
       let o = openedOf bytes (length words) in

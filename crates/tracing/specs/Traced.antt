@@ -14,7 +14,7 @@ use Rattle.bench.specs.Bench.{settingsOf}
 use Rattle.bench.specs.Opens.{headOf}
 use Rattle.bench.specs.Trace.{bytesAt, placeAfter, callAt, callText, callsServed}
 
--- the next host, where the next script starts, and what the buffer holds
+-- the next host, where the next body starts, and what the buffer holds
 pub record Point : Type 0 where
   pub host : Sdmmc
   pub place : ℕ
@@ -41,7 +41,7 @@ pub record Traces (ws : List ℕ) (room : ℕ) (start : Point) (calls : ℕ) (al
   pub whole : all ≡ true → served ≡ calls
   pub left : out ≡ afterCalls ws room start served .out
 
--- a book that was opened: its host, its first script, and the host's text in the buffer; and its calls, where there is a host
+-- a book that was opened: its host, where its first body starts, and the host's text in the buffer; and its calls, where there is a host
 unfoldable pub startOf : Opened → List ℕ → List ℕ → Point
 startOf (O.Words n) ws out = record {
   host = made (settingsOf (bookIn ws)) .host;

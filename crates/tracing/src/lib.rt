@@ -2,7 +2,7 @@
 ghost use mathlib.Core.Path.{_≡_};
 ghost use lib.ListN.{length};
 ghost use Rattle.text.specs.Ink.{inked};
-ghost use Rattle.book.specs.Layout.{wordsOf};
+ghost use Rattle.types.specs.Words.{wordsOf};
 ghost use Rattle.book.specs.Readers.{openedOf};
 ghost use Rattle.tracing.specs.Traced.{Traces, startOf, callsOf};
 use bench::print::Turn;
@@ -16,21 +16,21 @@ fn trace_calls(
     host: Sdmmc,
     words: &[u32],
     calls: u16,
-    script_at: usize,
+    body_at: usize,
     room: usize,
     out: &mut [u8],
 ) -> bool
-    ensures { λ r. ⌜ Traces (now (words .entry)) room (record { host = host; place = «script_at»; out = now (out .entry) }) calls r (now (out .exit)) ⌝ }
+    ensures { λ r. ⌜ Traces (now (words .entry)) room (record { host = host; place = «body_at»; out = now (out .entry) }) calls r (now (out .exit)) ⌝ }
 {
     let mut turn = Turn {
         host: host,
-        script_at: script_at,
+        body_at: body_at,
         at: 0,
     };
     let mut k = 0;
     while k < calls {
         let next = turn.host;
-        turn = trace::trace_call(next, words, k, turn.script_at, room, out);
+        turn = trace::trace_call(next, words, k, turn.body_at, room, out);
         let at = turn.at;
         if !io::write_all(STDOUT_FILENO, &out[..at]) {
             return false;
@@ -53,12 +53,5 @@ pub fn trace_book(bytes: &[u8], room: usize, words: &mut [u32], out: &mut [u8]) 
     }
     let host = opening.host;
     let n = opening.words;
-    trace_calls(
-        host,
-        &words[..n],
-        opening.calls,
-        opening.script_at,
-        room,
-        out,
-    )
+    trace_calls(host, &words[..n], opening.calls, opening.body_at, room, out)
 }

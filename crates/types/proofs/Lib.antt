@@ -1,4 +1,5 @@
 pub mod Agree
+pub mod Back
 pub mod Bounds
 pub mod Bytes
 pub mod Counted

@@ -13,6 +13,17 @@ unfoldable pub bytesOf : List ℕ → List ℕ
 bytesOf [] = []
 bytesOf (w ∷ ws) = bytes4 w ++ bytesOf ws
 
+-- and back: four bytes as a word, and as many words as the bytes have whole ones
+abbrev pub word4 : ℕ → ℕ → ℕ → ℕ → ℕ
+word4 a b c d = a + b * 2 ^ 8 + c * 2 ^ 16 + d * 2 ^ 24
+
+unfoldable pub wordsOf : List ℕ → List ℕ
+wordsOf [] = []
+wordsOf (a ∷ []) = []
+wordsOf (a ∷ b ∷ []) = []
+wordsOf (a ∷ b ∷ c ∷ []) = []
+wordsOf (a ∷ b ∷ c ∷ d ∷ bytes) = word4 a b c d ∷ wordsOf bytes
+
 -- bytes with words laid over their start, as far as whole words go
 unfoldable pub filled : List ℕ → List ℕ → List ℕ
 filled words bytes =

@@ -1,7 +1,7 @@
 // Words as bytes, and registers out of words.
 ghost use mathlib.Core.Path.{_≡_};
 ghost use Prim.Native.Nat.{_+_, _*_, _^_, min};
-ghost use Rattle.types.specs.Words.{filled, bytesOf, turned, sdStatusOf, halvesOf, scrOf};
+ghost use Rattle.types.specs.Words.{word4, filled, bytesOf, turned, sdStatusOf, halvesOf, scrOf};
 use crate::register::Wide;
 use crate::status::Scr;
 
@@ -9,6 +9,13 @@ fn least(a: usize, b: usize) -> usize
     ensures { λ r. ⌜ r ≡ min a b ⌝ }
 {
     if a < b { a } else { b }
+}
+
+// Four bytes as a word, the lowest first.
+pub fn little(a: u8, b: u8, c: u8, d: u8) -> u32
+    ensures { λ r. ⌜ r ≡ word4 a b c d ⌝ }
+{
+    a as u32 + b as u32 * 0x100 + c as u32 * 0x1_0000 + d as u32 * 0x100_0000
 }
 
 // Lays words over the start of the bytes, the lowest byte first, as far as whole words go; the other bytes stay.

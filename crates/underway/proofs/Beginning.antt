@@ -15,6 +15,7 @@ use Rattle.bus.specs.declared.response.Response.the-variants.{R1}
 use Rattle.bus.specs.Command.{command, appCommand}
 use Rattle.bus.specs.Ready.{waitReady}
 use Rattle.init.specs.Initialise.{powerOn, beginInit, initCard, initialise}
+use Rattle.bus.specs.Transfer.{Buffer, incoming, outgoing}
 use Rattle.host.specs.declared.host.Sdmmc.{Sdmmc}
 use Rattle.host.specs.Calls.{freshLine}
 use Rattle.step.specs.declared.command.Begun.the-variants as B
@@ -23,10 +24,10 @@ use Rattle.step.specs.declared.reset.Reset.the-variants as Re
 use Rattle.step.specs.Command.{begunPlan, begunNext}
 use Rattle.step.specs.Context.{whole, inside, plug}
 use Rattle.step.specs.declared.why.Why.the-variants as Y
-use Rattle.step.specs.Next.{next}
+use Rattle.step.specs.Next.{next, Lent}
 use Rattle.step.specs.Reset.{rowsLeft, all-rows}
 use Rattle.step.specs.Rows.{rowsFrom, resetRows}
-use Rattle.step.specs.Transfer.{blocksOf, transferOf, phasePlan}
+use Rattle.step.specs.Transfer.{blocksOf, transferOf, phasePlan, sendsOf}
 use Rattle.step.proofs.Inside.{same-plug}
 use Rattle.step.proofs.Parts as parts
 use Rattle.stepping.specs.Closing.{Closing, keeping, dropping, accepting}
@@ -41,20 +42,20 @@ use Rattle.stepping.specs.declared.call.Known.{Known}
 use Rattle.stepping.specs.declared.call.Site.the-variants as T
 use Rattle.stepping.specs.declared.call.Waiting.the-variants as W
 use Rattle.stepping.specs.declared.call.Writes.the-variants as R
-use Rattle.underway.specs.Whole.{initFrom, readFrom, statusFrom}
+use Rattle.underway.specs.Whole.{initFrom, blocksFrom, statusFrom}
 
 some-blocks : (n : ℕ) → 1 ≤ n → n ≤ 511 → blocksOf n ≡ n
 unfolding blocksOf
 some-blocks n least most = omega arith
 
-pub some-read : (host : Sdmmc) (a n : ℕ) → 1 ≤ n → n ≤ 511 → readFrom host a (blocksOf n) ≡ readFrom host a n
-some-read host a n least most = ap (λ (n : ℕ). readFrom host a n) (some-blocks n least most)
+pub some-moved : (host : Sdmmc) (buffer : Buffer) (a n : ℕ) → 1 ≤ n → n ≤ 511 → blocksFrom host buffer a (blocksOf n) ≡ blocksFrom host buffer a n
+some-moved host buffer a n least most = ap (λ (n : ℕ). blocksFrom host buffer a n) (some-blocks n least most)
 
 reset-rows : resetController ≡ rowsFrom resetRows
 unfolding resetController row handle rowsFrom
 reset-rows = refl
 
-module _ (j : Job) (k : Known) (held g : List ℕ) (h : Line) where
+module _ (j : Job) (k : Known) (held : List ℕ) (g : Lent) (h : Line) where
   -- refused before its first step
   pub refused-begins : (e : Error) → next (atPlan j k held g (A.Over (Z.Keeping (Y.Failed e)))) h ≡ next (keeping (j .host) (failed e)) h
   unfolding atPlan endPlan
@@ -62,25 +63,25 @@ module _ (j : Job) (k : Known) (held g : List ℕ) (h : Line) where
 
   -- CMD55 of a status call
   module _ (limit argument : ℕ) (gated : Bool) (gate : h .gated ≡ gated) where
-    begins : next (plug (siteOf j k T.App) (begunPlan limit 55 argument R1 gated)) h ≡ next (plug (siteOf j k T.App) (command limit 55 argument R1)) h
-    begins = same-plug (siteOf j k T.App) _ _ h (parts.begins limit 55 argument R1 gated h (sym gate))
+    begins : next (plug (siteOf j k (g .sent) T.App) (begunPlan limit 55 argument R1 gated)) h ≡ next (plug (siteOf j k (g .sent) T.App) (command limit 55 argument R1)) h
+    begins = same-plug (siteOf j k (g .sent) T.App) _ _ h (parts.begins limit 55 argument R1 gated h (sym gate))
 
     pub app-on : (c : Command) → begunNext (B.On c) h ≡ next (begunPlan limit 55 argument R1 gated) h
-        → next (atPlan j k held g (A.Command T.App c)) h ≡ next (plug (siteOf j k T.App) (command limit 55 argument R1)) h
+        → next (atPlan j k held g (A.Command T.App c)) h ≡ next (plug (siteOf j k (g .sent) T.App) (command limit 55 argument R1)) h
     unfolding atPlan begunNext
-    app-on c e = same-plug (siteOf j k T.App) _ _ h e ∙ begins
+    app-on c e = same-plug (siteOf j k (g .sent) T.App) _ _ h e ∙ begins
 
-    app-failed : next (atPlan j k held g (A.Over (Z.Keeping (Y.Failed E.SoftwareTimeout)))) h ≡ next (plug (siteOf j k T.App) (fail E.SoftwareTimeout)) h
+    app-failed : next (atPlan j k held g (A.Over (Z.Keeping (Y.Failed E.SoftwareTimeout)))) h ≡ next (plug (siteOf j k (g .sent) T.App) (fail E.SoftwareTimeout)) h
     unfolding atPlan endPlan siteOf handle plug
     app-failed = refl
 
     pub app-spent : begunNext B.Spent h ≡ next (begunPlan limit 55 argument R1 gated) h
-        → next (atPlan j k held g (A.Over (Z.Keeping (Y.Failed E.SoftwareTimeout)))) h ≡ next (plug (siteOf j k T.App) (command limit 55 argument R1)) h
+        → next (atPlan j k held g (A.Over (Z.Keeping (Y.Failed E.SoftwareTimeout)))) h ≡ next (plug (siteOf j k (g .sent) T.App) (command limit 55 argument R1)) h
     unfolding begunNext
-    app-spent e = app-failed ∙ same-plug (siteOf j k T.App) (fail E.SoftwareTimeout) (begunPlan limit 55 argument R1 gated) h e ∙ begins
+    app-spent e = app-failed ∙ same-plug (siteOf j k (g .sent) T.App) (fail E.SoftwareTimeout) (begunPlan limit 55 argument R1 gated) h e ∙ begins
 
 -- an initialisation: its first row is that of the reset
-module _ (j : Job) (k : Known) (held g : List ℕ) where
+module _ (j : Job) (k : Known) (held : List ℕ) (g : Lent) where
   abbrev resets : Clock → ℕ → Plan Closing
   resets c f = plug (Sites.resetting (j .host) c f) resetController
 
@@ -101,19 +102,26 @@ module _ (j : Job) (k : Known) (held g : List ℕ) where
   -- a call with a data phase of its own, by what was asked
   abbrev owning : Asked → Plan Closing
   owning q =
-      plug (inside (accepting (j .host) (hostBy q (j .host))) (dropping (j .host)) whole) (phasePlan (busWith j (j .host .card .rca)) (phaseBy q))
+      plug (inside (accepting (j .host) (hostBy q (j .host))) (dropping (j .host)) whole) (phasePlan (busWith j (j .host .card .rca)) (phaseBy q) (g .sent))
 
-  -- a read: the ready wait
-  pub waits-begins : (a n : ℕ) (h : Line) → j .asked ≡ Q.Blocks a n
-      → next (plug (waitSite j k W.Read) (waitReady (j .host .settings .source .0) (j .host .settings .config) (waitRca j k W.Read))) h
-      ≡ next (readFrom (j .host) a (blocksOf n)) h
-  unfolding waitSite waitRca hostBy phaseBy transferOf plug
-  waits-begins a n h e =
+  -- a read or a write: the ready wait
+  pub reads-begins : (a n : ℕ) (h : Line) → j .asked ≡ Q.Blocks a n
+      → next (plug (waitSite j k (g .sent) W.Blocks) (waitReady (j .host .settings .source .0) (j .host .settings .config) (waitRca j k W.Blocks))) h
+      ≡ next (blocksFrom (j .host) incoming a (blocksOf n)) h
+  unfolding waitSite waitRca hostBy phaseBy transferOf sendsOf plug
+  reads-begins a n h e =
+      ap (λ (q : Asked). next (plug (Sites.approached (j .host) (owning q)) (waitReady (j .host .settings .source .0) (j .host .settings .config) (j .host .card .rca))) h) e
+
+  pub sends-begins : (a n : ℕ) (h : Line) → j .asked ≡ Q.Sends a n
+      → next (plug (waitSite j k (g .sent) W.Blocks) (waitReady (j .host .settings .source .0) (j .host .settings .config) (waitRca j k W.Blocks))) h
+      ≡ next (blocksFrom (j .host) (outgoing (g .sent)) a (blocksOf n)) h
+  unfolding waitSite waitRca hostBy phaseBy transferOf sendsOf plug
+  sends-begins a n h e =
       ap (λ (q : Asked). next (plug (Sites.approached (j .host) (owning q)) (waitReady (j .host .settings .source .0) (j .host .settings .config) (j .host .card .rca))) h) e
 
   -- a status call: CMD55
   pub app-begins : (h : Line) → j .asked ≡ Q.Status
-      → next (plug (siteOf j k T.App) (command (limitAt j) 55 (j .host .card .rca * 2 ^ 16) R1)) h ≡ next (statusFrom (j .host)) h
-  unfolding siteOf hostBy phaseBy transferOf appCommand plug
+      → next (plug (siteOf j k (g .sent) T.App) (command (limitAt j) 55 (j .host .card .rca * 2 ^ 16) R1)) h ≡ next (statusFrom (j .host)) h
+  unfolding siteOf hostBy phaseBy transferOf sendsOf appCommand plug
   app-begins h e =
       ap (λ (q : Asked). next (plug (Sites.app (j .host) (owning q)) (command (limitAt j) 55 (j .host .card .rca * 2 ^ 16) R1)) h) e

@@ -6,7 +6,7 @@ use mathlib.Core.List.{List}
 use Rattle.tape.specs.declared.progress.Line.{Line}
 use Rattle.host.specs.declared.host.Sdmmc.{Sdmmc}
 use Rattle.step.specs.Command.{commandPlan}
-use Rattle.step.specs.Next.{Next, asks, tells, over, refused, next, waits}
+use Rattle.step.specs.Next.{Next, asks, tells, over, refused, next, waits, Lent}
 use Rattle.step.specs.Ready.{readyPlan}
 use Rattle.step.specs.Transfer.{dataPlan}
 use Rattle.step.proofs.Inside.{inside-waits, command-waits}
@@ -27,13 +27,13 @@ use Rattle.underway.specs.declared.call.Outcome.the-variants as O
 use Rattle.underway.specs.declared.ends.Ends.the-variants as Z
 use Rattle.underway.proofs.Rowing.{idle-waits, row-waits}
 
-module _ (j : Job) (k : Known) (h : Line) (held g : List ℕ) where
+module _ (j : Job) (k : Known) (h : Line) (held : List ℕ) (g : Lent) where
   -- a call that is not over waits
   at-waits : (at : At) → endsAt at ≡ Z.Not → waits (next (atPlan j k held g at) h) ≡ true
   unfolding atPlan endsAt
-  at-waits (A.Command s c) e = inside-waits (siteOf j k s) (commandPlan c) h (command-waits c h)
+  at-waits (A.Command s c) e = inside-waits (siteOf j k (g .sent) s) (commandPlan c) h (command-waits c h)
   at-waits (A.Ready t r) e =
-      inside-waits (waitSite j k t) (readyPlan (busWith j (waitRca j k t)) r) h (ready-waits (busWith j (waitRca j k t)) h r)
+      inside-waits (waitSite j k (g .sent) t) (readyPlan (busWith j (waitRca j k t)) r) h (ready-waits (busWith j (waitRca j k t)) h r)
   at-waits (A.Data gets d) e =
       inside-waits (getsSite j k gets) (dataPlan (busWith j (rcaOf j k gets)) (phaseOf (j .asked) gets) (wordsIn j gets held g) d) h
       (data-waits (busWith j (rcaOf j k gets)) (phaseOf (j .asked) gets) (wordsIn j gets held g) h d)
@@ -58,7 +58,7 @@ closed-waits host (tells h r p) e = refl
 closed-waits host (over h a) e = cc
 closed-waits host (refused h c) e = cc
 
-module _ (c : Call) (g : List ℕ) where
+module _ (c : Call) (g : Lent) where
   pub closed-over : (x : End) → endsAt (c .at) ≡ Z.Over x
       → closedAt (c .job .host) (next (endPlan (c .job) (c .known) (wordsIn (c .job) G.Asked (c .held) g) x) (c .line)) ≡ closedOf (under g c)
   unfolding closedOf

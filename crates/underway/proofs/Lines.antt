@@ -1,18 +1,17 @@
 -- What the host holds where a call waits is the call's line; and no reading of a command is a data word.
 use Prim.Native.Nat.{ℕ}
-use mathlib.Core.Path.{_≡_, refl, ap, sym, _∙_}
+use mathlib.Core.Path.{_≡_, refl, ap, _∙_}
 use mathlib.Core.Bool.{Bool, true}
-use mathlib.Core.List.{List}
 use Rattle.tape.specs.declared.progress.Line.{Line}
 use Rattle.tape.specs.declared.rows.Row.{Row}
 use Rattle.tape.specs.declared.script.Reading.{Reading}
 use Rattle.tape.specs.Plan.{Plan, read, write, handle, until}
 use Rattle.tape.specs.Run.{noted}
-use Rattle.tape.specs.Steps.{word, row, waitIdle, setClken, dataFrom}
+use Rattle.tape.specs.Steps.{word, row, waitIdle, setClken, dataFrom, sendFrom}
 use Rattle.bus.specs.declared.response.Response.{Response}
 use Rattle.bus.specs.Command.{issue, pollCompletion, waitCompletion, responseWords}
 use Rattle.bus.specs.Ready.{retryDelay}
-use Rattle.bus.specs.Transfer.{dataComplete, pollTransfer, settle}
+use Rattle.bus.specs.Transfer.{orderData, dataComplete, pollTransfer, settle}
 use Rattle.step.specs.declared.command.Asks.{Asks}
 use Rattle.step.specs.declared.command.Asks.the-variants as A
 use Rattle.step.specs.declared.command.Command.{Command}
@@ -30,19 +29,18 @@ use Rattle.step.specs.declared.transfer.Reads.{Reads}
 use Rattle.step.specs.declared.transfer.Reads.the-variants as Re
 use Rattle.step.specs.declared.transfer.Writes.{Writes}
 use Rattle.step.specs.declared.transfer.Writes.the-variants as W
-use Rattle.step.specs.declared.wants.Wants.{Wants}
 use Rattle.step.specs.declared.wants.Wants.the-variants as Wa
 use Rattle.step.specs.Command.{shut, within, polling, tellsPlan, asksPlan, partPlan, readingOf, commandPlan}
 use Rattle.step.specs.Context.{Context, plug, plugNext, plug-read, plug-write, next-plug, wants-write}
-use Rattle.step.specs.Next.{Next, asks, tells, over, refused, next, waits, wantOf, lineOf, lineAfter, told, Handed, HandedBy}
+use Rattle.step.specs.Next.{Next, asks, tells, over, refused, next, waits, wantOf, lineOf, lineAfter, told, Handed, HandedBy, Lent}
 use Rattle.step.specs.Ready.{asked, readyPlan}
 use Rattle.step.specs.Rows.{rowsFrom}
 use Rattle.step.specs.Transfer as Phases
-use Rattle.step.specs.Transfer.{startSite, stopSite, ending, unclocked, readsPlan, writesPlan, dataPlan, readingAt, HandedAt}
+use Rattle.step.specs.Transfer.{startSite, stopSite, ending, unclocked, readsPlan, writesPlan, dataPlan, HandedAt}
 use Rattle.step.proofs.Inside.{inside-wants, command-waits}
 use Rattle.step.proofs.Parts as parts
-use Rattle.step.proofs.Phases.{reads-want, writes-want}
-use Rattle.step.proofs.Readying.{ready-waits, delay-wants}
+use Rattle.step.proofs.Phases.{reads-want, writes-want, sends-want}
+use Rattle.step.proofs.Readying.{ready-waits}
 
 plug-held : {A B : Type 0} (k : Context B A) (x : Next A) → waits x ≡ true → lineOf (plugNext k x) ≡ lineOf x
 unfolding lineOf plugNext waits
@@ -89,7 +87,7 @@ module _ (limit index argument : ℕ) (response : Response) (gate : Bool) (h : L
   part-held (P.Asks a) = asks-held a
 
   -- none of its readings is a data word
-  asks-hands : (a : Asks) (w : ℕ) (g g′ : List ℕ) → Handed (readingOf a) w g g′ → g′ ≡ g
+  asks-hands : (a : Asks) (w : ℕ) (g g′ : Lent) → Handed (readingOf a) w g g′ → g′ ≡ g
   unfolding readingOf Handed
   asks-hands (A.Idle n) w g g′ e = e
   asks-hands (A.Poll n) w g g′ e = e
@@ -99,7 +97,7 @@ module _ (limit index argument : ℕ) (response : Response) (gate : Bool) (h : L
   asks-hands (A.Third a b) w g g′ e = e
   asks-hands (A.Fourth a b c) w g g′ e = e
 
-  tells-want : (t : Tells) (w : ℕ) (g g′ : List ℕ) → HandedBy (wantOf (next (tellsPlan limit index argument response gate t) h)) w g g′ → g′ ≡ g
+  tells-want : (t : Tells) (w : ℕ) (g g′ : Lent) → HandedBy (wantOf (next (tellsPlan limit index argument response gate t) h)) w g g′ → g′ ≡ g
   unfolding tellsPlan issue setClken row handle plug next wantOf HandedBy
   tells-want T.Open w g g′ e = e
   tells-want T.Icr w g g′ e = rw (wants-write (shut gate) h _ _) at e
@@ -107,7 +105,7 @@ module _ (limit index argument : ℕ) (response : Response) (gate : Bool) (h : L
   tells-want T.Order w g g′ e = rw (wants-write (shut gate) h _ _) at e
   tells-want (T.Close x) w g g′ e = e
 
-  part-hands : (p : Part) (w : ℕ) (g g′ : List ℕ) → HandedBy (wantOf (next (partPlan limit index argument response gate p) h)) w g g′ → g′ ≡ g
+  part-hands : (p : Part) (w : ℕ) (g g′ : Lent) → HandedBy (wantOf (next (partPlan limit index argument response gate p) h)) w g g′ → g′ ≡ g
   unfolding partPlan HandedBy
   part-hands (P.Tells t) w g g′ e = tells-want t w g g′ e
   part-hands (P.Asks a) w g g′ e = asks-hands a w g g′ (rw (← parts.reads limit index argument response gate h a) at e)
@@ -115,11 +113,11 @@ module _ (limit index argument : ℕ) (response : Response) (gate : Bool) (h : L
 pub command-held : (c : Command) (h : Line) → lineOf (next (commandPlan c) h) ≡ h
 command-held c h = part-held (c .limit) (c .index) (c .argument) (c .response) (c .gate) h (c .part)
 
-pub command-hands : (c : Command) (h : Line) (w : ℕ) (g g′ : List ℕ) → HandedBy (wantOf (next (commandPlan c) h)) w g g′ → g′ ≡ g
+pub command-hands : (c : Command) (h : Line) (w : ℕ) (g g′ : Lent) → HandedBy (wantOf (next (commandPlan c) h)) w g g′ → g′ ≡ g
 command-hands c h w g g′ e = part-hands (c .limit) (c .index) (c .argument) (c .response) (c .gate) h (c .part) w g g′ e
 
 -- what is handed out at a step in its context is what is handed out at the step
-pub inside-hands : {A B : Type 0} (k : Context B A) (p : Plan A) (h : Line) (w : ℕ) (g g′ : List ℕ) → waits (next p h) ≡ true
+pub inside-hands : {A B : Type 0} (k : Context B A) (p : Plan A) (h : Line) (w : ℕ) (g g′ : Lent) → waits (next p h) ≡ true
     → HandedBy (wantOf (next (plug k p) h)) w g g′ → HandedBy (wantOf (next p h)) w g g′
 inside-hands k p h w g g′ waiting e = rw (← inside-wants k p h waiting) at e
 
@@ -130,13 +128,13 @@ module _ (bus : Bus) (h : Line) where
   ready-held (R.Asks n c) = inside-held (asked bus n) h (commandPlan c) (command-waits c h) ∙ command-held c h
   ready-held (R.Delay n) = refl
 
-  ready-hands : (r : Ready) (w : ℕ) (g g′ : List ℕ) → HandedBy (wantOf (next (readyPlan bus r) h)) w g g′ → g′ ≡ g
+  ready-hands : (r : Ready) (w : ℕ) (g g′ : Lent) → HandedBy (wantOf (next (readyPlan bus r) h)) w g g′ → g′ ≡ g
   unfolding readyPlan retryDelay row handle plug next wantOf HandedBy
   ready-hands (R.Asks n c) w g g′ e = command-hands c h w g g′ (inside-hands (asked bus n) (commandPlan c) h w g g′ (command-waits c h) e)
   ready-hands (R.Delay n) w g g′ e = e
 
 -- a data phase
-module _ (bus : Bus) (phase : Phase) (ws : List ℕ) (h : Line) where
+module _ (bus : Bus) (phase : Phase) (ws : Lent) (h : Line) where
   reads-held : (r : Reads) → lineOf (next (readsPlan bus phase ws r) h) ≡ h
   unfolding readsPlan Phases.idling Phases.polling waitIdle until dataComplete pollTransfer settle dataFrom word handle plug next lineOf
   reads-held (Re.Idle n) = refl
@@ -148,27 +146,34 @@ module _ (bus : Bus) (phase : Phase) (ws : List ℕ) (h : Line) where
   reads-held (Re.Word m) = refl
 
   writes-held : (t : Writes) → lineOf (next (writesPlan bus phase ws t) h) ≡ h
-  unfolding writesPlan unclocked ending rowsFrom setClken row handle plug next lineOf
+  unfolding writesPlan unclocked ending orderData rowsFrom setClken row handle plug next lineOf
   writes-held (W.Reset r e) = refl
   writes-held (W.Arm a) = refl
+  writes-held W.Control = refl
   writes-held W.Open = refl
   writes-held (W.Stop s) = refl
   writes-held W.Gate = refl
+
+  sends-held : (m : ℕ) → lineOf (next (dataPlan bus phase ws (D.Sends m)) h) ≡ h
+  unfolding dataPlan sendFrom row handle plug next lineOf
+  sends-held m = refl
 
   pub data-held : (d : Data) → lineOf (next (dataPlan bus phase ws d) h) ≡ h
   unfolding dataPlan
   data-held (D.Asks r) = reads-held r
   data-held (D.Tells t) = writes-held t
-  data-held (D.Start c) = inside-held (startSite bus phase) h (commandPlan c) (command-waits c h) ∙ command-held c h
+  data-held (D.Sends m) = sends-held m
+  data-held (D.Start c) = inside-held (startSite bus phase ws) h (commandPlan c) (command-waits c h) ∙ command-held c h
   data-held (D.Stop c) = inside-held (stopSite bus phase ws) h (commandPlan c) (command-waits c h) ∙ command-held c h
   data-held (D.Ready r) = inside-held (ending bus phase ws) h (readyPlan bus r) (ready-waits bus h r) ∙ ready-held bus h r
 
   -- its data words alone are handed out
-  pub data-hands : (d : Data) (w : ℕ) (g g′ : List ℕ) → HandedBy (wantOf (next (dataPlan bus phase ws d) h)) w g g′ → HandedAt phase d w g g′
+  pub data-hands : (d : Data) (w : ℕ) (g g′ : Lent) → HandedBy (wantOf (next (dataPlan bus phase ws d) h)) w g g′ → HandedAt phase d w g g′
   unfolding dataPlan HandedAt HandedBy
   data-hands (D.Asks r) w g g′ e = rw (← reads-want bus phase ws h r) at e
   data-hands (D.Tells t) w g g′ e = rw (← writes-want bus phase ws h t) at e
-  data-hands (D.Start c) w g g′ e = command-hands c h w g g′ (inside-hands (startSite bus phase) (commandPlan c) h w g g′ (command-waits c h) e)
+  data-hands (D.Sends m) w g g′ e = rw (← sends-want bus phase ws h m) at e
+  data-hands (D.Start c) w g g′ e = command-hands c h w g g′ (inside-hands (startSite bus phase ws) (commandPlan c) h w g g′ (command-waits c h) e)
   data-hands (D.Stop c) w g g′ e = command-hands c h w g g′ (inside-hands (stopSite bus phase ws) (commandPlan c) h w g g′ (command-waits c h) e)
   data-hands (D.Ready r) w g g′ e = ready-hands bus h r w g g′ (inside-hands (ending bus phase ws) (readyPlan bus r) h w g g′ (ready-waits bus h r) e)
 

@@ -2,7 +2,6 @@
 use Prim.Native.Nat.{ℕ, suc}
 use mathlib.Core.Path.{_≡_, refl, ap, sym, _∙_}
 use mathlib.Core.Bool.{true}
-use mathlib.Core.List.{List}
 use Rattle.tape.specs.declared.progress.Line.{Line}
 use Rattle.tape.specs.declared.script.Reading.the-variants as Reading
 use Rattle.tape.specs.Plan.{Plan, handle, until}
@@ -11,7 +10,7 @@ use Rattle.tape.specs.Steps.{word, row, waitIdle, setClken}
 use Rattle.bus.specs.Ready.{retryDelay}
 use Rattle.step.specs.declared.wants.Wants.the-variants as Wa
 use Rattle.step.specs.Context.{plug}
-use Rattle.step.specs.Next.{Next, tells, next, heard, told, missed, wantOf, waits, lineOf, lineAfter}
+use Rattle.step.specs.Next.{Next, tells, next, heard, told, missed, wantOf, waits, lineOf, lineAfter, Lent}
 use Rattle.step.specs.Rows.{rowsFrom}
 use Rattle.stepping.specs.Closing.{Closing, keeping, dropping, finding, accepting}
 use Rattle.stepping.specs.Ahead.{clockOn, changeSite, idling, writesPlan, rowAt, toldPlan, endPlan, powering}
@@ -111,7 +110,7 @@ module _ (j : Job) (k : Known) (h : Line) where
   row-moved t l e = ap (λ (l : Line). next (toldPlan j k t) l) e ∙ row-told t
 
   -- its end
-  module _ (ws : List ℕ) where
+  module _ (ws : Lent) where
     pub end-wants : (e : End) → Wa.Nothing ≡ wantOf (next (endPlan j k ws e) h)
     unfolding endPlan accepting finding keeping dropping next wantOf
     end-wants Z.Accepted = refl
@@ -157,5 +156,5 @@ module _ (j : Job) (k : Known) (h : Line) where
     pub end-moved : (e : End) (l : Line) → l ≡ lineAfter (next (endPlan j k ws e) h) → next (endPlan j k ws e) l ≡ told (next (endPlan j k ws e) h)
     end-moved e l same = ap (λ (l : Line). next (endPlan j k ws e) l) (same ∙ end-line e) ∙ end-told e
 
-    pub end-words : (ws′ : List ℕ) (e : End) (w : ℕ) → ws′ ≡ ws → next (endPlan j k ws′ e) h ≡ heard (next (endPlan j k ws e) h) w
-    end-words ws′ e w same = ap (λ (v : List ℕ). next (endPlan j k v e) h) same ∙ end-heard e w
+    pub end-words : (ws′ : Lent) (e : End) (w : ℕ) → ws′ ≡ ws → next (endPlan j k ws′ e) h ≡ heard (next (endPlan j k ws e) h) w
+    end-words ws′ e w same = ap (λ (v : Lent). next (endPlan j k v e) h) same ∙ end-heard e w

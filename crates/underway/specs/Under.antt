@@ -5,7 +5,7 @@ use mathlib.Core.Path.{_≡_}
 use Rattle.tape.specs.declared.progress.Line.{Line}
 use Rattle.host.specs.declared.host.Sdmmc.{Sdmmc}
 use Rattle.host.specs.Calls.{answerFor}
-use Rattle.step.specs.Next.{Next, asks, tells, over, refused, next, heard, told, missed}
+use Rattle.step.specs.Next.{Next, asks, tells, over, refused, next, heard, told, missed, Lent}
 use Rattle.step.specs.Transfer.{wordsBy, heldBy, HandedAt}
 use Rattle.stepping.specs.Ahead.{phaseOf, lineSet, atPlan}
 use Rattle.stepping.specs.Closing.{Closing}
@@ -24,8 +24,8 @@ pub record Under : Type 0 where
   pub before : Sdmmc
   pub ahead : Next Closing
 
--- `g` are the data words that were handed out so far
-abbrev pub under : List ℕ → Call → Under
+-- `g` are the words that it is to send, and those that were handed out so far
+abbrev pub under : Lent → Call → Under
 under g c = record { before = c .job .host; ahead = next (atPlan (c .job) (c .known) (c .held) g (c .at)) (c .line) }
 
 -- after a word; where no word will come; after a row; unasked, as it was
@@ -57,9 +57,9 @@ keptAt q (A.Idle c n) held w = held
 keptAt q (A.Tells t) held w = held
 keptAt q (A.Over e) held w = held
 
-unfoldable pub KeptAt : Asked → At → ℕ → List ℕ → List ℕ → List ℕ → List ℕ → Type 0
-KeptAt q (A.Command s c) w held g held′ g′ = Unit {0}
-KeptAt q (A.Ready t r) w held g held′ g′ = Unit {0}
+unfoldable pub KeptAt : Asked → At → ℕ → List ℕ → Lent → List ℕ → Lent → Type 0
+KeptAt q (A.Command s c) w held g held′ g′ = g′ .sent ≡ g .sent
+KeptAt q (A.Ready t r) w held g held′ g′ = g′ .sent ≡ g .sent
 KeptAt q (A.Data gets d) w held g held′ g′ =
     HandedAt (phaseOf q gets) d w (wordsBy (phaseOf q gets) held g) (wordsBy (phaseOf q gets) held′ g′)
 KeptAt q (A.Idle c n) w held g held′ g′ = Unit {0}

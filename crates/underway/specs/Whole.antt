@@ -15,10 +15,11 @@ use Rattle.tape.specs.declared.progress.Line.{Line}
 use Rattle.tape.specs.Plan.{Nothing, Plan, failed, hold, handle}
 use Rattle.bus.specs.Command.{appCommand}
 use Rattle.bus.specs.Ready.{waitReady}
+use Rattle.bus.specs.Transfer.{Buffer}
 use Rattle.init.specs.Initialise.{sourceOf, limitOf, initialise}
 use Rattle.host.specs.declared.host.Sdmmc.{Sdmmc}
-use Rattle.host.specs.Calls.{freshLine, readPlan, statusPlan}
-use Rattle.stepping.specs.Closing.{Closing, keeping, dropping, finding, accepting, readHost, statusHost}
+use Rattle.host.specs.Calls.{freshLine, blocksPlan, statusPlan}
+use Rattle.stepping.specs.Closing.{Closing, keeping, dropping, finding, accepting, blocksHost, statusHost}
 
 module _ (host : Sdmmc) where
   -- an initialisation with this clock of identification: it holds a fresh line before its first row
@@ -40,24 +41,25 @@ module _ (host : Sdmmc) where
   abbrev pub callPlan : Plan Nothing → Plan (List ℕ) → (Line → List ℕ → Sdmmc) → Plan Closing
   callPlan approach transfer next = handle (λ _. handle (accepting host next) (dropping host) transfer) (keeping host) approach
 
-  abbrev pub readFrom : ℕ → ℕ → Plan Closing
-  readFrom address blocks =
-      callPlan (waitReady (sourceOf (host .settings)) (host .settings .config) (host .card .rca)) (readPlan host address blocks)
-      (readHost host)
+  -- a read or a write
+  abbrev pub blocksFrom : Buffer → ℕ → ℕ → Plan Closing
+  blocksFrom buffer address blocks =
+      callPlan (waitReady (sourceOf (host .settings)) (host .settings .config) (host .card .rca)) (blocksPlan host buffer address blocks)
+      (blocksHost host)
 
-  unfoldable pub readAt : ℕ → AddressAnswer → Plan Closing
-  readAt blocks (Address.Refused e) = keeping host (failed e)
-  readAt blocks (Address.Address a) = readFrom a blocks
+  unfoldable pub blocksAt : Buffer → ℕ → AddressAnswer → Plan Closing
+  blocksAt buffer blocks (Address.Refused e) = keeping host (failed e)
+  blocksAt buffer blocks (Address.Address a) = blocksFrom buffer a blocks
 
   -- 16; 19 for a byte length not a multiple of 512, for 0 blocks or over 511; 20
-  unfoldable pub readKnown : ℕ → ℕ → Plan Closing
-  readKnown index bytes =
+  unfoldable pub blocksKnown : Buffer → ℕ → ℕ → Plan Closing
+  blocksKnown buffer index bytes =
       cond (eqb (bytes % 512) 0)
-      (readAt (bytes / 512) (addressOf (host .card .«card_type») (host .card .«block_count» .0) index (bytes / 512)))
+      (blocksAt buffer (bytes / 512) (addressOf (host .card .«card_type») (host .card .«block_count» .0) index (bytes / 512)))
       (keeping host (failed E.InvalidBufferLength))
 
-  unfoldable pub readCall : ℕ → ℕ → Plan Closing
-  readCall index bytes = cond (host .known) (readKnown index bytes) (keeping host (failed E.NoCard))
+  unfoldable pub blocksCall : Buffer → ℕ → ℕ → Plan Closing
+  blocksCall buffer index bytes = cond (host .known) (blocksKnown buffer index bytes) (keeping host (failed E.NoCard))
 
   -- 16; CMD55, and the data phase
   abbrev pub statusFrom : Plan Closing

@@ -1,14 +1,17 @@
-// The three calls at their start. One that is refused before its first step is over at once.
+// The four calls at their start. One that is refused before its first step is over at once.
 ghost use mathlib.Core.Path.{_≡_};
+ghost use mathlib.Core.Bool.{cond};
 ghost use mathlib.Core.List.{List};
 ghost use Prim.Native.Nat.{ℕ, _*_, _^_};
 ghost use Rattle.tape.specs.declared.progress.Line.{Line};
 ghost use Rattle.bus.specs.Command.{command};
+ghost use Rattle.bus.specs.Transfer.{incoming, outgoing};
 ghost use Rattle.step.specs.Context.{plug};
-ghost use Rattle.step.specs.Next.{next};
+ghost use Rattle.step.specs.Next.{next, Lent};
+ghost use Rattle.step.specs.Transfer.{blocksOf};
 ghost use Rattle.stepping.specs.Ahead.{atPlan, siteOf};
 ghost use Rattle.underway.specs.Under.{under};
-ghost use Rattle.underway.specs.Whole.{initCall, readKnown, readCall, statusCall};
+ghost use Rattle.underway.specs.Whole.{initCall, blocksFrom, blocksKnown, blocksCall, statusCall};
 ghost use Rattle.underway.specs.First.{firstPlan, askedBy, lineBy};
 use crate::call::Call;
 use bus::response::Response;
@@ -39,16 +42,17 @@ use types::register::BlockCount;
 use types::status::Scr;
 
 // What a call begins with: a refusal; the reset rows of an initialisation, by its clock of identification and the asked
-// frequency; the ready wait of a read, by its address and blocks; or CMD55 of a status call.
+// frequency; the ready wait of a read or of a write, by its address and blocks; or CMD55 of a status call.
 pub enum First {
     Refused(Error),
     Resets(Clock, u32),
-    Waits(u32, u16),
+    Reads(u32, u16),
+    Sends(u32, u16),
     App,
 }
 
 fn init_first(host: Sdmmc, frequency: u32) -> First
-    ensures { λ r. ⌜ firstPlan host r ≡ initCall host frequency ⌝ }
+    ensures { λ r. ⌜ ((sent : List ℕ) → firstPlan host sent r ≡ initCall host frequency) ⌝ }
 {
     let source = host.settings.source;
     if frequency == 0 {
@@ -64,8 +68,19 @@ fn init_first(host: Sdmmc, frequency: u32) -> First
     }
 }
 
-fn known_first(host: Sdmmc, index: u32, bytes: usize) -> First
-    ensures { λ r. ⌜ firstPlan host r ≡ readKnown host index bytes ⌝ }
+// Blocks from an address on, read or sent.
+fn moves(sends: bool, address: u32, blocks: u16) -> First
+    ensures { λ r. ⌜ ((host : Sdmmc) (sent : List ℕ) → firstPlan host sent r ≡ blocksFrom host (cond sends (outgoing sent) incoming) address (blocksOf blocks)) ⌝ }
+{
+    if sends {
+        First::Sends(address, blocks)
+    } else {
+        First::Reads(address, blocks)
+    }
+}
+
+fn known_first(host: Sdmmc, sends: bool, index: u32, bytes: usize) -> First
+    ensures { λ r. ⌜ ((sent : List ℕ) → firstPlan host sent r ≡ blocksKnown host (cond sends (outgoing sent) incoming) index bytes) ⌝ }
 {
     let card = host.card;
     let class = card.card_type;
@@ -76,23 +91,23 @@ fn known_first(host: Sdmmc, index: u32, bytes: usize) -> First
     let blocks = bytes / 512;
     let answer = block_address(class, count, index, blocks);
     match answer {
-        AddressAnswer::Address(address) => First::Waits(address, blocks as u16),
+        AddressAnswer::Address(address) => moves(sends, address, blocks as u16),
         AddressAnswer::Refused(error) => First::Refused(error),
     }
 }
 
-fn read_first(host: Sdmmc, index: u32, bytes: usize) -> First
-    ensures { λ r. ⌜ firstPlan host r ≡ readCall host index bytes ⌝ }
+fn blocks_first(host: Sdmmc, sends: bool, index: u32, bytes: usize) -> First
+    ensures { λ r. ⌜ ((sent : List ℕ) → firstPlan host sent r ≡ blocksCall host (cond sends (outgoing sent) incoming) index bytes) ⌝ }
 {
     if host.known {
-        known_first(host, index, bytes)
+        known_first(host, sends, index, bytes)
     } else {
         First::Refused(Error::NoCard)
     }
 }
 
 fn status_first(host: Sdmmc) -> First
-    ensures { λ r. ⌜ firstPlan host r ≡ statusCall host ⌝ }
+    ensures { λ r. ⌜ ((sent : List ℕ) → firstPlan host sent r ≡ statusCall host) ⌝ }
 {
     if host.known {
         First::App
@@ -107,7 +122,8 @@ fn asked(first: First) -> Asked
     match first {
         First::Refused(_) => Asked::Status,
         First::Resets(clock, frequency) => Asked::Card(clock, frequency),
-        First::Waits(address, blocks) => Asked::Blocks(address, blocks),
+        First::Reads(address, blocks) => Asked::Blocks(address, blocks),
+        First::Sends(address, blocks) => Asked::Sends(address, blocks),
         First::App => Asked::Status,
     }
 }
@@ -119,7 +135,8 @@ fn line(first: First, before: Line) -> Line
     match first {
         First::Refused(_) => before,
         First::Resets(clock, _) => fresh_line(clock.frequency),
-        First::Waits(_, _) => before,
+        First::Reads(_, _) => before,
+        First::Sends(_, _) => before,
         First::App => before,
     }
 }
@@ -150,7 +167,7 @@ fn unknown() -> Known {
 
 // CMD55 of a status call.
 fn app(limit: u32, rca: u16, gated: bool) -> At
-    ensures { λ r. ⌜ ((j : Job) (k : Known) (held g : List ℕ) (h : Line) → h .gated ≡ gated → next (atPlan j k held g r) h ≡ next (plug (siteOf j k Site.App) (command limit 55 (rca * 2 ^ 16) Response.R1)) h) ⌝ }
+    ensures { λ r. ⌜ ((j : Job) (k : Known) (held : List ℕ) (g : Lent) (h : Line) → h .gated ≡ gated → next (atPlan j k held g r) h ≡ next (plug (siteOf j k (g .sent) Site.App) (command limit 55 (rca * 2 ^ 16) Response.R1)) h) ⌝ }
 {
     let begun = Command::begin(limit, 55, rca as u32 * 0x1_0000, Response::R1, gated);
     match begun {
@@ -161,12 +178,13 @@ fn app(limit: u32, rca: u16, gated: bool) -> At
 
 // Where a call stands at its start.
 fn stands(job: Job, known: Known, gated: bool, first: First) -> At
-    ensures { λ r. ⌜ (job .asked ≡ askedBy first → (held g : List ℕ) (h : Line) → h .gated ≡ gated → next (atPlan job known held g r) (lineBy first h) ≡ next (firstPlan (job .host) first) h) ⌝ }
+    ensures { λ r. ⌜ (job .asked ≡ askedBy first → (held : List ℕ) (g : Lent) (h : Line) → h .gated ≡ gated → next (atPlan job known held g r) (lineBy first h) ≡ next (firstPlan (job .host) (g .sent) first) h) ⌝ }
 {
     match first {
         First::Refused(error) => At::Over(End::Keeping(Why::Failed(error))),
         First::Resets(_, _) => At::Tells(Writes::Reset(Reset::Mask)),
-        First::Waits(_, _) => job.waits(known, gated, Waiting::Read),
+        First::Reads(_, _) => job.waits(known, gated, Waiting::Blocks),
+        First::Sends(_, _) => job.waits(known, gated, Waiting::Blocks),
         First::App => app(
             job.host.settings.config.poll_limit,
             job.host.card.rca,
@@ -177,7 +195,7 @@ fn stands(job: Job, known: Known, gated: bool, first: First) -> At
 
 // A call at its start.
 fn begin(host: Sdmmc, first: First) -> Call
-    ensures { λ r. ⌜ ((g : List ℕ) → under g r ≡ record { before = host; ahead = next (firstPlan host first) (host .line) }) ⌝ }
+    ensures { λ r. ⌜ ((g : Lent) → under g r ≡ record { before = host; ahead = next (firstPlan host (g .sent) first) (host .line) }) ⌝ }
 {
     let before = host.line;
     let job = Job {
@@ -198,7 +216,7 @@ fn begin(host: Sdmmc, first: First) -> Call
 impl Call {
     // Initialises the card: its record, and the clock and signalling for it.
     pub fn init_card(host: Sdmmc, frequency: Hertz) -> Call
-        ensures { λ r. ⌜ ((g : List ℕ) → under g r ≡ record { before = host; ahead = next (initCall host (frequency .0)) (host .line) }) ⌝ }
+        ensures { λ r. ⌜ ((g : Lent) → under g r ≡ record { before = host; ahead = next (initCall host (frequency .0)) (host .line) }) ⌝ }
     {
         let asked = frequency.0;
         begin(host, init_first(host, asked))
@@ -206,14 +224,21 @@ impl Call {
 
     // Reads so many bytes, 512 for each block, from an index on; its words are handed out with their places.
     pub fn read_blocks(host: Sdmmc, index: u32, bytes: usize) -> Call
-        ensures { λ r. ⌜ ((g : List ℕ) → under g r ≡ record { before = host; ahead = next (readCall host index bytes) (host .line) }) ⌝ }
+        ensures { λ r. ⌜ ((g : Lent) → under g r ≡ record { before = host; ahead = next (blocksCall host incoming index bytes) (host .line) }) ⌝ }
     {
-        begin(host, read_first(host, index, bytes))
+        begin(host, blocks_first(host, false, index, bytes))
+    }
+
+    // Writes so many bytes, 512 for each block, from an index on; its words are asked for by their places.
+    pub fn write_blocks(host: Sdmmc, index: u32, bytes: usize) -> Call
+        ensures { λ r. ⌜ ((g : Lent) → under g r ≡ record { before = host; ahead = next (blocksCall host (outgoing (g .sent)) index bytes) (host .line) }) ⌝ }
+    {
+        begin(host, blocks_first(host, true, index, bytes))
     }
 
     // Reads the card's SD status, which is then in its record.
     pub fn read_sd_status(host: Sdmmc) -> Call
-        ensures { λ r. ⌜ ((g : List ℕ) → under g r ≡ record { before = host; ahead = next (statusCall host) (host .line) }) ⌝ }
+        ensures { λ r. ⌜ ((g : Lent) → under g r ≡ record { before = host; ahead = next (statusCall host) (host .line) }) ⌝ }
     {
         begin(host, status_first(host))
     }

@@ -1,10 +1,8 @@
 // What a call has come to: its answer and the next host.
 ghost use mathlib.Core.Path.{_≡_};
-ghost use mathlib.Core.List.{List};
-ghost use Prim.Native.Nat.{ℕ};
 ghost use lib.ListN.{take};
 ghost use Rattle.types.specs.Words.{sdStatusOf};
-ghost use Rattle.step.specs.Next.{next};
+ghost use Rattle.step.specs.Next.{next, Lent};
 ghost use Rattle.host.specs.Calls.{answerFor};
 ghost use Rattle.step.specs.Transfer.{allOf};
 ghost use Rattle.step.specs.Why.{causeOf};
@@ -34,9 +32,9 @@ fn status_of(held: [u32; 16]) -> [u32; 16]
     words::sd_status(held)
 }
 
-// The next host of an accepted read or status call.
+// The next host of an accepted read, write or status call.
 fn accepted(job: Job, held: [u32; 16], line: Line) -> Sdmmc
-    ensures { λ r. ⌜ ((g : List ℕ) → r ≡ hostBy (job .asked) (job .host) line (allOf (phaseBy (job .asked)) (wordsIn job Gets.Asked held g))) ⌝ }
+    ensures { λ r. ⌜ ((g : Lent) → r ≡ hostBy (job .asked) (job .host) line (allOf (phaseBy (job .asked)) (wordsIn job Gets.Asked held g))) ⌝ }
 {
     let host = job.host;
     let card = host.card;
@@ -45,6 +43,7 @@ fn accepted(job: Job, held: [u32; 16], line: Line) -> Sdmmc
         Asked::Card(_, _) => host.with(line, true, calls::with_status(card, status_of(held))),
         Asked::Status => host.with(line, true, calls::with_status(card, status_of(held))),
         Asked::Blocks(_, _) => host.with(line, host.known, card),
+        Asked::Sends(_, _) => host.with(line, host.known, card),
     }
 }
 
@@ -69,7 +68,7 @@ fn closes(answer: Answer, host: Sdmmc) -> Closed
 
 // A call that ended so.
 fn ended(job: Job, known: Known, held: [u32; 16], line: Line, end: End) -> Closed
-    ensures { λ r. ⌜ ((g : List ℕ) → r ≡ closedAt (job .host) (next (endPlan job known (wordsIn job Gets.Asked held g) end) line)) ⌝ }
+    ensures { λ r. ⌜ ((g : Lent) → r ≡ closedAt (job .host) (next (endPlan job known (wordsIn job Gets.Asked held g) end) line)) ⌝ }
 {
     let host = job.host;
     let card = host.card;
@@ -103,7 +102,7 @@ fn end_of(at: At) -> Ends
 impl Call {
     // What it has come to.
     pub fn closed(self) -> Closed
-        ensures { λ r. ⌜ ((g : List ℕ) → r ≡ closedOf (under g self)) ⌝ }
+        ensures { λ r. ⌜ ((g : Lent) → r ≡ closedOf (under g self)) ⌝ }
     {
         let job = self.job;
         let host = job.host;

@@ -3,7 +3,7 @@ ghost use mathlib.Core.Path.{_≡_};
 ghost use mathlib.Core.List.{List};
 ghost use Prim.Native.Nat.{ℕ};
 ghost use Rattle.tape.specs.declared.progress.Line.{Line};
-ghost use Rattle.step.specs.Next.{next, wantOf, heard, told, missed, lineAfter, HandedBy};
+ghost use Rattle.step.specs.Next.{next, wantOf, heard, told, missed, lineAfter, Lent, filledIn, HandedBy};
 ghost use Rattle.stepping.specs.Ahead.{busWith, rcaOf, waitRca, atPlan, standNext};
 ghost use Rattle.underway.specs.Under.{keptAt, KeptAt, lineAt, under, answered, unanswered, written};
 use crate::call::Call;
@@ -37,7 +37,7 @@ fn data_bus(job: Job, known: Known, gets: Gets) -> Bus
 // The words that a call keeps after a word: a data word goes to its place among them.
 fn kept(asked: Asked, at: At, held: [u32; 16], word: u32) -> [u32; 16]
     ensures set { λ r. ⌜ r ≡ keptAt asked at held word ⌝ }
-    ensures handed { λ r. ⌜ ((j : Job) (k : Known) (h : Line) (g g′ : List ℕ) → j .asked ≡ asked → HandedBy (wantOf (next (atPlan j k held g at) h)) word g g′ → KeptAt asked at word held g (keptAt asked at held word) g′) ⌝ }
+    ensures handed { λ r. ⌜ ((j : Job) (k : Known) (h : Line) (g g′ : Lent) → j .asked ≡ asked → HandedBy (wantOf (next (atPlan j k held g at) h)) word g g′ → KeptAt asked at word held g (keptAt asked at held word) g′) ⌝ }
 {
     match at {
         At::Command(_, _) => held,
@@ -51,7 +51,7 @@ fn kept(asked: Asked, at: At, held: [u32; 16], word: u32) -> [u32; 16]
 
 // Where a call stands after a word, which it keeps by now; unasked, where it stood.
 fn heard(job: Job, known: Known, line: Line, held: [u32; 16], at: At, word: u32) -> Stand
-    ensures { λ r. ⌜ ((before g g′ : List ℕ) → KeptAt (job .asked) at word before g held g′ → standNext job held g′ r line ≡ heard (next (atPlan job known before g at) line) word) ⌝ }
+    ensures { λ r. ⌜ ((before : List ℕ) (g g′ : Lent) → KeptAt (job .asked) at word before g held g′ → standNext job held g′ r line ≡ heard (next (atPlan job known before g at) line) word) ⌝ }
 {
     let asked = job.asked;
     let gated = line.gated;
@@ -73,7 +73,7 @@ fn heard(job: Job, known: Known, line: Line, held: [u32; 16], at: At, word: u32)
 
 // Where a call stands that no word will come for; unasked, where it stood.
 fn unheard(job: Job, known: Known, line: Line, held: [u32; 16], at: At) -> Stand
-    ensures { λ r. ⌜ ((g : List ℕ) → standNext job held g r line ≡ missed (next (atPlan job known held g at) line)) ⌝ }
+    ensures { λ r. ⌜ ((g : Lent) → standNext job held g r line ≡ missed (next (atPlan job known held g at) line)) ⌝ }
 {
     let asked = job.asked;
     let gated = line.gated;
@@ -109,7 +109,7 @@ fn line_after(known: Known, line: Line, at: At) -> Line
 
 // Where a call stands after its row, which its line has noted by now; with none to write, where it stood.
 fn moved(job: Job, known: Known, line: Line, held: [u32; 16], at: At) -> Stand
-    ensures { λ r. ⌜ ((g : List ℕ) (h : Line) → line ≡ lineAfter (next (atPlan job known held g at) h) → standNext job held g r (lineAt known at line) ≡ told (next (atPlan job known held g at) h)) ⌝ }
+    ensures { λ r. ⌜ ((g : Lent) (h : Line) → line ≡ lineAfter (next (atPlan job known held g at) h) → standNext job held g r (lineAt known at line) ≡ told (next (atPlan job known held g at) h)) ⌝ }
 {
     let asked = job.asked;
     let gate = line.gated;
@@ -133,9 +133,9 @@ fn moved(job: Job, known: Known, line: Line, held: [u32; 16], at: At) -> Stand
 }
 
 impl Call {
-    // What it waits for: a reading by its kind, a row to write, or nothing, once it is over.
+    // What it waits for: a reading by its kind, a row to write, a word of the data by its place, or nothing, once it is over.
     pub fn wants(self) -> Wants
-        ensures { λ r. ⌜ ((g : List ℕ) → r ≡ wantOf (under g self .ahead)) ⌝ }
+        ensures { λ r. ⌜ ((g : Lent) → filledIn (g .sent) r ≡ wantOf (under g self .ahead)) ⌝ }
     {
         let job = self.job;
         let asked = job.asked;
@@ -154,7 +154,7 @@ impl Call {
 
     // After the word that it asked for; unasked, as it was.
     pub fn fed(self, word: u32) -> Call
-        ensures { λ r. ⌜ ((g g′ : List ℕ) → HandedBy (wantOf (under g self .ahead)) word g g′ → under g′ r ≡ answered (under g self) word) ⌝ }
+        ensures { λ r. ⌜ ((g g′ : Lent) → HandedBy (wantOf (under g self .ahead)) word g g′ → under g′ r ≡ answered (under g self) word) ⌝ }
     {
         let job = self.job;
         let asked = job.asked;
@@ -176,7 +176,7 @@ impl Call {
 
     // Told that no word will come for its reading: it has its closing rows to write, and then ends with 21. Unasked, as it was.
     pub fn missed(self) -> Call
-        ensures { λ r. ⌜ ((g : List ℕ) → under g r ≡ unanswered (under g self)) ⌝ }
+        ensures { λ r. ⌜ ((g : Lent) → under g r ≡ unanswered (under g self)) ⌝ }
     {
         let job = self.job;
         let line = self.line;
@@ -196,7 +196,7 @@ impl Call {
 
     // With its row written, which it noted.
     fn noting(self, noted: Line) -> Call
-        ensures { λ r. ⌜ ((g : List ℕ) → noted ≡ lineAfter (under g self .ahead) → under g r ≡ written (under g self)) ⌝ }
+        ensures { λ r. ⌜ ((g : Lent) → noted ≡ lineAfter (under g self .ahead) → under g r ≡ written (under g self)) ⌝ }
     {
         let job = self.job;
         let held = self.held;
@@ -216,13 +216,14 @@ impl Call {
 
     // After its row was written; with none to write, as it was.
     pub fn went(self) -> Call
-        ensures { λ r. ⌜ ((g : List ℕ) → under g r ≡ written (under g self)) ⌝ }
+        ensures { λ r. ⌜ ((g : Lent) → under g r ≡ written (under g self)) ⌝ }
     {
         let line = self.line;
         let wants = self.wants();
         match wants {
             Wants::Read(_) => self,
             Wants::Write(row) => self.noting(line.noted(row.register, row.value)),
+            Wants::Send(_) => self.noting(line),
             Wants::Nothing => self,
         }
     }

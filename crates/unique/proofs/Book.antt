@@ -19,6 +19,9 @@ layout-call-at = determined _ λ _ _ _ p. p
 layout-contents : Unique layout.contents.Kinds.ps layout.contents.Kinds.r layout.contents.Reads.Learnt
 layout-contents = determined _ λ _ _ _ p. p
 
+layout-data-count : Unique layout.data_count.Kinds.ps layout.data_count.Kinds.r layout.data_count.Reads.Learnt
+layout-data-count = determined _ λ _ _ _ p. p
+
 layout-is-bad : Unique layout.is_bad.Kinds.ps layout.is_bad.Kinds.r layout.is_bad.Reads.Learnt
 layout-is-bad = determined _ λ _ _ _ p. p
 

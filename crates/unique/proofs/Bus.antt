@@ -82,9 +82,12 @@ response-response-form = determined _ λ _ _ _ p. p
 response-give-words : Unique response.give_words.Kinds.ps response.give_words.Kinds.r response.give_words.Reads.Learnt
 response-give-words = determined _ λ _ _ _ p i. toWords (p [] [] .same i)
 
-transfer-start-data : Unique transfer.start_data.Kinds.ps transfer.start_data.Kinds.r transfer.start_data.Reads.Learnt
-transfer-start-data = determined _ λ _ _ _ p. listed toProgress (p .same)
+transfer-of-many : Unique transfer.of_many.Kinds.ps transfer.of_many.Kinds.r transfer.of_many.Reads.Learnt
+transfer-of-many = determined _ λ _ _ _ p. p
 
 transfer-blocking-data : Unique transfer.blocking_data.Kinds.ps transfer.blocking_data.Kinds.r transfer.blocking_data.Reads.Learnt
 transfer-blocking-data =
     determined _ λ _ _ _ p. by-words (ap (λ (x : After (List ℕ)). x .state .list) (p .0 .same)) (lies-at (ap toProgress (p .0 .same)) (p .1))
+
+transfer-blocking-send : Unique transfer.blocking_send.Kinds.ps transfer.blocking_send.Kinds.r transfer.blocking_send.Reads.Learnt
+transfer-blocking-send = determined _ λ _ _ _ p. listed toProgress (p .same)

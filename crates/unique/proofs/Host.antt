@@ -25,6 +25,9 @@ host-sdmmc-blocking-read-sd-status = determined _ λ _ _ _ p. by-words (p .1) (p
 host-sdmmc-blocking-read-blocks : Unique host.Sdmmc.blocking_read_blocks.Kinds.ps host.Sdmmc.blocking_read_blocks.Kinds.r host.Sdmmc.blocking_read_blocks.Reads.Learnt
 host-sdmmc-blocking-read-blocks = determined _ λ _ _ _ p. by-words (p .1 .0) (λ i. (p .1 .1 i, p .0 i))
 
+host-sdmmc-blocking-write-blocks : Unique host.Sdmmc.blocking_write_blocks.Kinds.ps host.Sdmmc.blocking_write_blocks.Kinds.r host.Sdmmc.blocking_write_blocks.Reads.Learnt
+host-sdmmc-blocking-write-blocks = determined _ λ _ _ _ p. by-words (p .1) (p .0)
+
 host-fresh-line : Unique host.fresh_line.Kinds.ps host.fresh_line.Kinds.r host.fresh_line.Reads.Learnt
 host-fresh-line = determined _ λ _ _ _ p. p
 

@@ -1,7 +1,9 @@
 -- A line for each public function of `step`.
-use Prim.Native.Nat.{ℕ}
+use Prim.Native.Nat.{ℕ, zero, suc}
 use mathlib.Core.List.{List, [], _∷_}
-use mathlib.Core.Path.{_≡_, refl, ap, _∙_}
+use mathlib.Core.Path.{_≡_, refl, ap, sym, _∙_}
+use native.Mathlib.Omega.{arith}
+use lib.ListN.{getD}
 use Rattle.tape.specs.declared.progress.Line.{Line}
 use Rattle.tape.specs.declared.rows.Row.{Row}
 use Rattle.tape.specs.Plan.{Nothing}
@@ -17,7 +19,10 @@ use Rattle.step.specs.declared.reset.ResetStep.{ResetStep}
 use Rattle.step.specs.declared.reset.ResetStep.the-variants as RS
 use Rattle.step.specs.Arm.{armRest, armNext, stopRest, stopNext}
 use Rattle.step.specs.Command.{begunNext, commandNext, commandPlan}
-use Rattle.step.specs.Next.{Next, lineAfter, next}
+use Rattle.step.specs.declared.wants.Wants.{Wants}
+use Rattle.step.specs.declared.wants.Wants.the-variants as W
+use Rattle.step.specs.Next.{Next, Lent, lineAfter, next, filledIn}
+use Rattle.feed.specs.Turns.{lent}
 use Rattle.step.specs.Ready.{readyNext, readyPlan, waitsNext}
 use Rattle.step.specs.Reset.{restLeft, stepLeft}
 use Rattle.step.specs.Transfer.{dataNext, dataPlan, HandedAt}
@@ -54,6 +59,9 @@ ready-ready-wants = determined _ λ _ _ _ p. p
 phase-phase-transfer : Unique phase.Phase.transfer.Kinds.ps phase.Phase.transfer.Kinds.r phase.Phase.transfer.Reads.Learnt
 phase-phase-transfer = determined _ λ _ _ _ p. p
 
+phase-phase-sends : Unique phase.Phase.sends.Kinds.ps phase.Phase.sends.Kinds.r phase.Phase.sends.Reads.Learnt
+phase-phase-sends = determined _ λ _ _ _ p. p
+
 phase-phase-top : Unique phase.Phase.top.Kinds.ps phase.Phase.top.Kinds.r phase.Phase.top.Reads.Learnt
 phase-phase-top = determined _ λ _ _ _ p. p
 
@@ -63,8 +71,63 @@ phase-phase-place = determined _ λ _ _ _ p. p
 phase-phase-kept : Unique phase.Phase.kept.Kinds.ps phase.Phase.kept.Kinds.r phase.Phase.kept.Reads.Learnt
 phase-phase-kept = determined _ λ _ _ _ p. p .0
 
+-- What is wanted is told by what it comes to with the words to send, whatever they are: of two places, one list of words has a
+-- 1 at the first alone.
+
+marked : ℕ → List ℕ
+marked zero = 1 ∷ []
+marked (suc k) = 0 ∷ marked k
+
+at-mark : (k : ℕ) → getD (marked k) k 0 ≡ 1
+unfolding marked
+at-mark zero = refl
+at-mark (suc k) = at-mark k
+
+one-mark : (k k′ : ℕ) → getD (marked k) k 0 ≡ getD (marked k) k′ 0 → k ≡ k′
+unfolding marked
+one-mark zero zero e = refl
+one-mark zero (suc k′) e = absurd (omega (arith, e))
+one-mark (suc k) zero e = absurd (omega (arith, at-mark k, e))
+one-mark (suc k) (suc k′) e = ap suc (one-mark k k′ e)
+
+abbrev valueOf : Wants → ℕ
+valueOf (W.Read r) = 0
+valueOf (W.Write r) = r .value
+valueOf (W.Send k) = 0
+valueOf W.Nothing = 0
+
+abbrev kindOf : Wants → ℕ
+kindOf (W.Read r) = 0
+kindOf (W.Write r) = 1
+kindOf (W.Send k) = 2
+kindOf W.Nothing = 3
+
+-- a row is the same with every list of words
+no-row : (k : ℕ) (r : Row) → ((sent : List ℕ) → filledIn sent (W.Send k) ≡ W.Write r) → ⊥
+unfolding filledIn
+no-row k r e = omega (arith, at-mark k, ap valueOf (e (marked k)), ap valueOf (e []))
+
+pub wants-told : (x y : Wants) → ((sent : List ℕ) → filledIn sent x ≡ filledIn sent y) → x ≡ y
+unfolding filledIn
+wants-told (W.Read r) (W.Read r′) e = e []
+wants-told (W.Read r) (W.Write r′) e = e []
+wants-told (W.Read r) (W.Send k) e = absurd (omega (arith, ap kindOf (e [])))
+wants-told (W.Read r) W.Nothing e = e []
+wants-told (W.Write r) (W.Read r′) e = e []
+wants-told (W.Write r) (W.Write r′) e = e []
+wants-told (W.Write r) (W.Send k) e = absurd (no-row k r (λ sent. sym (e sent)))
+wants-told (W.Write r) W.Nothing e = e []
+wants-told (W.Send k) (W.Read r′) e = absurd (omega (arith, ap kindOf (e [])))
+wants-told (W.Send k) (W.Write r′) e = absurd (no-row k r′ e)
+wants-told (W.Send k) (W.Send k′) e = ap W.Send (one-mark k k′ (ap valueOf (e (marked k))))
+wants-told (W.Send k) W.Nothing e = absurd (omega (arith, ap kindOf (e [])))
+wants-told W.Nothing (W.Read r′) e = e []
+wants-told W.Nothing (W.Write r′) e = e []
+wants-told W.Nothing (W.Send k) e = absurd (omega (arith, ap kindOf (e [])))
+wants-told W.Nothing W.Nothing e = refl
+
 transfer-data-wants : Unique transfer.Data.wants.Kinds.ps transfer.Data.wants.Kinds.r transfer.Data.wants.Reads.Learnt
-transfer-data-wants = determined _ λ _ _ _ p. p []
+transfer-data-wants = record { same = λ _ _ x y p q i. (wants-told (x .0) (y .0) (λ sent. p (lent sent []) ∙ sym (q (lent sent []))) i, x .1) }
 
 transfer-data-keeps : Unique transfer.Data.keeps.Kinds.ps transfer.Data.keeps.Kinds.r transfer.Data.keeps.Reads.Learnt
 transfer-data-keeps = determined _ λ _ _ _ p. p .0
@@ -77,13 +140,12 @@ none = record { index = 0; argument = 0; «block_size» = 0; words = 0 }
 
 abbrev armAt : List Row → ArmStep
 armAt [] = AS.Done
-armAt (_ ∷ []) = AS.At A.Dctrl
-armAt (_ ∷ _ ∷ []) = AS.At A.Dlen
-armAt (_ ∷ _ ∷ _ ∷ []) = AS.At A.Dtimer
-armAt (_ ∷ _ ∷ _ ∷ _ ∷ []) = AS.At A.Icr
-armAt (_ ∷ _ ∷ _ ∷ _ ∷ _ ∷ []) = AS.At A.Off
-armAt (_ ∷ _ ∷ _ ∷ _ ∷ _ ∷ _ ∷ []) = AS.At A.Mask
-armAt (_ ∷ _ ∷ _ ∷ _ ∷ _ ∷ _ ∷ _ ∷ _) = AS.At A.Dctrl2
+armAt (_ ∷ []) = AS.At A.Dlen
+armAt (_ ∷ _ ∷ []) = AS.At A.Dtimer
+armAt (_ ∷ _ ∷ _ ∷ []) = AS.At A.Icr
+armAt (_ ∷ _ ∷ _ ∷ _ ∷ []) = AS.At A.Off
+armAt (_ ∷ _ ∷ _ ∷ _ ∷ _ ∷ []) = AS.At A.Mask
+armAt (_ ∷ _ ∷ _ ∷ _ ∷ _ ∷ _ ∷ _) = AS.At A.Dctrl2
 
 arm-told : (timeout : ℕ) (transfer : Transfer) (s : ArmStep) → s ≡ armAt (armNext timeout transfer s)
 unfolding armNext armRest
@@ -93,7 +155,6 @@ arm-told timeout transfer (AS.At A.Off) = refl
 arm-told timeout transfer (AS.At A.Icr) = refl
 arm-told timeout transfer (AS.At A.Dtimer) = refl
 arm-told timeout transfer (AS.At A.Dlen) = refl
-arm-told timeout transfer (AS.At A.Dctrl) = refl
 arm-told timeout transfer AS.Done = refl
 
 arm-arm-after : Unique arm.Arm.after.Kinds.ps arm.Arm.after.Kinds.r arm.Arm.after.Reads.Learnt
@@ -194,21 +255,21 @@ ready-ready-went : UniqueIn ready.Ready.went.Kinds.ps ready.Ready.went.Kinds.r r
 ready-ready-went = part-determined _ λ _ _ _ p i h same. p h same i
 
 transfer-bus-begin-data : UniqueIn ready.Bus.begin_data.Kinds.ps ready.Bus.begin_data.Kinds.r ready.Bus.begin_data.Reads.Learnt
-    {X = λ _ _. List ℕ → Line → Next (List ℕ)}
+    {X = λ _ _. Lent → Line → Next (List ℕ)}
     (λ _ a x ws h. next (dataPlan (a .0) (a .1 .0) ws (x .0)) h)
 transfer-bus-begin-data = part-determined _ λ _ _ _ p i ws h. p ws h i
 
 transfer-data-fed : UniqueIn transfer.Data.fed.Kinds.ps transfer.Data.fed.Kinds.r transfer.Data.fed.Reads.Learnt
-    {X = λ _ a. (ws ws′ : List ℕ) (h : Line) → h .gated ≡ a .1 .1 .1 .0 → HandedAt (a .1 .1 .0) (a .0) (a .1 .1 .1 .1 .0) ws ws′ → Next (List ℕ)}
+    {X = λ _ a. (ws ws′ : Lent) (h : Line) → h .gated ≡ a .1 .1 .1 .0 → HandedAt (a .1 .1 .0) (a .0) (a .1 .1 .1 .1 .0) ws ws′ → Next (List ℕ)}
     (λ _ a x ws ws′ h same handed. dataNext (a .1 .0) (a .1 .1 .0) ws′ (x .0) h)
 transfer-data-fed = part-determined _ λ _ _ _ p i ws ws′ h same handed. p ws ws′ h same handed i
 
 transfer-data-missed : UniqueIn transfer.Data.missed.Kinds.ps transfer.Data.missed.Kinds.r transfer.Data.missed.Reads.Learnt
-    {X = λ _ a. List ℕ → (h : Line) → h .gated ≡ a .1 .1 .1 .0 → Next (List ℕ)}
+    {X = λ _ a. Lent → (h : Line) → h .gated ≡ a .1 .1 .1 .0 → Next (List ℕ)}
     (λ _ a x ws h same. dataNext (a .1 .0) (a .1 .1 .0) ws (x .0) h)
 transfer-data-missed = part-determined _ λ _ _ _ p i ws h same. p ws h same i
 
 transfer-data-went : UniqueIn transfer.Data.went.Kinds.ps transfer.Data.went.Kinds.r transfer.Data.went.Reads.Learnt
-    {X = λ _ a. List ℕ → (h : Line) → h .gated ≡ a .1 .1 .1 .0 → Next (List ℕ)}
+    {X = λ _ a. Lent → (h : Line) → h .gated ≡ a .1 .1 .1 .0 → Next (List ℕ)}
     (λ _ a x ws h same. dataNext (a .1 .0) (a .1 .1 .0) ws (x .0) (lineAfter (next (dataPlan (a .1 .0) (a .1 .1 .0) ws (a .0)) h)))
 transfer-data-went = part-determined _ λ _ _ _ p i ws h same. p ws h same i

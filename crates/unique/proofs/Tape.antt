@@ -6,6 +6,7 @@ use Rattle.tape.proofs.pairs
 use Rattle.tape.proofs.progress
 use Rattle.tape.proofs.rows
 use Rattle.tape.proofs.script
+use Rattle.tape.proofs.send
 use Rattle.tape.proofs.steps
 use Rattle.unique.specs.Unique.{Unique, UniqueIn}
 use Rattle.unique.proofs.Determined.{determined, part-determined}
@@ -76,6 +77,9 @@ script-quiet = determined _ λ _ _ _ p. p
 
 script-read-word : Unique script.read_word.Kinds.ps script.read_word.Kinds.r script.read_word.Reads.Learnt
 script-read-word = determined _ λ _ _ _ p i. toWord (on-any (p Status) i)
+
+send-send-data : Unique send.send_data.Kinds.ps send.send_data.Kinds.r send.send_data.Reads.Learnt
+send-send-data = determined _ λ _ _ _ p. listed toProgress (p [] .same)
 
 steps-wait-idle : Unique steps.wait_idle.Kinds.ps steps.wait_idle.Kinds.r steps.wait_idle.Reads.Learnt
 steps-wait-idle = determined _ λ _ _ _ p i. toProgress (on-any p i)

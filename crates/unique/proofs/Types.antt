@@ -69,6 +69,9 @@ status-scr-bus-width-one = determined _ λ _ _ _ p. p
 status-scr-bus-width-four : Unique status.Scr.bus_width_four.Kinds.ps status.Scr.bus_width_four.Kinds.r status.Scr.bus_width_four.Reads.Learnt
 status-scr-bus-width-four = determined _ λ _ _ _ p. p
 
+words-little : Unique words.little.Kinds.ps words.little.Kinds.r words.little.Reads.Learnt
+words-little = determined _ λ _ _ _ p. p
+
 words-fill : Unique words.fill.Kinds.ps words.fill.Kinds.r words.fill.Reads.Learnt
 words-fill = determined _ λ _ _ _ p i. (p i, tt)
 

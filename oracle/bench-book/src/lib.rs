@@ -4,6 +4,7 @@
 pub mod book;
 pub mod pile;
 pub mod print;
+mod wrongly;
 
 pub use book::{Book, Entry, Fault};
 pub use print::{events, lines, trace, MOST_ROOM};

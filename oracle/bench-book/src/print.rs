@@ -46,7 +46,12 @@ fn run<H: Host>(book: &[u8], room: usize, text: Text, out: &mut Vec<u8>) {
     }
     for (number, entry) in (1..).zip(&entries) {
         // Only events need a watched call: the other texts are printed as fast as ever.
-        let outcome = host.call(entry.call, Feed::Script(&entry.script), room, text == Text::Events);
+        let outcome = host.call(
+            entry.call.lent(),
+            Feed::Script(&entry.script),
+            room,
+            text == Text::Events,
+        );
         if text == Text::Events {
             before_line(out, number, entry, &outcome);
         }
@@ -77,7 +82,7 @@ fn print_line(out: &mut Vec<u8>, number: u64, outcome: &Outcome) {
 /// The call as the book has it, and its events.
 fn before_line(out: &mut Vec<u8>, number: u64, entry: &Entry, outcome: &Outcome) {
     decimal(out, number);
-    for field in numbers(entry.call) {
+    for field in numbers(entry.call.lent()) {
         out.push(b' ');
         decimal(out, field);
     }

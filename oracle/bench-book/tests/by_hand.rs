@@ -125,6 +125,195 @@ fn a_block_is_read() {
     assert_eq!(second((2, 5, 1, script)), text);
 }
 
+/// The body of a write: its data and its script.
+fn body(data: &[u32], script: &[u32]) -> Vec<u32> {
+    [data, script].concat()
+}
+
+/// Data whose bytes are told apart, and a script whose words are not its.
+fn bytes(blocks: u32) -> Vec<u32> {
+    (0..128 * blocks).map(|word| 0x0403_0201 + word).collect()
+}
+
+fn sent(words: &[u32]) -> Vec<(u32, u32)> {
+    words.iter().map(|word| (12, *word)).collect()
+}
+
+/// Up to the readings of a write's command: what precedes the data phase, and its first rows.
+fn write_begins(index: u32, argument: u32, bytes: u32) -> Vec<(u32, u32)> {
+    [
+        gated(command(13, RCA)),
+        vec![(10, 0)],
+        STOP.to_vec(),
+        vec![(5, 1), (6, bytes), (2, 256)],
+        command(index, argument),
+    ]
+    .concat()
+}
+
+/// CMD13 ready, the idle wait of a data phase and the command, answered.
+fn write_answered(index: u32) -> Vec<u32> {
+    [short(13, 0x900), vec![0], short(index, 0x900)].concat()
+}
+
+const COMPLETE: [u32; 5] = [0, 0, 0x100, 0, 0];
+
+#[test]
+fn a_block_is_written() {
+    let words = bytes(1);
+    let script = [write_answered(24), COMPLETE.to_vec(), short(13, 0x900)].concat();
+    let expected = [
+        write_begins(24, 5, 512),
+        vec![(7, 153)],
+        sent(&words),
+        STOP.to_vec(),
+        vec![(2, 0)],
+        gated(command(13, RCA)),
+    ]
+    .concat();
+    let line = format!("2 answer 0 words {} rows {}\n", script.len(), expected.len());
+    let state = after(&known());
+    let text = second((4, 5, 1, body(&words, &script)));
+    // The record is as it was, and no block is printed.
+    assert_eq!(text, format!("{line}{}{state}", rows(&expected)));
+    assert_eq!((script.len(), expected.len()), (27, 153));
+    assert!(text.contains("row 7 153\nrow 12 67305985\nrow 12 67305986\n"));
+}
+
+#[test]
+fn two_blocks_are_written_and_stopped() {
+    let words = bytes(2);
+    let script = [
+        write_answered(25),
+        COMPLETE.to_vec(),
+        short(12, 0x900),
+        short(13, 0x900),
+    ]
+    .concat();
+    let expected = [
+        write_begins(25, 2_046, 1_024),
+        vec![(7, 153)],
+        sent(&words),
+        STOP.to_vec(),
+        vec![(2, 0)],
+        gated(command(12, 0)),
+        gated(command(13, RCA)),
+    ]
+    .concat();
+    let line = format!("2 answer 0 words {} rows {}\n", script.len(), expected.len());
+    let text = second((4, 2_046, 2, body(&words, &script)));
+    assert_eq!(text, format!("{line}{}{}", rows(&expected), after(&known())));
+}
+
+#[test]
+fn what_is_checked_before_a_write_leaves_everything_as_it_was() {
+    let state = after(&known());
+    for (index, blocks, answer) in [
+        (0, 0, 19),
+        (2_048, 0, 19),
+        (2_048, 1, 20),
+        (2_047, 2, 20),
+        (u32::MAX, 1, 20),
+    ] {
+        let text = second((4, index, blocks, body(&bytes(blocks), &write_answered(24))));
+        assert_eq!(text, format!("2 answer {answer} words 0 rows 0\n{state}"));
+    }
+    let none = "state clock=400000 signalling=SDR12 gated=0 clkcr=0 record=none\n";
+    for blocks in [0, 1] {
+        let text = print(&[(4, 0, blocks, bytes(blocks))], MOST_ROOM);
+        assert_eq!(text, format!("host answer 0\n{none}1 answer 16 words 0 rows 0\n{none}"));
+    }
+}
+
+#[test]
+fn a_locked_card_in_the_ready_wait_before_a_write_keeps_the_record() {
+    let text = second((4, 0, 1, body(&bytes(1), &short(13, 0x0200_0900))));
+    let expected = rows(&gated(command(13, RCA)));
+    assert_eq!(
+        text,
+        format!("2 answer 11 words 7 rows 5\n{expected}{}", after(&known()))
+    );
+}
+
+#[test]
+fn a_command_that_is_refused_sends_nothing() {
+    let script = [short(13, 0x900), vec![0], short(24, 0x8000_0900)].concat();
+    let expected = [write_begins(24, 5, 512), RESET.to_vec()].concat();
+    let text = second((4, 5, 1, body(&bytes(1), &script)));
+    let end = format!("carried 80000900\n{}", after("none"));
+    assert_eq!(text, format!("2 answer 10 words 15 rows 25\n{}{end}", rows(&expected)));
+}
+
+/// A poll of a write is a read's: overrun and start bit too, the DMA error, what remains, DCOUNT.
+#[test]
+fn a_poll_that_is_refused_comes_behind_all_words() {
+    let words = bytes(1);
+    let expected = [write_begins(24, 5, 512), vec![(7, 153)], sent(&words), RESET.to_vec()].concat();
+    for (poll, answer) in [
+        (&[0x20][..], 5),
+        (&[0x10], 6),
+        (&[0x200], 4),
+        (&[0, 0x8000_0000], 7),
+        (&[0, 0x4000_0000], 2),
+        (&[0, 0, 0x120], 5),
+        (&[0, 0, 0x100, 0x8000_0000], 7),
+        (&[0, 0, 0x1100, 0], 2),
+        (&[0, 0, 0x100, 1], 8),
+        (&[0, 0, 0x100, 0, 1], 8),
+    ] {
+        // A word more, which is not taken.
+        let script = [&write_answered(24), poll, &[0]].concat();
+        let used = script.len() - 1;
+        let text = second((4, 5, 1, body(&words, &script)));
+        let line = format!("2 answer {answer} words {used} rows {}\n", expected.len());
+        assert_eq!(text, format!("{line}{}{}", rows(&expected), after("none")), "{poll:?}");
+    }
+}
+
+/// Whatever the first DMA word says is left, all words are sent.
+#[test]
+fn what_the_dma_word_leaves_over_does_not_count_before_the_end() {
+    let words = bytes(1);
+    let poll = [0, 0x0000_0040, 0x100, 0x7fff_0000, 0];
+    let script = [write_answered(24), poll.to_vec(), short(13, 0x900)].concat();
+    let text = second((4, 5, 1, body(&words, &script)));
+    assert!(text.starts_with("2 answer 0 words 27 rows 153\n"), "{text}");
+}
+
+/// The second call of a book that has room for an initialisation, 68 rows, and for as many as asked.
+#[test]
+fn little_room_for_what_is_sent_leaves_the_host_as_before() {
+    // Not ready ten times, so that DCTRL is the 76th row.
+    let script = [short(13, 0).repeat(10), write_answered(24), COMPLETE.to_vec()].concat();
+    let data = bytes(1);
+    let mut words = vec![8_000_000, 1, 20, 1, 1, 0, 2];
+    words.extend([1, 25_000_000, 0, good_card().len() as u32]);
+    words.extend([4, 5, 1, (data.len() + script.len()) as u32]);
+    words.extend([good_card(), data.clone(), script].concat());
+    let state = after(&known());
+    let used = 7 * 10 + 15;
+    let all = [vec![(7, 153)], sent(&data), vec![(9, 0)]].concat();
+    // At DCTRL, at the first word, at another and at the last one, all words of the command were used and no other.
+    for room in [75, 76, 77, 100, 202, 203] {
+        let mut text = Vec::new();
+        trace::<Host>(&book::bytes(&words), room, &mut text);
+        let text = String::from_utf8(text).unwrap();
+        let line = format!("\n2 answer 22 words {used} rows {room}\n");
+        assert!(text.contains(&line), "{text}");
+        let last = [vec![(4, 24 + 64 + 1024)], all[..room - 75].to_vec()].concat();
+        assert!(text.ends_with(&format!("{}{state}", rows(&last))), "{text}");
+    }
+    // Behind the last word the poll was taken.
+    let mut text = Vec::new();
+    trace::<Host>(&book::bytes(&words), 204, &mut text);
+    let text = String::from_utf8(text).unwrap();
+    assert!(
+        text.contains(&format!("\n2 answer 22 words {} rows 204\n", used + 5)),
+        "{text}"
+    );
+    assert!(text.ends_with(&state));
+}
+
 #[test]
 fn the_status_is_read_and_kept() {
     let words: Vec<u32> = (1..=16).collect();

@@ -107,6 +107,62 @@ fn each_kind_of_reading_in_a_read() {
     assert!(text.starts_with(&expected), "{text}");
 }
 
+/// The events of CMD13 answered ready, and of a write's data phase up to the readings of its command.
+fn write_begins(index: u32, argument: u32, bytes: u32) -> String {
+    let command = |index: u32, argument: u32, word: u32| {
+        format!(
+            "read status 0x00000000\nrow 8 197\nrow 3 {argument}\nrow 4 {}\nread status 0x00000040\n\
+            read respcmd 0x{index:08x}\nread response 0 0x{word:08x}\n\
+            read response 1 0x00000000\nread response 2 0x00000000\nread response 3 0x00000000\n",
+            index + 64 + 1_024
+        )
+    };
+    format!(
+        "row 2 256\n{}row 2 0\nread status 0x00000000\nrow 10 0\nrow 9 0\nrow 7 0\nrow 8 1850\nrow 5 1\nrow 6 {bytes}\n\
+        row 2 256\n{}",
+        command(13, 0x1234_0000, 0x900),
+        command(index, argument, 0)
+    )
+}
+
+const POLL: &str = "read status 0x00000000\nread dma 0x00000000\nread status 0x00000100\nread dma 0x00000000\n\
+    read dcount 0x00000000\n";
+
+#[test]
+fn a_write_sends_its_words_between_dctrl_and_the_first_poll() {
+    let words: Vec<u32> = (0..256).map(|word| 0x1111_0000 + word).collect();
+    let script = [short(13, 0x900), data(25, &[]), short(12, 0), short(13, 0x900)].concat();
+    let sent: String = words.iter().map(|word| format!("row 12 {word}\n")).collect();
+    let expected = format!(
+        "2 4 7 2\n{}row 7 153\n{sent}{POLL}row 9 0\nrow 7 0\nrow 8 1850\nrow 2 0\nrow 2 256\nread status 0x00000000\n",
+        write_begins(25, 7, 1_024)
+    );
+    let text = second((4, 7, 2, [words, script.clone()].concat()));
+    assert!(text.starts_with(&expected), "{text}");
+    let line = format!("\n2 answer 0 words {} rows 286\nstate ", script.len());
+    assert!(text.contains(&line), "{text}");
+    assert!(!text.contains("read data"));
+}
+
+#[test]
+fn a_write_whose_script_ends_before_its_first_poll_has_sent_its_words() {
+    let words = vec![5; 128];
+    let script = [short(13, 0x900), vec![0], short(24, 0)].concat();
+    let sent = "row 12 5\n".repeat(128);
+    let expected = format!(
+        "2 4 7 1\n{}row 7 153\n{sent}read status none\n{RESET}2 answer 21 words 15 rows 154\nstate ",
+        write_begins(24, 7, 512)
+    );
+    let text = second((4, 7, 1, [words.clone(), script.clone()].concat()));
+    assert!(text.starts_with(&expected), "{text}");
+    assert!(text.ends_with("record=none\n"));
+    // One word less, and the command was not answered: nothing was sent.
+    let text = second((4, 7, 1, [&words[..], &script[..14]].concat()));
+    assert!(!text.contains("row 12") && !text.contains("row 7 153"), "{text}");
+    let end = format!("read response 3 none\n{RESET}2 answer 21 words 14 rows 25\nstate ");
+    assert!(text.contains(&end), "{text}");
+}
+
 #[test]
 fn a_refused_book_or_host_has_one_line() {
     for book in [vec![0; 3], vec![0; 44], book::bytes(&[1, 1, 1, 1, 1, 0, 1, 3, 0, 0, 0])] {

@@ -1,6 +1,7 @@
 //! Which books get 23, and piles.
 
-use oracle_bench_book::{book, pile, Book, Fault};
+use oracle_bench_book::{book, pile, Book, Entry, Fault};
+use oracle_driver::KeptCall;
 
 /// Two calls with scripts of two and three words.
 fn sound() -> Vec<u32> {
@@ -31,7 +32,7 @@ fn each_cause_is_told() {
     assert_eq!(judged(|words| words[6] = 0), Some(Fault::NumberOfCalls));
     assert_eq!(judged(|words| words[6] = 65), Some(Fault::NumberOfCalls));
     assert_eq!(judged(|words| words[7] = 0), Some(Fault::Kind));
-    assert_eq!(judged(|words| words[7] = 4), Some(Fault::Kind));
+    assert_eq!(judged(|words| words[7] = 5), Some(Fault::Kind));
     assert_eq!(judged(|words| words[9] = 1), Some(Fault::NotZero));
     assert_eq!(judged(|words| words[7] = 3), Some(Fault::NotZero));
     assert_eq!(judged(|words| (words[11], words[12]) = (3, 0)), Some(Fault::NotZero));
@@ -46,6 +47,73 @@ fn each_cause_is_told() {
     for length in 0..15 {
         assert_eq!(judged(|words| words.truncate(length)), Some(Fault::CutShort));
     }
+}
+
+/// A write of so many blocks whose row counts this many words, which are there.
+fn write(index: u32, blocks: u32, body: usize) -> Result<Book, Fault> {
+    let mut words = vec![8_000_000, 1, 1, 1, 1, 0, 1, 4, index, blocks, body as u32];
+    words.extend(0..body as u32);
+    Book::read(&book::bytes(&words))
+}
+
+#[test]
+fn the_body_of_a_write_starts_with_its_data() {
+    for (index, blocks, script) in [(0, 1, 0), (7, 2, 3), (u32::MAX, 16, 100), (9, 0, 0), (9, 0, 5)] {
+        let data = 128 * blocks as usize;
+        let read = write(index, blocks, data + script).unwrap();
+        let Entry { call, script: rest } = &read.entries[0];
+        let words: Vec<u32> = (0..(data + script) as u32).collect();
+        assert_eq!((call.data(), &rest[..]), words.split_at(data));
+        let KeptCall::Write { index: at, data } = call else {
+            panic!("kind 4 is a write");
+        };
+        assert_eq!((*at, data.len()), (index, blocks as usize));
+        // And written again, the row counts all.
+        assert_eq!(
+            read.words()[7..],
+            [vec![4, index, blocks, words.len() as u32], words].concat()
+        );
+    }
+}
+
+#[test]
+fn a_body_shorter_than_its_data_is_told() {
+    for blocks in 1..=16 {
+        let data = 128 * blocks as usize;
+        for body in [0, 1, data - 128, data - 1] {
+            assert_eq!(
+                write(0, blocks, body).err(),
+                Some(Fault::DataCutShort),
+                "{blocks}, {body}"
+            );
+        }
+        assert!(write(0, blocks, data).is_ok());
+    }
+}
+
+#[test]
+fn a_write_of_over_16_blocks_is_told_whatever_its_body() {
+    for blocks in [17, 18, 256, u32::MAX] {
+        for body in [0, 128 * 17, 128 * 18] {
+            assert_eq!(write(0, blocks, body).err(), Some(Fault::TooManyToWrite));
+        }
+    }
+}
+
+#[test]
+fn the_data_of_one_call_is_not_the_next_ones() {
+    // A write of one block without a script, then a status call with two words.
+    let mut words = vec![8_000_000, 1, 1, 1, 1, 0, 2, 4, 1, 1, 128, 3, 0, 0, 2];
+    words.extend(1..=130);
+    let read = Book::read(&book::bytes(&words)).unwrap();
+    assert_eq!(read.entries[0].call.data(), Vec::from_iter(1..=128));
+    assert!(read.entries[0].script.is_empty());
+    assert_eq!(read.entries[1].script, [129, 130]);
+    // The same words, counted to the wrong call.
+    (words[10], words[14]) = (127, 3);
+    assert_eq!(Book::read(&book::bytes(&words)).err(), Some(Fault::DataCutShort));
+    (words[10], words[14]) = (128, 3);
+    assert_eq!(Book::read(&book::bytes(&words)).err(), Some(Fault::ScriptLengths));
 }
 
 #[test]

@@ -3,7 +3,7 @@
 
 use oracle_bench_book::{events, trace, MOST_ROOM};
 use oracle_driver::Host;
-use oracle_model::{aside, generate, leaves, rng::Rng};
+use oracle_model::{aside, generate, leaves, rng::Rng, settings};
 use oracle_paper as paper;
 use oracle_paper::asked;
 use oracle_paper::telling::without_fields;
@@ -31,7 +31,7 @@ fn on_books(seed: u64, count: u64) -> Result<u64, String> {
     let mut aside = 0;
     for k in 1..=count {
         let book = generate::book(seed, k);
-        let little = Rng::nth(!seed, k).below(120) as usize;
+        let little = settings::little_room(&mut Rng::nth(!seed, k));
         for room in [MOST_ROOM, little] {
             if text::<asked::Host>(&book, room) != without_fields(|| text::<paper::Host>(&book, room)) {
                 return Err(format!(

@@ -10,9 +10,6 @@ use oracle_model::sample::Sample;
 
 use crate::written;
 
-/// Small books are asked first, larger ones for what is then still missing.
-const MOST_BYTES: [usize; 5] = [600, 1_200, 2_400, 6_000, usize::MAX];
-
 /// The books of the pile `kept` come first, needed or not: what names a book of a
 /// sample by its number still finds it when the sample is made again.
 pub fn sample(seed: u64, count: u64, kept: Option<&str>) -> Result<(), String> {
@@ -20,16 +17,14 @@ pub fn sample(seed: u64, count: u64, kept: Option<&str>) -> Result<(), String> {
     let mut out = BufWriter::new(io::stdout().lock());
     let mut sample = Sample::default();
     for (k, book) in (1..).zip(&kept) {
-        sample.takes(book, &mut Rng::nth(seed, k));
+        sample.has(book, &mut Rng::nth(seed, k));
         written(pile::write_book(&mut out, book))?;
     }
-    for most in MOST_BYTES {
-        for k in 1..=count {
-            let book = generate::book(seed, k);
-            if book.len() <= most && sample.takes(&book, &mut Rng::nth(seed, k)) {
-                written(pile::write_book(&mut out, &book))?;
-            }
-        }
+    for k in 1..=count {
+        sample.may_have(generate::book(seed, k), &mut Rng::nth(seed, k));
+    }
+    for book in sample.chosen() {
+        written(pile::write_book(&mut out, &book))?;
     }
     written(out.flush())
 }

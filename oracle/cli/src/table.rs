@@ -13,7 +13,7 @@ use oracle_model::rng::Rng;
 
 use crate::written;
 
-const KINDS: [&str; 3] = ["initialise", "read", "status"];
+const KINDS: [&str; 4] = ["initialise", "read", "write", "status"];
 
 pub fn coverage(seed: u64, count: u64) -> Result<(), String> {
     let mut coverage = Coverage::default();
@@ -44,8 +44,15 @@ fn unexpected(coverage: &Coverage) -> Vec<String> {
         strange(&coverage.arms, &expected::arms()),
         strange(&coverage.ended, &expected::ends()),
         strange(&coverage.closings, &KINDS.map(expected::closings).concat()),
+        strange(&coverage.calls, &answers()),
     ]
     .concat()
+}
+
+/// Kinds and the answers that they can have.
+fn answers() -> Vec<(&'static str, u8)> {
+    let of = |kind| expected::answers(kind).into_iter().map(move |answer| (kind, answer));
+    KINDS.into_iter().flat_map(of).collect()
 }
 
 struct Table {
@@ -105,17 +112,24 @@ impl Table {
 
     fn answers(&mut self, coverage: &Coverage) {
         self.line("\ncalls by kind and answer (18, 23 and 17 of a host stand below)");
-        self.line("answer  initialise        read      status");
+        self.kinds("answer");
+        let can = answers();
         for answer in 0..=21 {
-            let count = |kind| coverage.calls.get(&(kind, answer)).copied().unwrap_or(0);
-            let counts = KINDS.map(count);
-            if counts != [0; 3] {
-                self.line(&format!(
-                    "{answer:6} {:11} {:11} {:11}",
-                    counts[0], counts[1], counts[2]
-                ));
+            if !KINDS.iter().any(|kind| can.contains(&(*kind, answer))) {
+                continue;
             }
+            let mut text = format!("{answer:<14}");
+            for kind in KINDS {
+                let cell = self.cell_if(can.contains(&(kind, answer)), &coverage.calls, (kind, answer));
+                text.push_str(&format!("{cell:>11}"));
+            }
+            self.line(&text);
         }
+    }
+
+    fn kinds(&mut self, first: &str) {
+        let names: String = KINDS.iter().map(|kind| format!("{kind:>11}")).collect();
+        self.line(&format!("{first:14}{names}"));
     }
 
     fn making(&mut self, coverage: &Coverage) {
@@ -130,11 +144,21 @@ impl Table {
             Fault::Kind,
             Fault::NotZero,
             Fault::TooManyBlocks,
+            Fault::TooManyToWrite,
             Fault::ScriptLengths,
+            Fault::DataCutShort,
         ];
         for fault in faults {
             let count = self.cell(&coverage.bad_books, fault);
             self.line(&format!("{count:8} {fault:?}"));
+        }
+        for data in expected::TOO_MANY {
+            let count = self.cell(&coverage.too_many, data);
+            self.line(&format!("{count:8} TooManyToWrite: {data}"));
+        }
+        for shortage in expected::SHORTAGES {
+            let count = self.cell(&coverage.shortages, shortage);
+            self.line(&format!("{count:8} DataCutShort: {shortage}"));
         }
         self.line("\nhosts refused");
         let causes = [
@@ -177,16 +201,25 @@ impl Table {
             }
             self.line(&text);
         }
-        self.line("\naccepted reads");
-        for how_many in ["one block", "many blocks"] {
-            let count = self.cell(&coverage.reads, how_many);
-            self.line(&format!("{count:8} {how_many}"));
+        self.line("\naccepted reads and writes, and those of no blocks past the card, refused for having none");
+        for kind in ["read", "write"] {
+            for what in expected::BLOCKS {
+                let count = self.cell(&coverage.blocks, (kind, what));
+                self.line(&format!("{count:8} {kind}: {what}"));
+            }
+        }
+        let count = self.cell(&coverage.blocks, ("read", "as written before"));
+        self.line(&format!("{count:8} read: as written before"));
+        self.line("\nbodies of writes");
+        for body in expected::BODIES {
+            let count = self.cell(&coverage.bodies, body);
+            self.line(&format!("{count:8} {body}"));
         }
     }
 
     /// A command's cells, but for those that cannot be.
     fn row(&mut self, counts: &BTreeMap<Arm, u64>, site: &Site, names: &[&'static str], can: &[&str]) -> String {
-        let mut text = format!("{:20}", site.name);
+        let mut text = format!("{:28}", site.name);
         for name in names {
             let cell = self.cell_if(can.contains(name), counts, (site.name, *name));
             text.push_str(&format!("{cell:>9}"));
@@ -200,7 +233,7 @@ impl Table {
             .iter()
             .map(|cause| format!("{:>9}", short(cause)))
             .collect();
-        self.line(&format!("{:20}{names}", ""));
+        self.line(&format!("{:28}{names}", ""));
         for site in expected::SITES.iter().filter(|site| !site.command.is_empty()) {
             let row = self.row(&coverage.arms, site, &expected::COMMAND, site.command);
             self.line(&row);
@@ -243,7 +276,7 @@ impl Table {
     fn ends(&mut self, coverage: &Coverage) {
         self.line("\nscript ended (21) in a command, by the reading that found no word; what closed the call");
         let names: String = expected::COMMAND_ENDS.iter().map(|step| format!("{step:>9}")).collect();
-        self.line(&format!("{:20}{names}", ""));
+        self.line(&format!("{:28}{names}", ""));
         for site in expected::SITES.iter().filter(|site| !site.ends.is_empty()) {
             let row = self.row(&coverage.ended, site, &expected::COMMAND_ENDS, site.ends);
             self.line(&format!("{row}  {}", expected::closed_by(site.name)));
@@ -254,13 +287,22 @@ impl Table {
 
     fn full(&mut self, coverage: &Coverage) {
         self.line("\ntrace full (22) with less room than a call needs, by the register without room");
-        self.line(&format!("{:14}{:>11}{:>11}{:>11}", "", KINDS[0], KINDS[1], KINDS[2]));
-        for register in 1..=11 {
-            let counts = KINDS.map(|kind| self.cell(&coverage.full, (kind, register)));
-            self.line(&format!(
-                "{register:<14}{:11}{:11}{:11}",
-                counts[0], counts[1], counts[2]
-            ));
+        self.kinds("");
+        for register in 1..=12 {
+            let mut text = format!("{register:<14}");
+            for kind in KINDS {
+                // Words are sent by writes alone.
+                let cell = self.cell_if(register != 12 || kind == "write", &coverage.full, (kind, register));
+                text.push_str(&format!("{cell:>11}"));
+            }
+            self.line(&text);
+        }
+        self.line("\ntrace full (22) in a write, at DCTRL or among the words that it sends");
+        for how_many in ["one block", "many blocks"] {
+            for row in expected::SENDING {
+                let count = self.cell(&coverage.sending, (how_many, row));
+                self.line(&format!("{count:8} {how_many}: {row}"));
+            }
         }
         self.line("\ntrace full (22) among the closing rows of a script that ended, by the row without room");
         for (kind, shape, row) in KINDS.map(expected::closings).concat() {

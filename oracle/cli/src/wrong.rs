@@ -5,7 +5,7 @@ use std::panic::{catch_unwind, set_hook, take_hook};
 use oracle_bench_book::{events, trace, MOST_ROOM};
 use oracle_driver::{switchable, wrong};
 use oracle_model::leaves::{each, Leaf};
-use oracle_model::{generate, rng::Rng};
+use oracle_model::{generate, rng::Rng, settings};
 use oracle_paper as paper;
 use oracle_paper::asked;
 use oracle_paper::wrong::Wrong;
@@ -40,7 +40,7 @@ fn both(print: Print, book: &[u8], room: usize) -> Vec<u8> {
 
 fn case(seed: u64, k: u64) -> Case {
     let book = generate::book(seed, k);
-    let room = Rng::nth(seed ^ 0x5eed, k).below(120) as usize;
+    let room = settings::little_room(&mut Rng::nth(seed ^ 0x5eed, k));
     let right = both(trace::<asked::Host>, &book, room);
     Case { book, room, right }
 }

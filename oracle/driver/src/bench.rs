@@ -4,6 +4,7 @@
 //! Upstream's registers are places that exist once, so this is one bench a
 //! thread; a host puts its own registers on it for the time of a call.
 
+pub mod fifo;
 pub mod lean;
 
 use std::cell::RefCell;
@@ -12,11 +13,13 @@ use std::thread::panicking;
 
 use crate::wrong;
 
-/// Rows are numbered 1 to 11, so 0 is unused.
+/// What reads back: rows are numbered from 1, so 0 is unused. Delays and the FIFO, 11 and 12, do not.
 pub type Registers = [u32; 11];
 
 pub const CLKCR: usize = 2;
+const DCTRL: u32 = 7;
 const DELAY: u32 = 11;
+pub const FIFO: u32 = 12;
 
 /// What a host asks the bench for.
 #[derive(Clone, Copy, Debug, Eq, Hash, Ord, PartialEq, PartialOrd)]
@@ -97,6 +100,8 @@ struct Bench {
     events: Vec<Event>,
     /// Something was read while the driver unwound.
     read_late: bool,
+    /// A wrong host goes on without room.
+    roomless: bool,
 }
 
 thread_local! {
@@ -113,6 +118,7 @@ thread_local! {
             watched: false,
             events: Vec::new(),
             read_late: false,
+            roomless: false,
         })
     };
 }
@@ -146,6 +152,7 @@ pub fn begin(source: u32, registers: Registers, feed: Feed<'_>, room: usize, wat
         bench.used = 0;
         bench.watched = watched;
         bench.read_late = false;
+        bench.roomless = false;
     });
 }
 
@@ -222,7 +229,7 @@ impl Bench {
         }
         if self.mode != Mode::Off {
             if self.rows.len() == self.room {
-                return self.full(register);
+                return self.full(register, value);
             }
             self.rows.push((register, value));
             self.watch(Event::Row(register, value));
@@ -239,13 +246,25 @@ impl Bench {
     /// A row without room. A guard writes its rows while the driver unwinds
     /// already: then it is noted here, and that unwinding goes on.
     #[cold]
-    fn full(&mut self, register: u32) -> Result<(), Stop> {
+    fn full(&mut self, register: u32, value: u32) -> Result<(), Stop> {
+        if self.goes_on_wrongly(register) {
+            if let Some(last) = self.registers.get_mut(register as usize) {
+                *last = value;
+            }
+            return Ok(());
+        }
         self.mode = Mode::Stopped(Stop::TraceFull);
         self.watch(Event::Full(register));
         match panicking() {
             true => Ok(()),
             false => Err(Stop::TraceFull),
         }
+    }
+
+    /// Whether a wrong host makes nothing of a row without room.
+    fn goes_on_wrongly(&mut self, register: u32) -> bool {
+        self.roomless |= register == FIFO && wrong::is(wrong::FIFO_FULL_ACCEPTED);
+        self.roomless || register == FIFO && wrong::is(wrong::FIFO_WITHOUT_ROOM)
     }
 }
 
@@ -264,6 +283,14 @@ pub fn read(reading: Reading) -> u32 {
 }
 
 pub fn write(register: u32, value: u32) {
+    match register == DCTRL && fifo::asks(value) {
+        true => fifo::armed(value),
+        false => put(register, value),
+    }
+}
+
+/// A row, and nothing that it makes the controller do.
+fn put(register: u32, value: u32) {
     if lean::on() {
         return stop(lean::put(register, value));
     }

@@ -4,11 +4,9 @@
 //! 16 bits are the remaining count. `has_error`, which the driver always asks
 //! first, takes the word; the other two look at the word last taken.
 
-use core::marker::PhantomData;
-
 use embassy_hal_internal::{Peri, PeripheralType};
 
-use crate::bench::{self, Reading};
+use crate::bench::{self, fifo, Reading};
 use crate::wrong;
 
 pub type Request = ();
@@ -38,9 +36,13 @@ impl Channel for AnyChannel {}
 
 pub struct Transfer<'a> {
     word: u32,
-    /// What a read fills; a write has none.
-    buffer: Option<&'a mut [u32]>,
-    held: PhantomData<&'a ()>,
+    way: Way<'a>,
+}
+
+/// What a read fills, and what a write sends.
+enum Way<'a> {
+    In(&'a mut [u32]),
+    Out(&'a [u32]),
 }
 
 impl<'a> Transfer<'a> {
@@ -53,11 +55,8 @@ impl<'a> Transfer<'a> {
         buffer: &'a mut [u32],
         _options: TransferOptions,
     ) -> Self {
-        Self {
-            word: 0,
-            buffer: Some(buffer),
-            held: PhantomData,
-        }
+        let way = Way::In(buffer);
+        Self { word: 0, way }
     }
 
     /// # Safety
@@ -65,15 +64,14 @@ impl<'a> Transfer<'a> {
     pub unsafe fn new_write_checked<C: Channel>(
         _channel: Peri<'a, C>,
         _request: Request,
-        _buffer: &'a [u32],
+        buffer: &'a [u32],
         _to: *mut u32,
         _options: TransferOptions,
     ) -> Self {
-        Self {
-            word: 0,
-            buffer: None,
-            held: PhantomData,
-        }
+        // SAFETY: the buffer is lent for as long as the transfer lives, whose end lets the channel go.
+        unsafe { fifo::set(buffer) };
+        let way = Way::Out(buffer);
+        Self { word: 0, way }
     }
 
     pub fn has_error(&mut self) -> bool {
@@ -83,7 +81,14 @@ impl<'a> Transfer<'a> {
             Reading::Dma
         };
         self.word = bench::read(reading);
+        fifo::remaining(self.word);
         self.word >> 31 != 0
+    }
+
+    /// Only wrong hosts ask.
+    #[allow(dead_code)]
+    pub fn sends(&self) -> bool {
+        matches!(self.way, Way::Out(_))
     }
 
     pub fn is_running(&mut self) -> bool {
@@ -97,16 +102,38 @@ impl<'a> Transfer<'a> {
         self.word as u16
     }
 
-    /// The data words arrive, straight after the poll that completes.
+    /// The data words arrive, straight after the poll that completes. Those of a write have gone out before.
     pub fn land(&mut self) {
+        let words = match &mut self.way {
+            Way::In(words) => words,
+            Way::Out(words) => return landed_wrongly(words.len()),
+        };
         let counted = u16::from(!wrong::is(wrong::DATA_PLACE_STAYS));
-        for (place, slot) in self.buffer.iter_mut().flat_map(|words| words.iter_mut()).enumerate() {
+        for (place, slot) in words.iter_mut().enumerate() {
             let word = bench::read(Reading::Data(place as u16 * counted));
             *slot = if wrong::is(wrong::DATA_BIG_ENDIAN) {
                 word.swap_bytes()
             } else {
                 word
             };
+        }
+    }
+}
+
+impl Drop for Transfer<'_> {
+    fn drop(&mut self) {
+        if let Way::Out(_) = self.way {
+            fifo::let_go();
+        }
+    }
+}
+
+/// What the wrong hosts do where a write of so many words completes; the right one does nothing.
+fn landed_wrongly(words: usize) {
+    fifo::completed();
+    if wrong::is(wrong::WRITE_TAKES_DATA) {
+        for place in 0..words {
+            bench::read(Reading::Data(place as u16));
         }
     }
 }

@@ -14,11 +14,59 @@ pub struct Settings {
     pub wide: bool,
 }
 
+/// A block's words, in the order sent; its bytes are theirs, the low one first.
+pub type Block = [u32; 128];
+
+/// A call, whose data, if it is a write, is kept or lent.
 #[derive(Clone, Copy, Debug, Eq, Hash, PartialEq)]
-pub enum Call {
+pub enum CallOf<D> {
     Initialise { frequency: u32 },
     Read { index: u32, blocks: usize },
     Status,
+    Write { index: u32, data: D },
+}
+
+/// As a host gets it: the data is lent.
+pub type Call<'a> = CallOf<&'a [Block]>;
+
+/// As a book has it.
+pub type KeptCall = CallOf<Vec<Block>>;
+
+impl<D: AsRef<[Block]>> CallOf<D> {
+    pub fn lent(&self) -> Call<'_> {
+        match self {
+            CallOf::Initialise { frequency } => Call::Initialise { frequency: *frequency },
+            CallOf::Read { index, blocks } => Call::Read {
+                index: *index,
+                blocks: *blocks,
+            },
+            CallOf::Status => Call::Status,
+            CallOf::Write { index, data } => Call::Write {
+                index: *index,
+                data: data.as_ref(),
+            },
+        }
+    }
+
+    pub fn kept(&self) -> KeptCall {
+        match self.lent() {
+            Call::Initialise { frequency } => KeptCall::Initialise { frequency },
+            Call::Read { index, blocks } => KeptCall::Read { index, blocks },
+            Call::Status => KeptCall::Status,
+            Call::Write { index, data } => KeptCall::Write {
+                index,
+                data: data.to_vec(),
+            },
+        }
+    }
+
+    /// The words of a write's data, else none.
+    pub fn data(&self) -> &[u32] {
+        match self {
+            CallOf::Write { data, .. } => data.as_ref().as_flattened(),
+            _ => &[],
+        }
+    }
 }
 
 /// UnsupportedCardType, the one answer with a field.
@@ -77,7 +125,7 @@ pub trait Host: Sized {
 
     /// The host, or the number with which it is refused.
     fn make(settings: &Settings) -> Result<Self, u8>;
-    fn call(&mut self, call: Call, feed: Feed<'_>, room: usize, watched: bool) -> Outcome;
+    fn call(&mut self, call: Call<'_>, feed: Feed<'_>, room: usize, watched: bool) -> Outcome;
     fn state(&self) -> State;
     fn snapshot(&self) -> Self::Snapshot;
     fn restore(&mut self, before: &Self::Snapshot);

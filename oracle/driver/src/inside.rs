@@ -7,10 +7,10 @@ use std::panic::{catch_unwind, resume_unwind, AssertUnwindSafe};
 use sdio_host::{CardCapacity, SDStatus, CID, CSD, OCR, SCR};
 
 use super::{types, Card, Config, DataBlock, Error, Sdmmc, Signalling};
-use crate::bench::{self, Feed, Registers, Stop};
+use crate::bench::{self, Feed, Registers, Stop, FIFO};
 use crate::dma::AnyChannel;
 use crate::gpio::AnyPin;
-use crate::host::{self, Call, Outcome, Record, Settings, State};
+use crate::host::{self, Block, Call, Outcome, Record, Settings, State};
 use crate::interrupt::Nobody;
 use crate::time::Hertz;
 use crate::{peripherals, wrong, Peri};
@@ -58,7 +58,7 @@ impl host::Host for Host {
         })
     }
 
-    fn call(&mut self, call: Call, feed: Feed<'_>, room: usize, watched: bool) -> Outcome {
+    fn call(&mut self, call: Call<'_>, feed: Feed<'_>, room: usize, watched: bool) -> Outcome {
         let before = self.snapshot();
         bench::begin(self.source, self.registers, feed, room, watched);
         let ended = catch_unwind(AssertUnwindSafe(|| self.run(call)));
@@ -68,7 +68,7 @@ impl host::Host for Host {
             answer: 0,
             carried: 0,
             field: None,
-            words_used: kept.used,
+            words_used: kept.used + counted_wrongly(call),
             rows: kept.rows,
             status: None,
             blocks: Vec::new(),
@@ -140,13 +140,26 @@ pub fn blocks(count: usize) -> Vec<DataBlock> {
     vec![DataBlock([0; 512]); count]
 }
 
+/// Blocks for a bare write to send.
+pub fn filled(data: &[Block]) -> Vec<DataBlock> {
+    let mut blocks = blocks(data.len());
+    for (block, words) in blocks.iter_mut().zip(data) {
+        for (bytes, word) in block.chunks_exact_mut(4).zip(words) {
+            bytes.copy_from_slice(&word.to_le_bytes());
+        }
+    }
+    blocks
+}
+
 impl Host {
-    /// For measuring: the driver's own call and nothing around it, on whichever bench is on. True where it is accepted.
-    pub fn bare(&mut self, call: Call, blocks: &mut [DataBlock]) -> bool {
+    /// For measuring: the driver's own call and nothing around it, on whichever bench is on. A read fills the blocks, a write
+    /// sends them: they stand for its data. True where it is accepted.
+    pub fn bare(&mut self, call: Call<'_>, blocks: &mut [DataBlock]) -> bool {
         match call {
             Call::Initialise { frequency } => self.driver.blocking_init_card(Hertz(frequency)).is_ok(),
             Call::Read { index, .. } => self.driver.blocking_read_blocks(index, blocks).is_ok(),
             Call::Status => self.driver.blocking_read_sd_status().is_ok(),
+            Call::Write { index, .. } => self.driver.blocking_write_blocks(index, blocks).is_ok(),
         }
     }
 
@@ -158,6 +171,9 @@ impl Host {
             Stop::TraceFull => {
                 outcome.answer = host::TRACE_FULL;
                 self.as_before(before);
+                if let Some((FIFO, _)) = outcome.rows.last() {
+                    self.full_wrongly();
+                }
             }
         }
     }
@@ -170,6 +186,16 @@ impl Host {
         host::Host::restore(self, before);
         if wrong::is(wrong::FULL_CLKCR_NOT_RESTORED) {
             self.registers = registers;
+        }
+    }
+
+    /// What the wrong hosts make of a 22 behind a row of the FIFO.
+    fn full_wrongly(&mut self) {
+        if wrong::is(wrong::FIFO_FULL_DROPS_RECORD) {
+            self.driver.card = None;
+        }
+        if wrong::is(wrong::FIFO_FULL_RESETS) {
+            self.registers[bench::CLKCR] = 0;
         }
     }
 
@@ -187,7 +213,7 @@ impl Host {
         }
     }
 
-    fn run(&mut self, call: Call) -> Result<Given, Error> {
+    fn run(&mut self, call: Call<'_>) -> Result<Given, Error> {
         match call {
             Call::Initialise { frequency } => {
                 self.driver.blocking_init_card(Hertz(frequency))?;
@@ -204,7 +230,28 @@ impl Host {
                 let status = self.driver.blocking_read_sd_status()?;
                 Ok((Some(status.inner), Vec::new()))
             }
+            Call::Write { index, data } => {
+                let blocks = filled(data);
+                self.driver.blocking_write_blocks(index, &blocks)?;
+                Ok((None, given_wrongly(&blocks)))
+            }
         }
+    }
+}
+
+/// The bytes of an accepted write that a wrong host gives; the right one gives none.
+fn given_wrongly(blocks: &[DataBlock]) -> Vec<u8> {
+    match wrong::is(wrong::WRITE_GIVES_BLOCKS) {
+        true => blocks.iter().flat_map(|block| block.0).collect(),
+        false => Vec::new(),
+    }
+}
+
+/// Words that a wrong host counts besides those it took.
+fn counted_wrongly(call: Call<'_>) -> usize {
+    match wrong::is(wrong::WRITE_COUNTS_DATA) {
+        true => call.data().len(),
+        false => 0,
     }
 }
 

@@ -42,6 +42,6 @@ mod _generated {
 // and `switched`.
 include!(concat!(env!("OUT_DIR"), "/modules.rs"));
 
-pub use host::{Call, Host, Outcome, Record, Settings, State};
+pub use host::{Block, Call, Host, KeptCall, Outcome, Record, Settings, State};
 pub use sdio::inside as right;
 pub use switched::inside as switchable;

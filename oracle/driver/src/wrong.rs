@@ -18,6 +18,12 @@ pub fn is(which: u16) -> bool {
     ON.get() == which
 }
 
+/// Whether some wrong host is on.
+#[inline]
+pub fn on() -> bool {
+    ON.get() != 0
+}
+
 /// Runs with one wrong host switched on (0: none), and off again whatever
 /// happens.
 pub fn with<R>(which: u16, act: impl FnOnce() -> R) -> R {

@@ -4,7 +4,7 @@
 use oracle_driver::bench::{Event, Reading};
 use oracle_driver::right::Host;
 use oracle_driver::script::{data, initialisation, short, switching, RESET};
-use oracle_driver::{bench::Feed, Call, Host as _, Outcome, Settings, State};
+use oracle_driver::{bench::Feed, Block, Call, Host as _, Outcome, Settings, State};
 
 const SETTINGS: Settings = Settings {
     source: 8_000_000,
@@ -24,11 +24,20 @@ const ON: Row = (2, 2_048 + 256);
 const RCA: u32 = 0x1234_0000;
 const MUCH: usize = 4_096;
 
-fn read(blocks: usize) -> Call {
+fn read(blocks: usize) -> Call<'static> {
     Call::Read { index: 5, blocks }
 }
 
-fn initialise(frequency: u32) -> Call {
+static DATA: [Block; 2] = [[0x0403_0201; 128], [0; 128]];
+
+fn write(blocks: usize) -> Call<'static> {
+    Call::Write {
+        index: 5,
+        data: &DATA[..blocks],
+    }
+}
+
+fn initialise(frequency: u32) -> Call<'static> {
     Call::Initialise { frequency }
 }
 
@@ -140,15 +149,17 @@ fn at_cmd8_it_is_no_version_1_card() {
 }
 
 #[test]
-fn in_a_reads_first_ready_wait_the_clock_closes_and_the_record_stays() {
+fn in_the_first_ready_wait_of_a_read_or_write_the_clock_closes_and_the_record_stays() {
     let script = short(13, 0x900);
-    for (length, reading) in SHORT_READINGS.into_iter().enumerate() {
-        let (outcome, left) = ends(read(1), &script[..length], &[OFF]);
-        assert_eq!(missed(&outcome), reading);
-        let sent = if length == 0 { vec![] } else { command(13, RCA) };
-        assert_eq!(outcome.rows, [vec![ON], sent, vec![OFF]].concat());
-        assert_eq!(left, taken().state());
-        assert!(left.record.is_some());
+    for call in [read(1), write(1), write(2)] {
+        for (length, reading) in SHORT_READINGS.into_iter().enumerate() {
+            let (outcome, left) = ends(call, &script[..length], &[OFF]);
+            assert_eq!(missed(&outcome), reading);
+            let sent = if length == 0 { vec![] } else { command(13, RCA) };
+            assert_eq!(outcome.rows, [vec![ON], sent, vec![OFF]].concat());
+            assert_eq!(left, taken().state());
+            assert!(left.record.is_some());
+        }
     }
 }
 
@@ -182,13 +193,37 @@ fn in_a_data_phase_the_guard_closes_and_the_record_is_gone() {
 }
 
 #[test]
+fn in_a_writes_data_phase_likewise_and_its_words_are_sent_once_the_command_is_answered() {
+    for (call, index, blocks) in [(write(1), 24, 1), (write(2), 25, 2)] {
+        let head = short(13, 0x900);
+        let script = [head.clone(), data(index, &[])].concat();
+        for length in head.len()..script.len() {
+            let (outcome, left) = ends(call, &script[..length], &RESET);
+            assert_eq!(left, host_without_record(4_000_000, true));
+            let sent: Vec<u32> = outcome.rows.iter().filter(|row| row.0 == 12).map(|row| row.1).collect();
+            let armed = outcome.rows.contains(&(7, 153));
+            let answered = length >= head.len() + 8;
+            assert_eq!(armed, answered);
+            let due = if answered { DATA[..blocks].as_flattened() } else { &[] };
+            assert_eq!(sent, due);
+        }
+    }
+}
+
+#[test]
 fn in_cmd12_and_in_the_closing_ready_wait_the_clock_closes_and_then_the_guard() {
     let closing = [vec![OFF], RESET.to_vec()].concat();
     let one = [short(13, 0x900), data(17, &blocks(1))].concat();
     let two = [short(13, 0x900), data(18, &blocks(2))].concat();
     let stopped = [&two[..], &short(12, 0)].concat();
     let status = [short(55, 0x20), data(13, &[7; 16])].concat();
+    let written = [short(13, 0x900), data(24, &[])].concat();
+    let all_written = [short(13, 0x900), data(25, &[])].concat();
+    let write_stopped = [&all_written[..], &short(12, 0)].concat();
     for (call, head, tail) in [
+        (write(1), written, short(13, 0x900)),
+        (write(2), all_written, short(12, 0)),
+        (write(2), write_stopped, short(13, 0x900)),
         (read(1), one, short(13, 0x900)),
         (read(2), two, short(12, 0)),
         (read(2), stopped, short(13, 0x900)),
@@ -245,11 +280,13 @@ fn clock_gate_and_signalling_stand_as_they_are_then() {
 fn a_row_without_room_before_the_end_leaves_the_host_as_before_too() {
     let mut host = taken();
     let (snapshot, stood) = (host.snapshot(), host.state());
-    let script = [short(13, 0x900), vec![0], short(17, 0)].concat();
-    for room in 0..16 {
-        host.restore(&snapshot);
-        let outcome = host.call(read(1), Feed::Script(&script), room, false);
-        assert_eq!((outcome.answer, outcome.rows.len()), (22, room));
-        assert_eq!(host.state(), stood);
+    for (call, index, rows) in [(read(1), 17, 16), (write(1), 24, 144), (write(2), 25, 272)] {
+        let script = [short(13, 0x900), vec![0], short(index, 0)].concat();
+        for room in 0..rows {
+            host.restore(&snapshot);
+            let outcome = host.call(call, Feed::Script(&script), room, false);
+            assert_eq!((outcome.answer, outcome.rows.len()), (22, room));
+            assert_eq!(host.state(), stood);
+        }
     }
 }

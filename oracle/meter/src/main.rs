@@ -8,7 +8,7 @@ mod script;
 use std::process::ExitCode;
 
 use measure::{cost, Cost};
-use script::{initialisation, read, status, INITIALISE};
+use script::{initialisation, read, status, stored, write, INITIALISE};
 
 fn main() -> ExitCode {
     let words: Vec<String> = std::env::args().skip(1).collect();
@@ -44,6 +44,11 @@ fn tables() {
     for (blocks, times) in [(1, 8), (16, 4), (511, 1)] {
         let (call, script) = read(blocks, 0, 0);
         calls.push((format!("read of {blocks}"), cost(call, &script, times)));
+    }
+    for (blocks, times) in [(1, 8), (16, 4), (511, 1)] {
+        let data = stored(blocks);
+        let (call, script) = write(&data);
+        calls.push((format!("write of {blocks}"), cost(call, &script, times)));
     }
     head("Call");
     for (name, cost) in &calls {

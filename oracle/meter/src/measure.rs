@@ -5,7 +5,7 @@ use std::hint::black_box;
 use std::time::{Duration, Instant};
 
 use oracle_driver::bench::{lean, Feed};
-use oracle_driver::{right, Call, Host as _};
+use oracle_driver::{right, Block, Call, Host as _};
 
 use crate::proved;
 use crate::script::{initialisation, INITIALISE, SETTINGS};
@@ -30,7 +30,7 @@ pub struct Cost {
 }
 
 /// One call on a host that has a card (an initialisation: on one that has none), `times` times in a list.
-pub fn cost(call: Call, script: &[u32], times: usize) -> Cost {
+pub fn cost(call: Call<'_>, script: &[u32], times: usize) -> Cost {
     let first = initialisation();
     let initial = [(INITIALISE, &first[..])];
     let before = match call {
@@ -39,6 +39,7 @@ pub fn cost(call: Call, script: &[u32], times: usize) -> Cost {
     };
     let count = match call {
         Call::Read { blocks, .. } => blocks,
+        Call::Write { data, .. } => data.len(),
         _ => 0,
     };
 
@@ -56,7 +57,10 @@ pub fn cost(call: Call, script: &[u32], times: usize) -> Cost {
     list.extend(std::iter::repeat_n((call, script), times));
     let long = proved::list(&SETTINGS, &list);
     let mut rows = vec![0; seen.rows.len() + 128];
-    let mut buffer = vec![0; 512 * count];
+    let mut buffer = match call {
+        Call::Write { data, .. } => bytes(data),
+        _ => vec![0; 512 * count],
+    };
     let told = proved::calls(&long, &mut rows, &mut buffer);
     assert_eq!((told.answer, told.words, told.rows), (0, script.len(), seen.rows.len()));
     let told_rows: Vec<(u32, u32)> = rows[..told.rows]
@@ -64,8 +68,14 @@ pub fn cost(call: Call, script: &[u32], times: usize) -> Cost {
         .map(|row| ((row >> 32) as u32, *row as u32))
         .collect();
     assert_eq!(told_rows, seen.rows, "both write the same rows");
-    assert_eq!(buffer, seen.blocks, "both read the same bytes");
+    match call {
+        Call::Write { data, .. } => assert_eq!(buffer, bytes(data), "the data stays as it was"),
+        _ => assert_eq!(buffer, seen.blocks, "both read the same bytes"),
+    }
     let (mut step_rows, mut step_buffer) = (vec![0; rows.len()], vec![0; buffer.len()]);
+    if let Call::Write { .. } = call {
+        step_buffer.copy_from_slice(&buffer);
+    }
     assert_eq!(proved::steps(&long, &mut step_rows, &mut step_buffer), told);
     assert_eq!(step_rows, rows, "one answer at a time writes the same rows");
     assert_eq!(step_buffer, buffer, "one answer at a time reads the same bytes");
@@ -77,7 +87,11 @@ pub fn cost(call: Call, script: &[u32], times: usize) -> Cost {
     });
     let mut lean_host = right::Host::make(&SETTINGS).expect("good settings make a host");
     lean_host.restore(&snapshot);
-    let (mut lean_rows, mut blocks) = (rows.clone(), right::blocks(count));
+    let mut blocks = match call {
+        Call::Write { data, .. } => right::filled(data),
+        _ => right::blocks(count),
+    };
+    let mut lean_rows = rows.clone();
     lean_rows.fill(0);
     let mut rust = Timed::new(|| {
         lean::during(script, &mut lean_rows, || {
@@ -128,11 +142,17 @@ pub fn cost(call: Call, script: &[u32], times: usize) -> Cost {
     assert_eq!(lean_rows[..told.rows], rows[..told.rows], "both write the same rows");
     assert_eq!(step_rows, rows, "one answer at a time writes the same rows");
     assert_eq!(step_buffer, buffer, "one answer at a time reads the same bytes");
+    let read = blocks.iter().flat_map(|block| block.iter());
     assert!(
-        blocks.iter().flat_map(|block| block.iter()).eq(&buffer),
+        matches!(call, Call::Write { .. }) || read.eq(&buffer),
         "both read the same bytes"
     );
     cost
+}
+
+/// Blocks as bytes, the low one of each word first.
+fn bytes(data: &[Block]) -> Vec<u8> {
+    data.as_flattened().iter().flat_map(|word| word.to_le_bytes()).collect()
 }
 
 /// The floor: each word of a script is loaded and tested, and that is all. Volatile, as a controller's register is.

@@ -1,5 +1,6 @@
 //! The proved host, linked in: `crates/meter`.
 
+use oracle_bench_book::book::numbers;
 use oracle_driver::{Call, Settings};
 
 /// A list of calls, each slice as its pointer and its length.
@@ -33,7 +34,8 @@ pub struct Told {
     pub words: usize,
 }
 
-/// Makes the host of a list and serves its calls, in this row list and buffer; a read fills all of the buffer.
+/// Makes the host of a list and serves its calls, in this row list and buffer; a read fills all of the buffer, a
+/// write sends it.
 pub fn calls(list: &[u32], rows: &mut [u64], buffer: &mut [u8]) -> Told {
     served(boresacu_meter_calls, list, rows, buffer)
 }
@@ -70,8 +72,8 @@ pub fn book<'a>(bytes: &[u8], out: &'a mut [u8]) -> &'a [u8] {
     &out[..length]
 }
 
-/// Words laid out as a book's, however many.
-pub fn list(settings: &Settings, calls: &[(Call, &[u32])]) -> Vec<u32> {
+/// Words laid out as a book's, however many. A write has no data words here: it sends the buffer as the caller has filled it.
+pub fn list(settings: &Settings, calls: &[(Call<'_>, &[u32])]) -> Vec<u32> {
     let mut words = vec![
         settings.source,
         settings.poll_limit,
@@ -82,10 +84,10 @@ pub fn list(settings: &Settings, calls: &[(Call, &[u32])]) -> Vec<u32> {
         calls.len() as u32,
     ];
     for (call, script) in calls {
-        let (kind, a, b) = match *call {
-            Call::Initialise { frequency } => (1, frequency, 0),
-            Call::Read { index, blocks } => (2, index, blocks as u32),
-            Call::Status => (3, 0, 0),
+        let [kind, a, b] = numbers(*call);
+        let b = match call {
+            Call::Write { .. } => 0,
+            _ => b,
         };
         words.extend([kind, a, b, script.len() as u32]);
     }

@@ -1,7 +1,7 @@
 //! Scripts of a good card, written out: so many readings fail in each wait as asked for.
 
 use oracle_driver::script::{self, data, short};
-use oracle_driver::{Call, Settings};
+use oracle_driver::{Block, Call, Settings};
 
 pub const SETTINGS: Settings = Settings {
     source: 48_000_000,
@@ -28,17 +28,24 @@ pub fn initialisation() -> Vec<u32> {
     script::initialisation(0)
 }
 
+/// What so many blocks hold.
+pub fn stored(blocks: usize) -> Vec<Block> {
+    let word = |block: usize, place: usize| ((128 * block + place) as u32).wrapping_mul(0x9e37_79b9);
+    (0..blocks)
+        .map(|block| std::array::from_fn(|place| word(block, place)))
+        .collect()
+}
+
 /// A read: so many times busy before its first command, so many times not ready.
-pub fn read(blocks: usize, busy: usize, unready: usize) -> (Call, Vec<u32>) {
-    let words: Vec<u32> = (0..128 * blocks as u32)
-        .map(|word| word.wrapping_mul(0x9e37_79b9))
-        .collect();
+pub fn read(blocks: usize, busy: usize, unready: usize) -> (Call<'static>, Vec<u32>) {
+    let words = stored(blocks);
+    let words = words.as_flattened();
     let script = match blocks {
-        1 => [vec![BUSY; busy], ready(unready), data(17, &words), ready(0)].concat(),
+        1 => [vec![BUSY; busy], ready(unready), data(17, words), ready(0)].concat(),
         _ => [
             vec![BUSY; busy],
             ready(unready),
-            data(18, &words),
+            data(18, words),
             short(12, 0),
             ready(0),
         ]
@@ -47,7 +54,16 @@ pub fn read(blocks: usize, busy: usize, unready: usize) -> (Call, Vec<u32>) {
     (Call::Read { index: 3, blocks }, script)
 }
 
-pub fn status() -> (Call, Vec<u32>) {
+/// A write of these blocks.
+pub fn write(blocks: &[Block]) -> (Call<'_>, Vec<u32>) {
+    let script = match blocks.len() {
+        1 => [ready(0), data(24, &[]), ready(0)].concat(),
+        _ => [ready(0), data(25, &[]), short(12, 0), ready(0)].concat(),
+    };
+    (Call::Write { index: 3, data: blocks }, script)
+}
+
+pub fn status() -> (Call<'static>, Vec<u32>) {
     let words: Vec<u32> = (0..16).collect();
     (Call::Status, [short(55, 0x20), data(13, &words), ready(0)].concat())
 }

@@ -3,6 +3,7 @@
 use oracle_driver::bench::{Event, Reading};
 use oracle_driver::{Call, Outcome};
 
+use crate::coverage::kind;
 use crate::walk::{Place, Walk};
 
 /// Step and cause, as the coverage table has them.
@@ -10,12 +11,11 @@ pub type Arm = (&'static str, &'static str);
 
 /// The arm of a call that a reading or a setting refused (1 to 20). `again`
 /// runs the same call from the same host on another script.
-pub fn refused(call: Call, outcome: &Outcome, again: impl Fn(&[u32]) -> Vec<Event>) -> Arm {
+pub fn refused(call: Call<'_>, outcome: &Outcome, again: impl Fn(&[u32]) -> Vec<Event>) -> Arm {
     match (outcome.answer, call) {
-        (16, Call::Read { .. }) => return ("read", "no card"),
-        (16, _) => return ("status", "no card"),
-        (19, _) => return ("read", "no blocks"),
-        (20, _) => return ("read", "past the card"),
+        (16, _) => return (kind(call), "no card"),
+        (19, _) => return (kind(call), "no blocks"),
+        (20, _) => return (kind(call), "past the card"),
         (17, Call::Initialise { frequency: 0 }) => return ("initialise", "asked for 0 Hz"),
         (17, _) if outcome.rows.is_empty() => return ("initialise", "asked for over 50 MHz"),
         _ => {}
@@ -50,7 +50,7 @@ pub fn refused(call: Call, outcome: &Outcome, again: impl Fn(&[u32]) -> Vec<Even
 
 /// The step in which a script ended: the place of the command, and the reading
 /// that found no word.
-pub fn ended(call: Call, outcome: &Outcome, again: impl Fn(&[u32]) -> Vec<Event>) -> Arm {
+pub fn ended(call: Call<'_>, outcome: &Outcome, again: impl Fn(&[u32]) -> Vec<Event>) -> Arm {
     let end = outcome.events.iter().find_map(|event| match event {
         Event::Ended(reading) => Some(*reading),
         _ => None,
@@ -68,7 +68,7 @@ pub fn ended(call: Call, outcome: &Outcome, again: impl Fn(&[u32]) -> Vec<Event>
 
 /// An idle wait does not say what it waits for: the same call is run with an idle
 /// status after these words, and the row that then comes tells.
-fn idle(call: Call, mut script: Vec<u32>, again: impl Fn(&[u32]) -> Vec<Event>) -> Arm {
+fn idle(call: Call<'_>, mut script: Vec<u32>, again: impl Fn(&[u32]) -> Vec<Event>) -> Arm {
     script.push(0);
     let used = script.len();
     // Enough for the idle wait of a data phase's own command.

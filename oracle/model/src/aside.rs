@@ -15,7 +15,7 @@ pub fn calls(bytes: &[u8], room: usize) -> u64 {
     };
     let mut aside = 0;
     for entry in &book.entries {
-        host.call(entry.call, Feed::Script(&entry.script), room, false);
+        host.call(entry.call.lent(), Feed::Script(&entry.script), room, false);
         aside += u64::from(host.beyond_the_rust());
     }
     aside

@@ -1,6 +1,8 @@
 //! A card as it would answer by the SD specification, with noise wherever a
 //! host must not look.
 
+use std::collections::BTreeMap;
+
 use crate::rng::Rng;
 
 /// Bits of an R1 answer that are neither errors nor the lock.
@@ -9,6 +11,8 @@ const APP_TAKEN: u32 = 0x20;
 const READY: u32 = 0x100;
 const TRANSFER: u32 = 4 << 9;
 const STATE: u32 = 15 << 9;
+const RECEIVING: u32 = 6 << 9;
+const PROGRAMMING: u32 = 7 << 9;
 
 #[derive(Clone, Copy, Debug, Eq, PartialEq)]
 pub enum Response {
@@ -18,6 +22,11 @@ pub enum Response {
     R3,
     R6,
     R7,
+}
+
+/// CMD24 and CMD25, which write blocks.
+pub fn writes(index: u8) -> bool {
+    matches!(index, 24 | 25)
 }
 
 /// The command that stands in CMD, with what went before it.
@@ -55,8 +64,12 @@ pub struct Card {
     /// How often ACMD41 and CMD13 still answer busy.
     pub power_up_left: u32,
     pub not_ready_left: u32,
-    /// Chooses the data words of a read.
+    /// Chooses the data words of a read, where none were written.
     pub contents: u64,
+    /// The words that were written, by their place on the card.
+    written: BTreeMap<u64, u32>,
+    /// The last data came to the card, so it programs while it is not ready.
+    programs: bool,
 }
 
 impl Card {
@@ -79,11 +92,17 @@ impl Card {
             power_up_left: 0,
             not_ready_left: 0,
             contents: rng.draw(),
+            written: BTreeMap::new(),
+            programs: false,
         }
     }
 
     pub fn reply(&mut self, command: Command, rng: &mut Rng) -> Reply {
         let free = rng.noise() & R1_FREE;
+        self.programs = match command.index {
+            12 | 13 => self.programs,
+            index => writes(index),
+        };
         let first = match (command.index, command.app) {
             (0, _) => return Reply::Silent,
             (8, _) if self.version2 => 0x1aa,
@@ -115,6 +134,9 @@ impl Card {
             return ready;
         }
         self.not_ready_left -= 1;
+        if self.programs && !rng.one_in(3) {
+            return ready & !READY & !STATE | rng.pick(&[PROGRAMMING, PROGRAMMING, RECEIVING]);
+        }
         let other = |rng: &mut Rng| ready & !STATE | rng.pick(&[0, 1, 2, 3, 5, 6, 7, 8, 12, 15]) << 9;
         match rng.below(3) {
             0 => ready & !READY,
@@ -133,8 +155,29 @@ impl Card {
             51 => ((self.scr >> (32 - 32 * (place % 2))) as u32).swap_bytes(),
             6 if command.argument >> 31 == 0 => four(&self.check),
             6 => four(&self.switch),
-            _ => Rng::nth(self.contents, (u64::from(command.argument) << 16) + place as u64).word(),
+            _ => {
+                let written = self.written.get(&self.word_at(command, place)).copied();
+                let any = || Rng::nth(self.contents, (u64::from(command.argument) << 16) + place as u64).word();
+                written.filter(|_| matches!(command.index, 17 | 18)).unwrap_or_else(any)
+            }
         }
+    }
+
+    /// Of high capacity, so that its addresses count blocks and not bytes.
+    pub fn high(&self) -> bool {
+        self.ocr >> 30 & 1 == 1
+    }
+
+    /// Where on the card the word of a block command is.
+    fn word_at(&self, command: Command, place: usize) -> u64 {
+        let address = u64::from(command.argument);
+        let block = if self.high() { address } else { address / 512 };
+        128 * block + place as u64
+    }
+
+    /// A word of a write arrives, and is found there by later reads.
+    pub fn receive(&mut self, command: Command, place: usize, word: u32) {
+        self.written.insert(self.word_at(command, place), word);
     }
 
     /// Another card in the slot, or the same one in another mood.

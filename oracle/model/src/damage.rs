@@ -67,14 +67,14 @@ pub fn bad_book(words: &[u32], rng: &mut Rng) -> Vec<u8> {
     let mut words = words.to_vec();
     let calls = words[6] as usize;
     let entry = book::HEAD + book::ENTRY * rng.index(calls);
-    match rng.below(16) {
+    match rng.below(20) {
         0 => return rough(&words, rng),
         1 => words.truncate(rng.index(book::HEAD + book::ENTRY * calls)),
         2 => words[5] = rng.pick(&[4, 5, 8, 256, 1 << 31, u32::MAX]),
         3 => words[2] = rng.pick(&[65_536, 65_537, 1 << 31, u32::MAX]),
         4 => words[6] = rng.pick(&[0, 65, 66, 1 << 30, u32::MAX]),
         5 => words[6] = (calls as u32).wrapping_add(rng.pick(&[1, u32::MAX])),
-        6 => words[entry] = rng.pick(&[0, 4, 5, 257, u32::MAX]),
+        6 => words[entry] = rng.pick(&[0, 5, 6, 257, 260, u32::MAX]),
         7 => (words[entry], words[entry + 2]) = (1, rng.spread().max(1)),
         8 => (words[entry], words[entry + 1], words[entry + 2]) = (3, rng.spread().max(1), 0),
         9 => (words[entry], words[entry + 1], words[entry + 2]) = (3, 0, rng.spread().max(1)),
@@ -85,6 +85,10 @@ pub fn bad_book(words: &[u32], rng: &mut Rng) -> Vec<u8> {
             words.pop();
         }
         14 => two_lengths_that_wrap(&mut words, rng),
+        15 => too_many_to_write(&mut words, entry, rng),
+        // A write with one block more than its body, which may be another call's, has words for.
+        16 => (words[entry], words[entry + 2]) = (4, words[entry + 3] / 128 + 1),
+        17 | 18 => short_of_data(&mut words, rng),
         _ => too_long(&mut words, rng),
     }
     book::bytes(&words)
@@ -114,6 +118,37 @@ fn two_lengths_that_wrap(words: &mut [u32], rng: &mut Rng) {
     if one == two {
         words[place(one)] = words[place(one)].wrapping_add(1 << 31);
     }
+}
+
+/// A write of over 16 blocks, mostly with all its data: then the last call.
+fn too_many_to_write(words: &mut Vec<u32>, entry: usize, rng: &mut Rng) {
+    if rng.one_in(4) {
+        (words[entry], words[entry + 2]) = (4, rng.pick(&[17, 18, 256, 272, u32::MAX]));
+        return;
+    }
+    let last = book::HEAD + book::ENTRY * (words[6] as usize - 1);
+    let start = words.len() - words[last + 3] as usize;
+    let blocks = rng.pick(&[17, 17, 18]);
+    let length = 128 * blocks + rng.pick(&[0, 0, 1, 9]);
+    words.resize_with(start + length, || rng.word());
+    (words[last], words[last + 2], words[last + 3]) = (4, blocks as u32, length as u32);
+}
+
+/// The last call is a write whose body ends within its data, or before it.
+fn short_of_data(words: &mut Vec<u32>, rng: &mut Rng) {
+    let calls = words[6] as usize;
+    let entry = book::HEAD + book::ENTRY * (calls - 1);
+    let body = words[entry + 3] as usize;
+    let start = words.len() - body;
+    let most = ((book::MOST_WORDS - start) / 128).min(4);
+    let blocks = rng.between(1, most.max(1) as u64) as usize;
+    let length = match rng.below(4) {
+        0 | 1 => 128 * blocks - 1,
+        2 => rng.index(128 * blocks),
+        _ => 0,
+    };
+    words.resize_with(start + length, || rng.word());
+    (words[entry], words[entry + 2], words[entry + 3]) = (4, blocks as u32, length as u32);
 }
 
 /// Over 4,096 words, and sound but for that.

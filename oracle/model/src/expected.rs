@@ -32,6 +32,7 @@ pub const DATA: [&str; 17] = [
 pub const COMMAND_ENDS: [&str; 7] = ["idle", "poll", "echo", "word 0", "word 1", "word 2", "word 3"];
 const WITHOUT_ECHO: [&str; 6] = ["idle", "poll", "word 0", "word 1", "word 2", "word 3"];
 
+/// Data words are taken in a read alone.
 pub const DATA_ENDS: [&str; 9] = [
     "data idle",
     "1: status",
@@ -175,6 +176,13 @@ pub const SITES: &[Site] = &[
     data("CMD18", &[]),
     r1("CMD12", &[]),
     r1("CMD13 after CMD12", &["attempts"]),
+    cause("write", &["no card", "no blocks", "past the card"]),
+    r1("CMD13 before a write", &["attempts"]),
+    data("CMD24", &[]),
+    r1("CMD13 after CMD24", &["attempts"]),
+    data("CMD25", &[]),
+    r1("CMD12 of a write", &[]),
+    r1("CMD13 after a write's CMD12", &["attempts"]),
     cause("status", &["no card"]),
     r1("CMD55 for ACMD13", &["not taken"]),
     data("ACMD13", &[]),
@@ -207,9 +215,14 @@ pub fn field((_, cause): Arm) -> Option<u8> {
 }
 
 /// Whether a script can end in this step of the data phase. The SCR has two words,
-/// a first and a last.
+/// a first and a last; a write has its data elsewhere.
 pub fn data_ends(site: &Site, step: &str) -> bool {
-    site.data && (site.name != "ACMD51" || step != "data, between")
+    site.data
+        && match site.name {
+            "ACMD51" => step != "data, between",
+            "CMD24" | "CMD25" => !step.starts_with("data, "),
+            _ => true,
+        }
 }
 
 /// The steps in which a script can end.
@@ -226,9 +239,10 @@ pub fn ends() -> Vec<Arm> {
 /// takes in CMD12 and the ready wait after it, and that of initialisation.
 pub fn closed_by(site: &str) -> &'static str {
     match site {
-        "CMD13 first" | "CMD55 for ACMD13" => "CLKCR off",
-        "CMD17" | "CMD18" | "ACMD13" => "reset",
+        "CMD13 first" | "CMD13 before a write" | "CMD55 for ACMD13" => "CLKCR off",
+        "CMD17" | "CMD18" | "CMD24" | "CMD25" | "ACMD13" => "reset",
         "CMD12" | "CMD13 after CMD17" | "CMD13 after CMD12" | "CMD13 after ACMD13" => "CLKCR off, reset",
+        "CMD12 of a write" | "CMD13 after CMD24" | "CMD13 after a write's CMD12" => "CLKCR off, reset",
         // The gate is set with the second clock, after ACMD51.
         "ACMD51" | "CMD13 after ACMD51" | "CMD6 check" | "CMD6 switch" => "reset twice",
         "CMD13 after check" | "CMD13 after switch" => "CLKCR off, reset twice",
@@ -236,6 +250,44 @@ pub fn closed_by(site: &str) -> &'static str {
         _ => "reset",
     }
 }
+
+/// The answers that a call of this kind can have, but 22.
+pub fn answers(kind: &str) -> Vec<u8> {
+    match kind {
+        "initialise" => (0..=15).chain([17, 21]).collect(),
+        "status" => (0..=11).chain([13, 16, 21]).collect(),
+        // A read and a write.
+        _ => (0..=11).chain([16, 19, 20, 21]).collect(),
+    }
+}
+
+/// What reads and writes can be, accepted but for the last.
+pub const BLOCKS: [&str; 7] = [
+    "one block",
+    "many blocks",
+    "16 blocks",
+    "standard capacity",
+    "high capacity",
+    "up to the last block",
+    "none, past the card",
+];
+
+/// How the body of a write can be made up.
+pub const BODIES: [&str; 4] = [
+    "no blocks, no script",
+    "no blocks, a script",
+    "data alone",
+    "data and a script",
+];
+
+/// By what a body can be too short for its data.
+pub const SHORTAGES: [&str; 3] = ["no word", "one word missing", "more missing"];
+
+/// Whether a write of too many blocks has words for all of them.
+pub const TOO_MANY: [&str; 2] = ["all data there", "less data"];
+
+/// The rows of a write from DCTRL to the last word that may find no room, by the number of blocks.
+pub const SENDING: [&str; 4] = ["DCTRL", "FIFO, first", "FIFO, between", "FIFO, last"];
 
 /// What can close a call of this kind.
 pub fn closes(kind: &str, shape: &str) -> bool {

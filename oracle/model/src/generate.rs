@@ -6,7 +6,7 @@ use std::rc::Rc;
 use oracle_bench_book::book::{self, Book, Entry};
 use oracle_driver::bench::{Event, Feed, Reading};
 use oracle_driver::right::Snapshot;
-use oracle_driver::{Call, Host as _, Outcome, Settings};
+use oracle_driver::{Call, Host as _, KeptCall, Outcome, Settings};
 use oracle_paper::asked;
 
 use crate::card::{self, Card};
@@ -64,6 +64,8 @@ struct Maker {
     book: Book,
     /// Words that the book takes so far.
     length: usize,
+    /// Index and blocks of the last call, if it was a write that the card took.
+    written: Option<(u32, usize)>,
 }
 
 impl Maker {
@@ -80,6 +82,7 @@ impl Maker {
                 entries: Vec::new(),
             },
             length: book::HEAD,
+            written: None,
         }
     }
 
@@ -87,10 +90,11 @@ impl Maker {
     fn calls(mut self, most: usize) -> Book {
         for _ in 0..most {
             self.change_card();
-            let call = settings::call(&self.host.state(), &mut self.rng);
+            let call = self.call();
+            let call = call.lent();
             let before = self.host.snapshot();
             let mut script = self.script(call);
-            let room = book::MOST_WORDS - self.length - book::ENTRY;
+            let room = self.room() - call.data().len();
             if script.len() > room {
                 // The last call takes what room is left, and may end there.
                 script.truncate(room);
@@ -105,6 +109,22 @@ impl Maker {
         self.book
     }
 
+    /// Words that the body of one more call can have.
+    fn room(&self) -> usize {
+        book::MOST_WORDS - self.length - book::ENTRY
+    }
+
+    /// Any call whose data finds room; behind a write often the read of what was written.
+    fn call(&mut self) -> KeptCall {
+        match self.written.take() {
+            Some((index, blocks)) if self.rng.one_in(2) => KeptCall::Read { index, blocks },
+            _ => {
+                let call = settings::call(&self.host.state(), &mut self.rng);
+                at_most(self.room() / book::BLOCK, call)
+            }
+        }
+    }
+
     /// A book in which one call is cut at place after place, and whole at last.
     fn cuts(mut self) -> Book {
         let made = self.host.snapshot();
@@ -115,11 +135,14 @@ impl Maker {
         };
         let first = Call::Initialise { frequency };
         let fresh = self.live(first, None);
-        let (mut call, mut whole) = (first, fresh.clone());
+        let (mut chosen, mut whole) = (first.kept(), fresh.clone());
         if self.host.state().record.is_some() && !self.rng.one_in(3) {
-            call = settings::call(&self.host.state(), &mut self.rng);
-            whole = self.live(call, None);
+            let call = settings::call(&self.host.state(), &mut self.rng);
+            // The data comes with each cut.
+            chosen = at_most(2, call);
+            whole = self.live(chosen.lent(), None);
         }
+        let call = chosen.lent();
         let places = self.places(&whole.events);
         let from = self.rng.index(places.len() + 1);
         let cuts = places[from..].iter().take(MOST_CUTS).copied();
@@ -137,7 +160,7 @@ impl Maker {
         self.book
     }
 
-    /// A book whose reads and status calls write more rows than its
+    /// A book whose reads, writes and status calls write more rows than its
     /// initialisations: so a list that is long enough for these may be too short
     /// for the closing rows of those.
     fn drawn_out(mut self) -> Book {
@@ -152,13 +175,19 @@ impl Maker {
             let Some(record) = self.host.state().record else {
                 break;
             };
-            let call = match self.rng.below(3) {
-                0 => Call::Status,
-                which => Call::Read {
-                    index: self.rng.below(record.blocks - 1) as u32,
+            let index = self.rng.below(record.blocks - 1) as u32;
+            let call = match self.rng.below(5) {
+                0 => KeptCall::Status,
+                which @ (1 | 2) => KeptCall::Read {
+                    index,
                     blocks: which as usize,
                 },
+                which => KeptCall::Write {
+                    index,
+                    data: settings::data(which as usize - 2, &mut self.rng),
+                },
             };
+            let call = call.lent();
             let waits = self.rng.between(2, MOST_WAITS) as u32;
             self.player.borrow_mut().waits = Some(waits);
             self.player.borrow_mut().card.not_ready_left = waits;
@@ -178,7 +207,7 @@ impl Maker {
     }
 
     /// Keeps a call with this script and runs it; false if the book is full.
-    fn serve(&mut self, call: Call, script: &[u32]) -> bool {
+    fn serve(&mut self, call: Call<'_>, script: &[u32]) -> bool {
         let kept = self.keep(call, script.to_vec());
         if kept {
             self.host.call(call, Feed::Script(script), ENDLESS, false);
@@ -201,13 +230,15 @@ impl Maker {
     }
 
     /// False if the call finds no place in the book any more.
-    fn keep(&mut self, call: Call, script: Vec<u32>) -> bool {
-        let length = self.length + book::ENTRY + script.len();
+    fn keep(&mut self, call: Call<'_>, script: Vec<u32>) -> bool {
+        let call = call.kept();
+        let entry = Entry { call, script };
+        let length = self.length + book::ENTRY + entry.body();
         if length > book::MOST_WORDS || self.book.entries.len() == book::MOST_CALLS {
             return false;
         }
         self.length = length;
-        self.book.entries.push(Entry { call, script });
+        self.book.entries.push(entry);
         true
     }
 
@@ -224,15 +255,20 @@ impl Maker {
     }
 
     /// Runs a call against the card that plays along.
-    fn live(&mut self, call: Call, spoil_at: Option<usize>) -> Outcome {
+    fn live(&mut self, call: Call<'_>, spoil_at: Option<usize>) -> Outcome {
         self.player.borrow_mut().begin();
         self.player.borrow_mut().spoil_at = spoil_at;
         let seat = Seat(Rc::clone(&self.player));
-        self.host.call(call, Feed::Live(Box::new(seat)), ENDLESS, true)
+        let outcome = self.host.call(call, Feed::Live(Box::new(seat)), ENDLESS, true);
+        self.written = match call {
+            Call::Write { index, data } if outcome.answer == 0 => Some((index, data.len())),
+            _ => None,
+        };
+        outcome
     }
 
     /// A script for the call, on which the host has run.
-    fn script(&mut self, call: Call) -> Vec<u32> {
+    fn script(&mut self, call: Call<'_>) -> Vec<u32> {
         let before = self.host.snapshot();
         let card = self.player.borrow().clone();
         let natural = self.live(call, None);
@@ -268,7 +304,7 @@ impl Maker {
     }
 
     /// Runs the call on another script than the card gave.
-    fn again(&mut self, call: Call, before: &Snapshot, script: Vec<u32>) -> Vec<u32> {
+    fn again(&mut self, call: Call<'_>, before: &Snapshot, script: Vec<u32>) -> Vec<u32> {
         self.host.restore(before);
         self.host.call(call, Feed::Script(&script), ENDLESS, false);
         script
@@ -293,6 +329,17 @@ impl Maker {
             true => None,
             false => Some(self.rng.pick(&worth)),
         }
+    }
+}
+
+/// The call; a write with so many blocks at most.
+fn at_most(blocks: usize, call: KeptCall) -> KeptCall {
+    match call {
+        KeptCall::Write { index, mut data } => {
+            data.truncate(blocks);
+            KeptCall::Write { index, data }
+        }
+        other => other,
     }
 }
 

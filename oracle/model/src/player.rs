@@ -7,7 +7,7 @@ use std::rc::Rc;
 
 use oracle_driver::bench::{Live, Reading};
 
-use crate::card::{Card, Command, Reply, Response};
+use crate::card::{writes, Card, Command, Reply, Response};
 use crate::rng::Rng;
 use crate::spoil::{self, Stuck};
 
@@ -56,8 +56,10 @@ pub struct Player {
     attempts: u16,
     stage: Stage,
     argument: u32,
-    /// DCTRL holds something, so the next command has a data phase.
+    /// DCTRL holds something, so the next command has a data phase. A write's comes to DCTRL after its command.
     armed: bool,
+    /// Words that the FIFO took since the last command.
+    fetched: usize,
     after_55: bool,
     /// Polls that still fail in the wait at hand; none: not chosen yet.
     busy: Option<u32>,
@@ -79,6 +81,7 @@ impl Player {
             stage: Stage::Idle,
             argument: 0,
             armed: false,
+            fetched: 0,
             after_55: false,
             busy: None,
             waits: None,
@@ -250,12 +253,17 @@ impl Player {
         if index != 13 || self.armed {
             self.card.not_ready_left = self.unready();
         }
+        if writes(index) {
+            // It is seldom ready at once.
+            self.card.not_ready_left = self.card.not_ready_left.max(self.unready());
+        }
+        self.fetched = 0;
         self.busy = None;
         self.stage = Stage::Sent(Command {
             index,
             argument: self.argument,
             app,
-            data: self.armed,
+            data: self.armed || writes(index),
             response,
         });
     }
@@ -291,12 +299,21 @@ impl Live for Player {
                     self.stage = Stage::Idle;
                 }
             }
+            12 => self.fetch(value),
             _ => {}
         }
     }
 }
 
 impl Player {
+    /// The controller sends a word on.
+    fn fetch(&mut self, word: u32) {
+        if let Stage::First(command) = self.stage {
+            self.card.receive(command, self.fetched, word);
+            self.fetched += 1;
+        }
+    }
+
     /// A word that was spoilt may have moved the host elsewhere than the
     /// natural one would have.
     fn follow(&mut self, before: Stage, reading: Reading, word: u32) {

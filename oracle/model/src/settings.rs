@@ -1,6 +1,6 @@
 //! Settings and calls, at their limits often enough.
 
-use oracle_driver::{Call, Settings, State};
+use oracle_driver::{Block, KeptCall, Settings, State};
 
 use crate::rng::Rng;
 
@@ -70,6 +70,15 @@ pub fn good(rng: &mut Rng) -> Settings {
     }
 }
 
+/// Rows of room that some calls of a book, or all, need more of: an initialisation has 68 or more, a write of one block over
+/// 150 and one of two over 280.
+pub fn little_room(rng: &mut Rng) -> usize {
+    match rng.below(3) {
+        0 => rng.index(320),
+        _ => rng.index(120),
+    }
+}
+
 /// A 32-bit setting that is not 0.
 fn limit(rng: &mut Rng) -> u32 {
     match rng.below(4) {
@@ -112,26 +121,28 @@ pub fn frequency(rng: &mut Rng) -> u32 {
 }
 
 /// A call that fits what the host holds, mostly.
-pub fn call(state: &State, rng: &mut Rng) -> Call {
+pub fn call(state: &State, rng: &mut Rng) -> KeptCall {
     let Some(record) = &state.record else {
-        return match rng.below(10) {
+        return match rng.below(12) {
             0 => read(1 << 20, rng),
-            1 => Call::Status,
-            _ => Call::Initialise {
+            1 => KeptCall::Status,
+            2 => write(1 << 20, rng),
+            _ => KeptCall::Initialise {
                 frequency: frequency(rng),
             },
         };
     };
-    match rng.below(20) {
-        0..=3 => Call::Initialise {
+    match rng.below(24) {
+        0..=3 => KeptCall::Initialise {
             frequency: frequency(rng),
         },
-        4..=7 => Call::Status,
-        _ => read(record.blocks, rng),
+        4..=7 => KeptCall::Status,
+        8..=15 => read(record.blocks, rng),
+        _ => write(record.blocks, rng),
     }
 }
 
-fn read(total: u64, rng: &mut Rng) -> Call {
+fn read(total: u64, rng: &mut Rng) -> KeptCall {
     let blocks = match rng.below(40) {
         0 | 1 => 0,
         2..=25 => 1,
@@ -139,6 +150,29 @@ fn read(total: u64, rng: &mut Rng) -> Call {
         37 | 38 => rng.between(5, 16),
         _ => 16,
     };
+    KeptCall::Read {
+        index: index(total, blocks, rng),
+        blocks: blocks as usize,
+    }
+}
+
+fn write(total: u64, rng: &mut Rng) -> KeptCall {
+    let blocks = match rng.below(40) {
+        0 | 1 => 0,
+        2..=25 => 1,
+        26..=34 => 2,
+        35..=37 => rng.between(3, 4),
+        38 => rng.between(5, 16),
+        _ => 16,
+    };
+    KeptCall::Write {
+        index: index(total, blocks, rng),
+        data: data(blocks as usize, rng),
+    }
+}
+
+/// Where so many blocks of a card are asked for: also at both its ends, and past it.
+fn index(total: u64, blocks: u64, rng: &mut Rng) -> u32 {
     let last = total.saturating_sub(blocks);
     let index = match rng.below(12) {
         0 => 0,
@@ -148,8 +182,20 @@ fn read(total: u64, rng: &mut Rng) -> Call {
         4 => rng.spread().into(),
         _ => rng.below(last + 1),
     };
-    Call::Read {
-        index: index as u32,
-        blocks: blocks as usize,
-    }
+    index as u32
+}
+
+/// Data to write: any words, many that are 0, or numbers that go up.
+pub fn data(blocks: usize, rng: &mut Rng) -> Vec<Block> {
+    let block = |rng: &mut Rng| -> Block {
+        match rng.below(4) {
+            0 => std::array::from_fn(|_| rng.noise()),
+            1 => {
+                let first = rng.below(800) as u32;
+                std::array::from_fn(|place| first + place as u32)
+            }
+            _ => std::array::from_fn(|_| rng.word()),
+        }
+    };
+    (0..blocks).map(|_| block(rng)).collect()
 }

@@ -167,12 +167,14 @@ fn status(command: Command, natural: u32, rng: &mut Rng) -> (u32, Option<Stuck>)
         let bits = rng.pick(&[0x000, 0x800, 0x100, 0x300, 0x700, 0xb00, 0xf00, 0x1100, 0x1900]);
         return (natural & !0x1f00 | bits, Some(Stuck::NotReady(bits)));
     }
-    let word = match rng.below(5) {
-        0 | 1 => natural | rng.bit_of(R1_ERRORS),
-        2 => natural | LOCKED,
-        3 => natural | LOCKED | rng.bit_of(R1_ERRORS),
+    if command.index == 55 && rng.one_in(4) {
         // Taken as no application command; nothing else looks at this bit.
-        _ => natural & !0x20,
+        return (natural & !0x20, None);
+    }
+    let word = match rng.below(7) {
+        0..=2 => natural | rng.bit_of(R1_ERRORS),
+        3..=5 => natural | LOCKED,
+        _ => natural | LOCKED | rng.bit_of(R1_ERRORS),
     };
     (word, None)
 }

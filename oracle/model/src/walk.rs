@@ -31,6 +31,7 @@ enum Stage {
 
 pub struct Walk {
     initialising: bool,
+    writing: bool,
     stage: Stage,
     armed: bool,
     argument: u32,
@@ -44,9 +45,10 @@ pub struct Walk {
 }
 
 impl Walk {
-    pub fn new(call: Call) -> Self {
+    pub fn new(call: Call<'_>) -> Self {
         Self {
             initialising: matches!(call, Call::Initialise { .. }),
+            writing: matches!(call, Call::Write { .. }),
             stage: Stage::Idle,
             armed: false,
             argument: 0,
@@ -64,6 +66,8 @@ impl Walk {
             (4, _) => self.command(value),
             (6, _) => self.words = value / 4,
             (7, 0) => (self.armed, self.stage) = (false, Stage::Idle),
+            // A write's comes after its command, and the polls follow.
+            (7, _) if self.writing => self.stage = Stage::First,
             (7, _) => self.armed = true,
             _ => {}
         }
@@ -76,6 +80,7 @@ impl Walk {
         self.site = match index {
             13 if waits => self.waiting(),
             55 => self.announcing(),
+            12 if self.writing => "CMD12 of a write",
             _ => named(index, app, self.argument),
         };
         if !waits && index != 55 {
@@ -87,6 +92,7 @@ impl Walk {
 
     fn waiting(&self) -> &'static str {
         match self.passed {
+            "nothing" if self.writing => "CMD13 before a write",
             "nothing" => "CMD13 first",
             "CMD7" => "CMD13 after CMD7",
             "ACMD51" => "CMD13 after ACMD51",
@@ -94,6 +100,8 @@ impl Walk {
             "CMD6 switch" => "CMD13 after switch",
             "CMD17" => "CMD13 after CMD17",
             "CMD12" => "CMD13 after CMD12",
+            "CMD24" => "CMD13 after CMD24",
+            "CMD12 of a write" => "CMD13 after a write's CMD12",
             "ACMD13" => "CMD13 after ACMD13",
             _ => "CMD13 elsewhere",
         }
@@ -206,6 +214,8 @@ fn named(index: u32, app: bool, argument: u32) -> &'static str {
         (16, _) => "CMD16",
         (17, _) => "CMD17",
         (18, _) => "CMD18",
+        (24, _) => "CMD24",
+        (25, _) => "CMD25",
         (41, _) => "ACMD41",
         (51, _) => "ACMD51",
         _ => "another command",

@@ -23,7 +23,7 @@ fn every_field_has_its_arms() {
 /// What the first books of seed 1 reach, by cause.
 fn causes() -> Vec<&'static str> {
     let mut coverage = Coverage::default();
-    for k in 1..=60 {
+    for k in 1..=120 {
         coverage.add(&generate::book(1, k), &mut Rng::nth(1, k));
     }
     coverage.arms.keys().map(|(_, cause)| *cause).collect()

@@ -27,7 +27,7 @@ impl<R: host::Host> host::Host for Host<R> {
         })
     }
 
-    fn call(&mut self, call: Call, feed: Feed<'_>, room: usize, watched: bool) -> Outcome {
+    fn call(&mut self, call: Call<'_>, feed: Feed<'_>, room: usize, watched: bool) -> Outcome {
         let Feed::Script(script) = feed else {
             return self.live(call, feed, room, watched);
         };
@@ -53,7 +53,7 @@ impl<R: host::Host> host::Host for Host<R> {
 impl<R: host::Host> Host<R> {
     /// What the documents' host gives, if the Rust is not asked. What was before the
     /// call does not matter to an initialisation, so a new host serves it.
-    fn not_asked(&self, call: Call, script: &[u32], room: usize, watched: bool) -> Option<Outcome> {
+    fn not_asked(&self, call: Call<'_>, script: &[u32], room: usize, watched: bool) -> Option<Outcome> {
         // No other call is told a CSD.
         let Call::Initialise { .. } = call else {
             return None;
@@ -76,7 +76,7 @@ impl<R: host::Host> Host<R> {
     /// A live card gives its words to a host that is run, so the Rust is run first, and
     /// put back if it was not to be asked. The script then goes on behind the CSD: a host
     /// that wrongly takes such a card finds words there.
-    fn live(&mut self, call: Call, feed: Feed<'_>, room: usize, watched: bool) -> Outcome {
+    fn live(&mut self, call: Call<'_>, feed: Feed<'_>, room: usize, watched: bool) -> Outcome {
         let before = self.rust.snapshot();
         let outcome = self.rust.call(call, feed, room, watched);
         match self.not_asked(call, &outcome.script, room, watched) {

@@ -1,11 +1,11 @@
 //! The calls, and what a host holds.
 
 use oracle_driver::bench::Feed;
-use oracle_driver::host::{self, Call, Outcome, Record, Settings, State};
+use oracle_driver::host::{self, Block, Call, Outcome, Record, Settings, State};
 
 use crate::judging::{slips, Slip};
 use crate::leaf::{address, bits, block_length, capacity, clock, rate, version};
-use crate::steps::{Bench, Kind};
+use crate::steps::{Bench, Kind, Phase, Way};
 use crate::tape::{refuse, unsupported, Refusal, Step, Stop, Tape, DELAY, POWER};
 use crate::unsupported::Cause;
 
@@ -54,7 +54,7 @@ impl host::Host for Host {
         })
     }
 
-    fn call(&mut self, call: Call, feed: Feed<'_>, room: usize, watched: bool) -> Outcome {
+    fn call(&mut self, call: Call<'_>, feed: Feed<'_>, room: usize, watched: bool) -> Outcome {
         let Feed::Script(script) = feed else {
             unimplemented!("this host only follows scripts");
         };
@@ -65,6 +65,7 @@ impl host::Host for Host {
             Call::Initialise { frequency } => self.initialise(&mut tape, frequency),
             Call::Read { index, blocks } => self.read(&mut tape, index, blocks),
             Call::Status => self.status(&mut tape),
+            Call::Write { index, data } => self.write(&mut tape, index, data),
         };
         self.state.clkcr = tape.clkcr;
         let (answer, carried, field) = match ended {
@@ -155,7 +156,7 @@ impl Host {
             bench.command(16, 512, Kind::R1)?;
         }
         bench.announce(51, record.rca)?;
-        let scr = bench.data(51, 0, 2, 3, record.rca)?;
+        let scr = bench.data(&about_the_card(51, 0, 2, 3), record.rca)?;
         record.scr = u64::from(scr[0].swap_bytes()) << 32 | u64::from(scr[1].swap_bytes());
         let wide = self.settings.wide;
         if record.scr >> 48 & 1 == 0 || wide && record.scr >> 50 & 1 == 0 {
@@ -177,11 +178,11 @@ impl Host {
     fn high_speed(&mut self, tape: &mut Tape<'_>, frequency: u32, rca: u16) -> Step<()> {
         let mut bench = self.bench(tape);
         let byte = |words: &[u32], place: usize| words[place / 4] >> (8 * (place % 4)) & 255;
-        let check = bench.data(6, 0x00ff_fff1, 16, 6, rca)?;
+        let check = bench.data(&about_the_card(6, 0x00ff_fff1, 16, 6), rca)?;
         if byte(&check, 13) & 2 == 0 || byte(&check, 29) & 2 != 0 {
             return Ok(());
         }
-        let switch = bench.data(6, 0x80ff_fff1, 16, 6, rca)?;
+        let switch = bench.data(&about_the_card(6, 0x80ff_fff1, 16, 6), rca)?;
         if byte(&switch, 16) % 16 != 1 {
             return refuse(15);
         }
@@ -198,31 +199,53 @@ impl Host {
 
     /// A data phase that is refused takes the record with it; at 22 the caller
     /// puts the host back.
-    fn data(&mut self, tape: &mut Tape<'_>, index: u32, argument: u32, words: usize, size: u32) -> Step<Vec<u32>> {
+    fn data(&mut self, tape: &mut Tape<'_>, phase: &Phase<'_>) -> Step<Vec<u32>> {
         let rca = self.record()?.rca;
-        let result = self.bench(tape).data(index, argument, words, size, rca);
+        let result = self.bench(tape).data(phase, rca);
         if result.is_err() {
             self.state.record = None;
         }
         result
     }
 
-    fn read(&mut self, tape: &mut Tape<'_>, index: u32, blocks: usize) -> Step<Given> {
+    /// A read or a write, by its commands for one block and for many.
+    fn blocks(
+        &mut self,
+        tape: &mut Tape<'_>,
+        index: u32,
+        blocks: usize,
+        commands: [u32; 2],
+        way: Way<'_>,
+    ) -> Step<Vec<u32>> {
         let record = self.record()?;
-        let address = address(record.high_capacity, record.blocks, index, blocks)?;
+        let argument = address(record.high_capacity, record.blocks, index, blocks)?;
         self.bench(tape).ready(record.rca)?;
-        let command = if blocks == 1 { 17 } else { 18 };
-        let words = self.data(tape, command, address, 128 * blocks, 9)?;
+        let phase = Phase {
+            index: commands[usize::from(blocks != 1)],
+            argument,
+            size: 9,
+            way,
+        };
+        self.data(tape, &phase)
+    }
+
+    fn read(&mut self, tape: &mut Tape<'_>, index: u32, blocks: usize) -> Step<Given> {
+        let words = self.blocks(tape, index, blocks, [17, 18], Way::In(128 * blocks))?;
         Ok(Given {
             status: None,
             blocks: words.iter().flat_map(|word| word.to_le_bytes()).collect(),
         })
     }
 
+    fn write(&mut self, tape: &mut Tape<'_>, index: u32, data: &[Block]) -> Step<Given> {
+        self.blocks(tape, index, data.len(), [24, 25], Way::Out(data.as_flattened()))?;
+        Ok(Given::default())
+    }
+
     fn status(&mut self, tape: &mut Tape<'_>) -> Step<Given> {
         let rca = self.record()?.rca;
         self.bench(tape).announce(13, rca)?;
-        let words = self.data(tape, 13, 0, 16, 6)?;
+        let words = self.data(tape, &about_the_card(13, 0, 16, 6))?;
         let status = std::array::from_fn(|place| words[15 - place].swap_bytes());
         if let Some(record) = &mut self.state.record {
             record.status = status;
@@ -231,6 +254,16 @@ impl Host {
             status: Some(status),
             blocks: Vec::new(),
         })
+    }
+}
+
+/// The data phase of a command that asks the card for so many words about itself.
+fn about_the_card(index: u32, argument: u32, words: usize, size: u32) -> Phase<'static> {
+    Phase {
+        index,
+        argument,
+        size,
+        way: Way::In(words),
     }
 }
 

@@ -1,7 +1,7 @@
 //! The host written a second time, from document 01 and its readings, with no
 //! line of the driver. Where it differs from the Rust, one of the papers is
-//! wrong, or a stub is. What the Rust does not have, the field of an answer 13 and
-//! the block length of a CSD of version 1, is from document 02.
+//! wrong, or a stub is. Writes, and what the Rust does not have, the field of an
+//! answer 13 and the block length of a CSD of version 1, are from document 02.
 
 pub mod asked;
 mod host;

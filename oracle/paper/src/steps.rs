@@ -5,7 +5,7 @@ use oracle_driver::Settings;
 
 use crate::leaf::{clock, data_status};
 use crate::tape::{refuse, unsupported, Refusal, Step, Stop, Tape};
-use crate::tape::{ARG, CLKCR, CMD, DCTRL, DCTRL2, DELAY, DLEN, DTIMER, ICR};
+use crate::tape::{ARG, CLKCR, CMD, DCTRL, DCTRL2, DELAY, DLEN, DTIMER, FIFO, ICR};
 use crate::unsupported::Cause;
 
 #[derive(Clone, Copy, Eq, PartialEq)]
@@ -16,6 +16,33 @@ pub enum Kind {
     R3,
     R6,
     R7,
+}
+
+/// What is particular to a data phase.
+pub struct Phase<'d> {
+    /// The command.
+    pub index: u32,
+    pub argument: u32,
+    /// Two to this power is the size of a block in bytes.
+    pub size: u32,
+    pub way: Way<'d>,
+}
+
+/// Which way the data goes.
+pub enum Way<'d> {
+    /// So many words from the card.
+    In(usize),
+    /// These words to the card.
+    Out(&'d [u32]),
+}
+
+impl Way<'_> {
+    fn words(&self) -> usize {
+        match self {
+            Way::In(words) => *words,
+            Way::Out(words) => words.len(),
+        }
+    }
 }
 
 /// The gate and the limits, with the tape they work on.
@@ -135,21 +162,23 @@ impl Bench<'_, '_> {
         refuse(2)
     }
 
-    /// The data phase, up to and with the closing ready wait; gives the words.
-    pub fn data(&mut self, index: u32, argument: u32, words: usize, size: u32, rca: u16) -> Step<Vec<u32>> {
-        let within = self.data_within(index, argument, words, size, rca);
+    /// The data phase, up to and with the closing ready wait; gives the words that came.
+    pub fn data(&mut self, phase: &Phase<'_>, rca: u16) -> Step<Vec<u32>> {
+        let within = self.data_within(phase, rca);
         self.tape.guarded(within)
     }
 
-    fn data_within(&mut self, index: u32, argument: u32, words: usize, size: u32, rca: u16) -> Step<Vec<u32>> {
+    /// A read and a write differ in `before_command`, `after_command` and `completed`.
+    fn data_within(&mut self, phase: &Phase<'_>, rca: u16) -> Step<Vec<u32>> {
         self.idle(0x3800)?;
         self.tape.row(DCTRL2, 0)?;
         self.tape.stop_rows()?;
         self.tape.row(DTIMER, self.set.data_timeout)?;
-        self.tape.row(DLEN, 4 * words as u32)?;
-        self.tape.row(DCTRL, 9 + 2 + 16 * size)?;
+        self.tape.row(DLEN, 4 * phase.way.words() as u32)?;
+        self.before_command(phase)?;
         self.tape.open_clock(true)?;
-        self.bare(index, argument, Kind::R1)?;
+        self.bare(phase.index, phase.argument, Kind::R1)?;
+        self.after_command(phase)?;
         let mut polls = 0;
         while !self.poll()? {
             polls += 1;
@@ -157,17 +186,41 @@ impl Bench<'_, '_> {
                 return refuse(2);
             }
         }
-        let places = (0..words).map(|place| Reading::Data(place as u16));
-        let taken = places.map(|place| self.tape.take(place)).collect::<Step<Vec<u32>>>()?;
+        let taken = self.completed(phase)?;
         self.tape.stop_rows()?;
         if self.gated {
             self.tape.open_clock(false)?;
         }
-        if index == 18 {
+        if phase.index == 18 || phase.index == 25 {
             self.command(12, 0, Kind::R1)?;
         }
         self.ready(rca)?;
         Ok(taken)
+    }
+
+    fn before_command(&mut self, phase: &Phase<'_>) -> Step<()> {
+        match phase.way {
+            Way::In(_) => self.tape.row(DCTRL, 9 + 2 + 16 * phase.size),
+            Way::Out(_) => Ok(()),
+        }
+    }
+
+    /// Request P5: a write comes to DCTRL here, without the bit for reading, and then its words go out, all of them.
+    fn after_command(&mut self, phase: &Phase<'_>) -> Step<()> {
+        let Way::Out(words) = phase.way else {
+            return Ok(());
+        };
+        self.tape.row(DCTRL, 9 + 16 * phase.size)?;
+        words.iter().try_for_each(|word| self.tape.row(FIFO, *word))
+    }
+
+    fn completed(&mut self, phase: &Phase<'_>) -> Step<Vec<u32>> {
+        match phase.way {
+            Way::In(words) => (0..words)
+                .map(|place| self.tape.take(Reading::Data(place as u16)))
+                .collect(),
+            Way::Out(_) => Ok(Vec::new()),
+        }
     }
 
     /// One poll: true if it completes.

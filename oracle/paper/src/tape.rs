@@ -81,6 +81,8 @@ pub const ICR: u32 = 8;
 pub const MASK: u32 = 9;
 pub const DCTRL2: u32 = 10;
 pub const DELAY: u32 = 11;
+/// Request P5: each word that a write sends.
+pub const FIFO: u32 = 12;
 
 pub struct Tape<'a> {
     script: &'a [u32],

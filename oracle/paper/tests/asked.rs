@@ -133,7 +133,10 @@ fn printed<H: Host>(book: &[u8], room: usize) -> Vec<String> {
 
 #[test]
 fn a_good_card_after_a_refused_one() {
-    let entry = |call, script| Entry { call, script };
+    let entry = |call: Call<'_>, script| Entry {
+        call: call.kept(),
+        script,
+    };
     let book = Book {
         settings: SETTINGS,
         entries: vec![

@@ -152,7 +152,10 @@ fn of_an_application_command_at_each_cmd55() {
 
 /// A book of an initialisation that is refused, one that is not, and a status call that is.
 fn book() -> Vec<u8> {
-    let entry = |call, script| Entry { call, script };
+    let entry = |call: Call<'_>, script| Entry {
+        call: call.kept(),
+        script,
+    };
     let voltage = Card {
         ocr: 0xc000_0000,
         ..GOOD

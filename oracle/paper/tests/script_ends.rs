@@ -3,7 +3,7 @@
 
 use oracle_driver::bench::{Event, Feed};
 use oracle_driver::script::{data, initialisation, short, switching};
-use oracle_driver::{right, Call, Host, Outcome, Settings, State};
+use oracle_driver::{right, Block, Call, Host, Outcome, Settings, State};
 use oracle_paper as paper;
 
 const SETTINGS: Settings = Settings {
@@ -82,6 +82,31 @@ fn in_a_read_of_one_block_and_of_two() {
     cut_everywhere(true, Call::Read { index: 3, blocks: 1 }, &one);
     let two = [&ready[..], &data(18, &words), &short(12, 0), &ready].concat();
     cut_everywhere(true, Call::Read { index: 3, blocks: 2 }, &two);
+}
+
+#[test]
+fn in_a_write_of_one_block_and_of_two() {
+    let words: [Block; 2] = std::array::from_fn(|block| std::array::from_fn(|place| (1000 * block + place) as u32));
+    let ready = [short(13, 0x100), short(13, 0x900)].concat();
+    // A poll that goes on before the one that completes.
+    let polls = [vec![0, 0x4000_0000], vec![0, 0, 0x100, 0, 0]].concat();
+    let command = |index| [vec![0], short(index, 0)].concat();
+    let one = [&ready[..], &command(24), &polls, &ready].concat();
+    let write = |blocks| Call::Write {
+        index: 3,
+        data: &words[..blocks],
+    };
+    cut_everywhere(true, write(1), &one);
+    let two = [&ready[..], &command(25), &polls, &short(12, 0), &ready].concat();
+    cut_everywhere(true, write(2), &two);
+    for (blocks, script) in [(1, one), (2, two)] {
+        let all = both(true, write(blocks), &script, MUCH).rows.len();
+        for room in 0..all {
+            let outcome = both(true, write(blocks), &script, room);
+            assert_eq!((outcome.answer, outcome.rows.len()), (22, room));
+        }
+        assert_eq!(both(true, write(blocks), &script, all).answer, 0);
+    }
 }
 
 #[test]

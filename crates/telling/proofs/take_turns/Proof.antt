@@ -2,10 +2,11 @@ use mathlib.Core.List.{[]}
 use mathlib.Core.Path.{_≡_, refl, sym, _∙_}
 use native.Mathlib.Omega.{arith}
 use lib.ListN.{length}
+use Rattle.types.specs.Words.{wordsOf}
 use Rattle.tape.specs.Layout.{rowsIn}
 use Rattle.underway.specs.Under.{under}
 use Rattle.feed.specs.Runs.{nextSpan}
-use Rattle.feed.specs.Turns.{wayOf}
+use Rattle.feed.specs.Turns.{lent, wayOf}
 use Rattle.feed.proofs.Fed.{turned-false, turned-true}
 use Rattle.sheet.specs.Sheet.{Fits}
 use Rattle.telling.specs.Told.{leaf}
@@ -16,17 +17,17 @@ use Rattle.telling.proofs.take_turns.Statement.{statement}
 use Rattle.telling.proofs.take_turns.Tie as tie
 
 abbrev Inv-loop : tie.InvT-loop
-Inv-loop script rows₀ out₀ feeding₀ page₀ rows out feeding page =
+Inv-loop script «data» rows₀ out₀ feeding₀ page₀ rows out feeding page =
     (length rows ≡ length rows₀)
     × (length out ≡ length out₀)
     × Fits page out
-    × Telling script (wayOf [] feeding₀) (rowsIn rows₀) (leaf (page₀ .at) out₀) feeding (rowsIn rows) (leaf (page .at) out)
+    × Telling script (wordsOf «data») (wayOf (lent (wordsOf «data») []) feeding₀) (rowsIn rows₀) (leaf (page₀ .at) out₀) feeding (rowsIn rows) (leaf (page .at) out)
 
 abbrev μ-loop : tie.MeasureT-loop
-μ-loop script rows₀ out₀ feeding₀ page₀ rows out feeding page = nextSpan script (under [] (feeding .call) .ahead) (feeding .used)
+μ-loop script «data» rows₀ out₀ feeding₀ page₀ rows out feeding page = nextSpan script (under (lent (wordsOf «data») []) (feeding .call) .ahead) (feeding .used)
 
 loop-holds : tie.Need-loop-holds Inv-loop μ-loop
-loop-holds c = (refl, refl, c .before .before .before .before .pre, starts-telling _ _ _ _)
+loop-holds c = (refl, refl, c .before .before .before .before .before .pre, starts-telling _ _ _ _ _)
 
 tell-event-requires : tie.Need-tell-event-requires Inv-loop μ-loop
 tell-event-requires c κs = c .before .before .before .before .before .before .loop .inv .2

@@ -7,13 +7,13 @@ use Rattle.telling.proofs.tell_calls.Statement.{statement}
 use Rattle.telling.proofs.tell_calls.Tie as tie
 
 abbrev Inv-loop : tie.InvT-loop
-Inv-loop words calls script-at room out₀ place₀ k₀ out place k =
+Inv-loop words calls body-at room out₀ place₀ k₀ out place k =
     (k ≤ calls)
     × (length out ≡ length out₀)
-    × Stands words room (record { host = place₀ .host; place = script-at; out = out₀ }) k (place .host) (place .«script_at») out
+    × Stands words room (record { host = place₀ .host; place = body-at; out = out₀ }) k (place .host) (place .«body_at») out
 
 abbrev μ-loop : tie.MeasureT-loop
-μ-loop words calls script-at room out₀ place₀ k₀ out place k = calls - k
+μ-loop words calls body-at room out₀ place₀ k₀ out place k = calls - k
 
 loop-holds : tie.Need-loop-holds Inv-loop μ-loop
 loop-holds c = (search needs, search needs, first _ _ _)

@@ -9,13 +9,13 @@ use Rattle.tracing.proofs.trace_calls.Statement.{statement}
 use Rattle.tracing.proofs.trace_calls.Tie as tie
 
 abbrev Inv-loop : tie.InvT-loop
-Inv-loop words calls script-at room out₀ turn₀ k₀ out turn k =
+Inv-loop words calls body-at room out₀ turn₀ k₀ out turn k =
     (k ≤ calls)
     × (length out ≡ length out₀)
-    × Stands words room (record { host = turn₀ .host; place = script-at; out = out₀ }) k (turn .host) (turn .«script_at») out
+    × Stands words room (record { host = turn₀ .host; place = body-at; out = out₀ }) k (turn .host) (turn .«body_at») out
 
 abbrev μ-loop : tie.MeasureT-loop
-μ-loop words calls script-at room out₀ turn₀ k₀ out turn k = calls - k
+μ-loop words calls body-at room out₀ turn₀ k₀ out turn k = calls - k
 
 loop-holds : tie.Need-loop-holds Inv-loop μ-loop
 loop-holds c = (search needs, search needs, first _ _ _)

@@ -27,6 +27,26 @@ pub const SITES: &[Site] = &[
                 "no stop rows before a data phase",
                 "wait_idle::<T>(config.poll_limit, true)?; T::REGS.dctrl2().write_value(pac::sdio::regs::Dctrl2(0));",
             ),
+            wrong(
+                "write-idle-as-command",
+                "a write's data phase waits like a command",
+                "wait_idle::<T>(config.poll_limit, read)?; T::REGS.dctrl2().write_value(pac::sdio::regs::Dctrl2(0)); stop_data::<T>();",
+            ),
+            wrong(
+                "write-without-idle-wait",
+                "no idle wait before a write's data phase",
+                "if read { wait_idle::<T>(config.poll_limit, true)?; } T::REGS.dctrl2().write_value(pac::sdio::regs::Dctrl2(0)); stop_data::<T>();",
+            ),
+            wrong(
+                "write-without-dctrl2",
+                "no DCTRL2 row in a write",
+                "wait_idle::<T>(config.poll_limit, true)?; if read { T::REGS.dctrl2().write_value(pac::sdio::regs::Dctrl2(0)); } stop_data::<T>();",
+            ),
+            wrong(
+                "write-without-first-stop",
+                "no stop rows before a write's data phase",
+                "wait_idle::<T>(config.poll_limit, true)?; T::REGS.dctrl2().write_value(pac::sdio::regs::Dctrl2(0)); if read { stop_data::<T>(); }",
+            ),
         ],
     ),
     driver(
@@ -48,32 +68,73 @@ pub const SITES: &[Site] = &[
                 "DTIMER holds the software timeout",
                 "T::REGS.dtimer().write_value(pac::sdio::regs::Dtimer(config.software_timeout_ms)); T::REGS.dlen().write_value(pac::sdio::regs::Dlen((length * 4) as u32));",
             ),
+            wrong(
+                "write-length-in-words",
+                "DLEN of a write counts words",
+                "T::REGS.dtimer().write_value(pac::sdio::regs::Dtimer(config.data_transfer_timeout)); T::REGS.dlen().write_value(pac::sdio::regs::Dlen((length * if read { 4 } else { 1 }) as u32));",
+            ),
+            wrong(
+                "write-length-of-one-block",
+                "DLEN of a write is always one block",
+                "T::REGS.dtimer().write_value(pac::sdio::regs::Dtimer(config.data_transfer_timeout)); T::REGS.dlen().write_value(pac::sdio::regs::Dlen(if read { (length * 4) as u32 } else { 512 }));",
+            ),
+            wrong(
+                "write-without-timer",
+                "no DTIMER row in a write",
+                "if read { T::REGS.dtimer().write_value(pac::sdio::regs::Dtimer(config.data_transfer_timeout)); } T::REGS.dlen().write_value(pac::sdio::regs::Dlen((length * 4) as u32));",
+            ),
+            wrong(
+                "write-without-length",
+                "no DLEN row in a write",
+                "T::REGS.dtimer().write_value(pac::sdio::regs::Dtimer(config.data_transfer_timeout)); if read { T::REGS.dlen().write_value(pac::sdio::regs::Dlen((length * 4) as u32)); }",
+            ),
         ],
     ),
     driver(
         "fn start_data<",
         "register.set_dblocksize(block_size);",
-        &[wrong("block-size-fixed", "DCTRL always has blocks of 512", "register.set_dblocksize(9);")],
+        &[
+            wrong("block-size-fixed", "DCTRL always has blocks of 512", "register.set_dblocksize(9);"),
+            wrong(
+                "write-dctrl-block-size",
+                "DCTRL of a write has blocks of 256",
+                "register.set_dblocksize(if read { block_size } else { 8 });",
+            ),
+        ],
     ),
     driver(
         "fn start_data<",
         "register.set_dtdir(read);",
-        &[wrong("data-direction", "DCTRL says writing", "register.set_dtdir(false);")],
+        &[
+            wrong("data-direction", "DCTRL says writing", "register.set_dtdir(false);"),
+            wrong("write-direction-on", "DCTRL of a write says reading", "register.set_dtdir(true);"),
+        ],
     ),
     driver(
         "fn start_data<",
         "register.set_dmaen(true);",
-        &[wrong("data-without-dma", "DCTRL has no DMA", "")],
+        &[
+            wrong("data-without-dma", "DCTRL has no DMA", ""),
+            wrong("write-without-dma", "DCTRL of a write has no DMA", "register.set_dmaen(read);"),
+        ],
     ),
     driver(
         "fn start_data<",
         "if read {\n        arm();\n    }",
-        &[wrong("data-armed-late", "DCTRL after the command, as when writing", "")],
+        &[
+            wrong("data-armed-late", "DCTRL after the command, as when writing", ""),
+            wrong("write-armed-early", "DCTRL before the command, as when reading", "arm();"),
+            wrong("write-armed-twice", "DCTRL before and after the command of a write", "arm();"),
+        ],
     ),
     driver(
         "fn start_data<",
         "if !read {\n        arm();\n    }",
-        &[wrong("data-armed-late", "", "arm();")],
+        &[
+            wrong("data-armed-late", "", "arm();"),
+            wrong("write-armed-early", "", ""),
+            wrong("write-never-armed", "no DCTRL row of its own in a write", ""),
+        ],
     ),
     driver(
         "fn start_data<",
@@ -93,6 +154,26 @@ pub const SITES: &[Site] = &[
                 "data-command-gated",
                 "the data command uses its own gate",
                 "command::<T>(index, argument, Response::R1, config, true)?;",
+            ),
+            wrong(
+                "write-clock-not-opened",
+                "no CLKCR on before the command of a write",
+                "if read { set_clken::<T>(true); } command_inner::<T>(index, argument, Response::R1, config)?;",
+            ),
+            wrong(
+                "write-clock-opened-late",
+                "CLKCR on after the command of a write",
+                "if read { set_clken::<T>(true); } command_inner::<T>(index, argument, Response::R1, config)?; if !read { set_clken::<T>(true); }",
+            ),
+            wrong(
+                "write-command-gated",
+                "the command of a write uses its own gate",
+                "if read { set_clken::<T>(true); } command::<T>(index, argument, Response::R1, config, !read)?;",
+            ),
+            wrong(
+                "write-command-unjudged",
+                "a write goes on where its command is refused",
+                "set_clken::<T>(true); let sent = command_inner::<T>(index, argument, Response::R1, config); if read { sent?; }",
             ),
         ],
     ),
@@ -129,6 +210,36 @@ pub const SITES: &[Site] = &[
                 "second-status-not-read",
                 "a poll has one status and one DMA word",
                 "data_error(status)?; if transfer.has_error() { return Err(Error::Dma); } if transfer.is_running() || status & 0x100 == 0 || status & 0x3000 != 0 { return Ok(false); } if transfer.get_remaining_transfers() != 0 || T::REGS.dcount().read().0 != 0 { return Err(Error::IncompleteTransfer); } transfer.land(); return Ok(true);",
+            ),
+            wrong(
+                "write-first-status-unjudged",
+                "data errors of a poll's first status are accepted in a write",
+                "if !transfer.sends() { data_error(status)?; } if transfer.has_error() { return Err(Error::Dma); } if transfer.is_running() { return Ok(false); }",
+            ),
+            wrong(
+                "write-overrun-ignored",
+                "no overrun in a write",
+                "data_error(if transfer.sends() { status & !0x20 } else { status })?; if transfer.has_error() { return Err(Error::Dma); } if transfer.is_running() { return Ok(false); }",
+            ),
+            wrong(
+                "write-start-bit-ignored",
+                "no start bit error in a write",
+                "data_error(if transfer.sends() { status & !0x200 } else { status })?; if transfer.has_error() { return Err(Error::Dma); } if transfer.is_running() { return Ok(false); }",
+            ),
+            wrong(
+                "write-underrun-as-overrun",
+                "an underrun of a write gives 5",
+                "if transfer.sends() && status & 0x3a == 0x10 { return Err(Error::Overrun); } data_error(status)?; if transfer.has_error() { return Err(Error::Dma); } if transfer.is_running() { return Ok(false); }",
+            ),
+            wrong(
+                "write-first-dma-error-ignored",
+                "a DMA error in the first place is accepted in a write",
+                "data_error(status)?; if transfer.has_error() && !transfer.sends() { return Err(Error::Dma); } if transfer.is_running() { return Ok(false); }",
+            ),
+            wrong(
+                "write-running-ignored",
+                "a running DMA does not poll on in a write",
+                "data_error(status)?; if transfer.has_error() { return Err(Error::Dma); } if transfer.is_running() && !transfer.sends() { return Ok(false); }",
             ),
         ],
     ),
@@ -186,6 +297,41 @@ pub const SITES: &[Site] = &[
                 "a DMA error counts only once data has ended",
                 "data_error(status)?; let failed = transfer.has_error(); if status & 0x100 == 0 || status & 0x3000 != 0 { return Ok(false); } if failed { return Err(Error::Dma); }",
             ),
+            wrong(
+                "write-overrun-ignored",
+                "",
+                "data_error(if transfer.sends() { status & !0x20 } else { status })?; if transfer.has_error() { return Err(Error::Dma); } if status & 0x100 == 0 || status & 0x3000 != 0 { return Ok(false); }",
+            ),
+            wrong(
+                "write-start-bit-ignored",
+                "",
+                "data_error(if transfer.sends() { status & !0x200 } else { status })?; if transfer.has_error() { return Err(Error::Dma); } if status & 0x100 == 0 || status & 0x3000 != 0 { return Ok(false); }",
+            ),
+            wrong(
+                "write-second-status-unjudged",
+                "data errors of a poll's second status are accepted in a write",
+                "if !transfer.sends() { data_error(status)?; } if transfer.has_error() { return Err(Error::Dma); } if status & 0x100 == 0 || status & 0x3000 != 0 { return Ok(false); }",
+            ),
+            wrong(
+                "write-second-dma-error-ignored",
+                "a DMA error in the second place is accepted in a write",
+                "data_error(status)?; if transfer.has_error() && !transfer.sends() { return Err(Error::Dma); } if status & 0x100 == 0 || status & 0x3000 != 0 { return Ok(false); }",
+            ),
+            wrong(
+                "write-end-bit-ignored",
+                "a write's data ends without 0x100",
+                "data_error(status)?; if transfer.has_error() { return Err(Error::Dma); } if status & 0x100 == 0 && !transfer.sends() || status & 0x3000 != 0 { return Ok(false); }",
+            ),
+            wrong(
+                "write-active-ignored",
+                "a write's data ends while 0x3000 is on",
+                "data_error(status)?; if transfer.has_error() { return Err(Error::Dma); } if status & 0x100 == 0 || status & 0x3000 != 0 && !transfer.sends() { return Ok(false); }",
+            ),
+            wrong(
+                "write-active-transmit-only",
+                "a write's data ends while 0x2000 is on",
+                "data_error(status)?; if transfer.has_error() { return Err(Error::Dma); } if status & 0x100 == 0 || status & if transfer.sends() { 0x1000 } else { 0x3000 } != 0 { return Ok(false); }",
+            ),
         ],
     ),
     driver(
@@ -213,6 +359,21 @@ pub const SITES: &[Site] = &[
                 "dcount-low-half",
                 "only 16 bits of DCOUNT count",
                 "transfer.get_remaining_transfers() != 0 || T::REGS.dcount().read().0 as u16 != 0",
+            ),
+            wrong(
+                "write-remaining-ignored",
+                "remaining words are accepted in a write",
+                "transfer.get_remaining_transfers() != 0 && !transfer.sends() || T::REGS.dcount().read().0 != 0",
+            ),
+            wrong(
+                "write-dcount-not-read",
+                "DCOUNT is not read in a write",
+                "transfer.get_remaining_transfers() != 0 || !transfer.sends() && T::REGS.dcount().read().0 != 0",
+            ),
+            wrong(
+                "write-dcount-ignored",
+                "DCOUNT is read and not looked at in a write",
+                "transfer.get_remaining_transfers() != 0 || T::REGS.dcount().read().0 != 0 && !transfer.sends()",
             ),
         ],
     ),
@@ -256,6 +417,31 @@ pub const SITES: &[Site] = &[
                 "a script's end in a data phase of initialisation writes the reset rows once",
                 "if !crate::bench::ended() || card.is_some() { *card = None; reset_controller::<T>(); }",
             ),
+            wrong(
+                "write-refused-keeps-record",
+                "a write refused in its data phase keeps the record, and so it does at a script's end",
+                "if index != 24 && index != 25 { *card = None; } reset_controller::<T>();",
+            ),
+            wrong(
+                "write-refused-without-reset",
+                "a write refused in its data phase writes no reset rows",
+                "*card = None; if index != 24 && index != 25 { reset_controller::<T>(); }",
+            ),
+            wrong(
+                "ended-write-keeps-record",
+                "a script's end in a write's data phase keeps the record",
+                "if !crate::bench::ended() || index != 24 && index != 25 { *card = None; } reset_controller::<T>();",
+            ),
+            wrong(
+                "ended-write-without-reset",
+                "a script's end in a write's data phase writes no reset rows",
+                "*card = None; if !crate::bench::ended() || index != 24 && index != 25 { reset_controller::<T>(); }",
+            ),
+            wrong(
+                "write-many-refused-keeps-record",
+                "a write of many blocks refused in its data phase keeps the record",
+                "if index != 25 { *card = None; } reset_controller::<T>();",
+            ),
         ],
     ),
     driver(
@@ -268,6 +454,16 @@ pub const SITES: &[Site] = &[
                 "0..self.config.poll_limit.saturating_add(1)",
             ),
             wrong("data-limit-minus-one", "one poll too few in a data phase", "0..self.config.poll_limit - 1"),
+            wrong(
+                "write-limit-plus-one",
+                "one poll too many in a write",
+                "0..self.config.poll_limit.saturating_add(u32::from(index == 24 || index == 25))",
+            ),
+            wrong(
+                "write-limit-minus-one",
+                "one poll too few in a write",
+                "0..self.config.poll_limit - u32::from(index == 24 || index == 25)",
+            ),
         ],
     ),
     driver(
@@ -285,6 +481,16 @@ pub const SITES: &[Site] = &[
                 "the clock closes before the stop rows",
                 "drop(transfer); if self.gated { set_clken::<T>(false); } stop_data::<T>();",
             ),
+            wrong(
+                "write-without-last-stop",
+                "no stop rows after a write's data",
+                "drop(transfer); if index != 24 && index != 25 { stop_data::<T>(); }",
+            ),
+            wrong(
+                "write-cmd12-before-stop",
+                "CMD12 after CMD25 comes before the stop rows",
+                "drop(transfer); if index == 25 { command::<T>(12, 0, Response::R1, self.config, self.gated)?; } stop_data::<T>();",
+            ),
         ],
     ),
     driver(
@@ -298,6 +504,16 @@ pub const SITES: &[Site] = &[
                 "set_clken::<T>(false);",
             ),
             wrong("data-stop-after-gate", "", ""),
+            wrong(
+                "write-clock-left-open",
+                "the clock stays open after a write's data",
+                "if self.gated && index != 24 && index != 25 { set_clken::<T>(false); }",
+            ),
+            wrong(
+                "write-cmd12-before-gate",
+                "CMD12 after CMD25 comes before the clock closes",
+                "if index == 25 { command::<T>(12, 0, Response::R1, self.config, self.gated)?; } if self.gated { set_clken::<T>(false); }",
+            ),
         ],
     ),
     driver(
@@ -306,6 +522,11 @@ pub const SITES: &[Site] = &[
         &[
             wrong("cmd12-missing", "no CMD12 after CMD18", "index == 25"),
             wrong("cmd12-after-one", "CMD12 after CMD17 too", "index == 17 || index == 18 || index == 25"),
+            wrong("write-cmd12-missing", "no CMD12 after CMD25", "index == 18"),
+            wrong("write-cmd12-after-one", "CMD12 after CMD24 too", "index == 18 || index == 24 || index == 25"),
+            wrong("write-cmd12-before-stop", "", "index == 18"),
+            wrong("write-cmd12-before-gate", "", "index == 18"),
+            wrong("write-cmd12-after-wait", "CMD12 after CMD25 comes behind the ready wait", "index == 18"),
         ],
     ),
     driver(
@@ -322,6 +543,16 @@ pub const SITES: &[Site] = &[
                 "a refused CMD12 is accepted",
                 "let _ = command::<T>(12, 0, Response::R1, self.config, self.gated);",
             ),
+            wrong(
+                "write-cmd12-unjudged",
+                "a refused CMD12 is accepted in a write",
+                "let stopped = command::<T>(12, 0, Response::R1, self.config, self.gated); if index != 25 { stopped?; }",
+            ),
+            wrong(
+                "write-cmd12-ungated",
+                "CMD12 of a write does not open the clock",
+                "command::<T>(12, 0, Response::R1, self.config, self.gated && index != 25)?;",
+            ),
         ],
     ),
     driver(
@@ -329,6 +560,21 @@ pub const SITES: &[Site] = &[
         "if let Some(rca) = rca {\n            blocking_wait_ready::<T>(rca, self.config, self.gated)?;\n        }",
         &[
             wrong("closing-wait-missing", "no ready wait after the data", ""),
+            wrong(
+                "write-cmd12-after-wait",
+                "",
+                "if let Some(rca) = rca { blocking_wait_ready::<T>(rca, self.config, self.gated)?; } if index == 25 { command::<T>(12, 0, Response::R1, self.config, self.gated)?; }",
+            ),
+            wrong(
+                "write-closing-wait-missing-after-many",
+                "no ready wait after CMD25",
+                "if let Some(rca) = rca.filter(|_| index != 25) { blocking_wait_ready::<T>(rca, self.config, self.gated)?; }",
+            ),
+            wrong(
+                "write-closing-wait-keeps-record",
+                "the ready wait after a write's data stands outside the guard",
+                "if let Some(rca) = rca { if index == 24 || index == 25 { guard.defuse(); return blocking_wait_ready::<T>(rca, self.config, self.gated); } blocking_wait_ready::<T>(rca, self.config, self.gated)?; }",
+            ),
             wrong(
                 "closing-wait-ungated",
                 "the ready wait after the data does not open the clock",

@@ -10,6 +10,7 @@ mod controller;
 mod data;
 mod initialise;
 mod types;
+mod write;
 
 #[derive(Clone, Copy, Eq, PartialEq)]
 pub enum File {
@@ -67,6 +68,59 @@ const STUBS: &[(&str, &str)] = &[
         "a closing row without room drops the record",
     ),
     ("closing-full-if-filled", "closing rows that just fill the list give 22"),
+    ("fifo-before-command", "FIFO rows before the command of a write"),
+    ("fifo-after-refusal", "FIFO rows also after a command that is refused"),
+    ("fifo-before-dctrl", "FIFO rows before DCTRL"),
+    ("fifo-after-polls", "FIFO rows after the polls"),
+    (
+        "fifo-as-dma-says",
+        "FIFO rows as many as the first DMA word leaves over",
+    ),
+    ("fifo-big-endian", "the bytes of a FIFO row are turned round"),
+    ("fifo-halves-exchanged", "the halves of a FIFO row are exchanged"),
+    ("fifo-bytes", "a FIFO row for each byte"),
+    ("fifo-first-missing", "no FIFO row for the first word"),
+    ("fifo-last-missing", "no FIFO row for the last word"),
+    (
+        "fifo-last-of-first-block-missing",
+        "no FIFO row for the first block's last word",
+    ),
+    ("fifo-one-more", "a FIFO row of 0 behind the last word"),
+    ("fifo-first-twice", "two FIFO rows for the first word"),
+    ("fifo-first-block-alone", "FIFO rows for the first block alone"),
+    ("fifo-first-block-again", "every block is sent as the first one"),
+    ("fifo-blocks-backwards", "the last block is sent first"),
+    ("fifo-words-backwards", "the last word of a block is sent first"),
+    ("fifo-without-zeros", "no FIFO row for a word of 0"),
+    ("fifo-no-rows", "no FIFO row at all"),
+    ("fifo-as-delay", "the words sent are rows of register 11"),
+    (
+        "fifo-full-accepted",
+        "a FIFO row without room is no 22, and nor is any behind it",
+    ),
+    (
+        "fifo-without-room",
+        "FIFO rows without room are left out, and the call goes on",
+    ),
+    ("fifo-full-drops-record", "22 behind a FIFO row drops the record"),
+    ("fifo-full-resets", "22 behind a FIFO row leaves CLKCR as reset rows do"),
+    ("write-takes-data", "a write takes data words from the script"),
+    ("write-counts-data", "the words used count the data words of a write"),
+    (
+        "write-gives-blocks",
+        "an accepted write gives its blocks as a read does",
+    ),
+    (
+        "book-without-blocks-refused",
+        "a book with a write of no blocks gets 23",
+    ),
+    ("book-of-17-blocks", "a book may write 17 blocks"),
+    ("book-counts-script", "a write's row counts its script alone"),
+    ("book-data-behind", "a write's data stands behind its script"),
+    (
+        "book-data-filled-up",
+        "a body shorter than its data is filled up with zeros",
+    ),
 ];
 
 pub fn sites() -> Vec<&'static Site> {
@@ -76,6 +130,7 @@ pub fn sites() -> Vec<&'static Site> {
         data::SITES,
         initialise::SITES,
         calls::SITES,
+        write::SITES,
         types::SITES,
     ];
     files.into_iter().flatten().collect()

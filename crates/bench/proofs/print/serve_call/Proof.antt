@@ -1,10 +1,13 @@
+use Prim.Native.Nat.{_+_, _*_, _≤_}
 use mathlib.Core.Path.{_≡_, ap}
 use native.Mathlib.Omega.{arith}
+use lib.ListN.{getD}
 use Rattle.text.specs.Ink.{Laid}
 use Rattle.host.specs.Calls.{calledOf}
 use Rattle.host.specs.declared.host.Called.{Called}
 use Rattle.book.specs.declared.layout.Asked.{Asked}
 use Rattle.bench.specs.Bench.{cameOf, lineOf}
+use Rattle.bench.proofs.Zeros.{part-of-zeros}
 use borrow.Author.Needs.{needs}
 use Rattle.bench.proofs.print.serve_call.Statement.{statement}
 use Rattle.bench.proofs.print.serve_call.Tie as tie
@@ -12,8 +15,8 @@ use Rattle.bench.proofs.print.serve_call.Tie as tie
 add-end : tie.Need-add-end
 add-end c =
     let asked = c .before .call-at .ensures in
-    let at = ap (λ (x : Asked). x .«script_at») asked in
-    let len = ap (λ (x : Asked). x .«script_len») asked in
+    let at = ap (λ (x : Asked). x .«body_at») asked in
+    let len = ap (λ (x : Asked). x .«body_len») asked in
     record { fits = omega (arith, at, len, c .before .before .before .before .pre .2) }
 
 ask-in-requires : tie.Need-ask-in-requires
@@ -25,12 +28,14 @@ returns : tie.Need-returns
 returns c =
     let args = c .before .before .before .before .before .before .before .before .before .before .before .before .before .before .args in
     let asked = c .before .before .before .before .before .before .before .before .before .before .before .call-at .ensures in
+    let b = getD (args .words .now) (7 + 4 * args .k + 2) 0 in
+    let few : b ≤ 16 = c .before .before .before .before .before .before .before .before .before .before .before .before .before .before .pre .1 in
     let called : c .before .before .before .before .before .before .before .ask-in .result ≡ calledOf (cameOf (args .host) (args .words .now) (args .k) (args .place)) =
-    rw asked at (c .before .before .before .before .before .before .before .ask-in .ensures .0) in
+    rw (asked, part-of-zeros (512 * b) 8192 (omega (arith, few))) at (c .before .before .before .before .before .before .before .ask-in .ensures .0) in
     let line : Laid (args .at) (lineOf (args .host) (args .words .now) (args .k) (args .place)) (args .out .now) (c .before .before .put-call .result) (c .before .before .put-call .last .0) =
     rw called at (c .before .before .put-call .ensures) in
-    let at = ap (λ (x : Asked). x .«script_at») asked in
-    let len = ap (λ (x : Asked). x .«script_len») asked in (
+    let at = ap (λ (x : Asked). x .«body_at») asked in
+    let len = ap (λ (x : Asked). x .«body_len») asked in (
       ap (λ (x : Called). x .host) called,
       (rw (at, len), line),
     )

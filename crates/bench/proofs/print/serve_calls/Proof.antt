@@ -3,7 +3,7 @@ use mathlib.Core.Path.{_≡_}
 use native.Mathlib.Omega.{arith}
 use Rattle.book.specs.Layout.{countOf}
 use Rattle.book.proofs.Causes.{good-words}
-use Rattle.book.proofs.Reached.{script-within}
+use Rattle.book.proofs.Reached.{body-within}
 use Rattle.bench.proofs.Turns.{Serving, first-turn, next-turn, last-turn, blocks-of}
 use borrow.Author.Needs.{needs}
 use Rattle.bench.proofs.print.serve_calls.Statement.{statement}
@@ -11,7 +11,7 @@ use Rattle.bench.proofs.print.serve_calls.Tie as tie
 
 abbrev Inv-loop : tie.InvT-loop
 Inv-loop words out₀ at calls turn₀ k₀ out turn k =
-    Serving words (turn₀ .host) at out₀ k (turn .host) (turn .«script_at») (turn .at) out × (calls ≡ countOf words)
+    Serving words (turn₀ .host) at out₀ k (turn .host) (turn .«body_at») (turn .at) out × (calls ≡ countOf words)
 
 abbrev μ-loop : tie.MeasureT-loop
 μ-loop words out₀ at calls turn₀ k₀ out turn k = calls - k
@@ -30,7 +30,7 @@ serve-call-requires c κs =
     let t = head .loop .inv .0 in
     let count = head .loop .inv .1 in
     let more = c .before .before .loop-test .taken in
-    (omega (arith, good .most, count, more), blocks-of t (omega (arith, count, more)), script-within ws _ _ (t .reached) (omega (arith, count, more)))
+    (omega (arith, good .most, count, more), blocks-of t (omega (arith, count, more)), body-within ws _ _ (t .reached) (omega (arith, count, more)))
 
 loop-again : tie.Need-loop-again Inv-loop μ-loop
 loop-again c =

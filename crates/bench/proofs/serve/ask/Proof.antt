@@ -1,12 +1,11 @@
 use mathlib.Core.Path.{ap, _∙_}
-use lib.ListN.{length}
 use Rattle.tape.specs.Layout.{rowsIn}
 use Rattle.host.specs.Calls.{calledOf}
 use Rattle.calls.specs.Serve as S
 use Rattle.calls.specs.Serve.{comes}
 use Rattle.book.specs.Readers.{callAsked}
 use Rattle.bench.specs.Bench.{bufferAfter}
-use Rattle.bench.proofs.Asks.{initialises, reads, asks-status}
+use Rattle.bench.proofs.Asks.{initialises, reads, writes, asks-status}
 use borrow.Author.Needs.{needs}
 use Rattle.bench.proofs.serve.ask.Statement.{statement}
 use Rattle.bench.proofs.serve.ask.Tie as tie
@@ -17,8 +16,8 @@ returns c =
     let args = c .before .before .before .before .before .before .before .before .before .args in
     let host = args .host in
     let buffer = args .buffer .now in
-    let call = initialises (rowsIn (args .rows .now)) (length buffer) (callAsked (args .words .now) (args .asked)) (c .before .before .before .before .if1 .taken) in
-    let done = rw (c .before .before .before .before .before .part .ensures) at (c .before .before .blocking-init-card .ensures) in (
+    let call = initialises (rowsIn (args .rows .now)) buffer (callAsked (args .words .now) (args .asked)) (c .before .before .before .before .if1 .taken) in
+    let done = rw (c .before .before .before .before .before .script-of .ensures) at (c .before .before .blocking-init-card .ensures) in (
       done .0 ∙ ap (λ (x : S.Call). calledOf (comes host x)) call,
       (
         done .1 ∙ ap (λ (x : S.Call). comes host x .list) call,
@@ -32,8 +31,8 @@ returns-2 c =
     let args = c .before .before .before .before .before .before .before .before .before .before .before .before .before .args in
     let host = args .host in
     let buffer = args .buffer .now in
-    let call = reads (rowsIn (args .rows .now)) (length buffer) (callAsked (args .words .now) (args .asked)) (c .before .before .before .before .before .before .before .before .if1 .left) (c .before .before .before .before .before .before .before .if2 .taken) in
-    let done = rw (c .before .before .before .before .before .before .before .before .before .part .ensures) at (c .before .before .before .before .blocking-read-blocks .ensures) in (
+    let call = reads (rowsIn (args .rows .now)) buffer (callAsked (args .words .now) (args .asked)) (c .before .before .before .before .before .before .before .before .if1 .left) (c .before .before .before .before .before .before .before .if2 .taken) in
+    let done = rw (c .before .before .before .before .before .before .before .before .before .script-of .ensures) at (c .before .before .before .before .blocking-read-blocks .ensures) in (
       done .0 ∙ ap (λ (x : S.Call). calledOf (comes host x)) call,
       (
         done .1 .0 ∙ ap (λ (x : S.Call). comes host x .list) call,
@@ -44,11 +43,26 @@ returns-2 c =
 returns-3 : tie.Need-returns-3
 unfolding comes bufferAfter
 returns-3 c =
-    let args = c .before .before .before .before .before .before .before .before .before .before .args in
+    let args = c .before .before .before .before .before .before .before .before .before .before .before .before .before .before .before .args in
     let host = args .host in
     let buffer = args .buffer .now in
-    let call = asks-status (rowsIn (args .rows .now)) (length buffer) (callAsked (args .words .now) (args .asked)) (c .before .before .before .before .before .if1 .left) (c .before .before .before .before .if2 .left) in
-    let done = rw (c .before .before .before .before .before .before .part .ensures) at (c .before .before .ask-status .ensures) in (
+    let call = writes (rowsIn (args .rows .now)) buffer (callAsked (args .words .now) (args .asked)) (c .before .before .before .before .before .before .before .before .before .before .if1 .left) (c .before .before .before .before .before .before .before .before .before .if2 .left) (c .before .before .before .before .before .before .before .before .if3 .taken) in
+    let done = rw (c .before .before .before .before .before .before .before .before .before .before .before .script-of .ensures, c .before .before .before .before .before .before .before .data-of .ensures) at (c .before .before .before .before .ask-write .ensures) in (
+      done .0 ∙ ap (λ (x : S.Call). calledOf (comes host x)) call,
+      (
+        done .1 .0 ∙ ap (λ (x : S.Call). comes host x .list) call,
+        done .1 .1 ∙ ap (λ (x : S.Call). bufferAfter x (comes host x) buffer) call,
+      ),
+    )
+
+returns-4 : tie.Need-returns-4
+unfolding comes bufferAfter
+returns-4 c =
+    let args = c .before .before .before .before .before .before .before .before .before .before .before .args in
+    let host = args .host in
+    let buffer = args .buffer .now in
+    let call = asks-status (rowsIn (args .rows .now)) buffer (callAsked (args .words .now) (args .asked)) (c .before .before .before .before .before .before .if1 .left) (c .before .before .before .before .before .if2 .left) (c .before .before .before .before .if3 .left) in
+    let done = rw (c .before .before .before .before .before .before .before .script-of .ensures) at (c .before .before .ask-status .ensures) in (
       done .0 ∙ ap (λ (x : S.Call). calledOf (comes host x)) call,
       (
         done .1 ∙ ap (λ (x : S.Call). comes host x .list) call,
@@ -57,4 +71,4 @@ returns-3 c =
     )
 
 pub ask-spec : {M : Type 1} → statement M
-ask-spec = tie.close (tie.spec (λ c κs. search needs) (λ c κs. search needs) (λ c. search needs) returns (λ c κs. search needs) (λ c. search needs) (λ c. search needs) returns-2 (λ c κs. search needs) (λ c. search needs) returns-3)
+ask-spec = tie.close (tie.spec (λ c κs. search needs) (λ c κs. search needs) (λ c. search needs) returns (λ c κs. search needs) (λ c. search needs) (λ c. search needs) returns-2 (λ c κs. search needs) (λ c κs. search needs) (λ c. search needs) (λ c. search needs) returns-3 (λ c κs. search needs) (λ c. search needs) returns-4)

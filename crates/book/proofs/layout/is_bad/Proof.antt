@@ -39,7 +39,7 @@ returns-8 c =
     let rows = ap (λ (n : ℕ). badRows n (drop 7 words)) (sym calls) ∙ sym (c .before .before .rows-are-bad .ensures) ∙ c .before .if7 .left in
     sym
     (cause.fills words (omega arith) (omega arith) (omega arith) (omega arith) (omega arith) (omega arith) rows
-    ∙ rw (c .script-words .ensures, c .before .before .before .before .before .before .before .before .before .before .before .before .contents .ensures, calls))
+    ∙ rw (c .body-words .ensures, c .before .before .before .before .before .before .before .before .before .before .before .before .contents .ensures, calls))
 
 pub is-bad-spec : {M : Type 1} → statement M
 is-bad-spec = tie.close (tie.spec (λ c κs. search needs) (λ c κs. search needs) (λ c κs. search needs) (λ c κs. search needs) returns returns-2 returns-3 returns-4 returns-5 returns-6 (λ c κs. search needs) returns-7 (λ c κs. search needs) (λ c. search needs) returns-8)

@@ -1,11 +1,12 @@
-use Prim.Native.Nat.{_-_, _≤_}
+use Prim.Native.Nat.{_*_, _-_, _≤_}
 use mathlib.Core.Path.{_≡_, refl, sym, _∙_}
 use native.Mathlib.Omega.{arith}
 use lib.ListN.{length, take, length-set}
 use Rattle.text.specs.Ink.{inked, next}
 use Rattle.text.proofs.Ink.{ink-nil}
-use Rattle.book.specs.Layout.{wordsOf}
-use Rattle.book.proofs.Load.{length-words, word-is, store, stored}
+use Rattle.types.specs.Words.{wordsOf}
+use Rattle.types.proofs.Back.{length-words, wordAt, word-is}
+use Rattle.book.proofs.Load.{store, stored}
 use borrow.Author.Needs.{needs}
 use Rattle.book.proofs.layout.load.Statement.{statement}
 use Rattle.book.proofs.layout.load.Tie as tie
@@ -25,7 +26,8 @@ loop-again c =
     let head = c .before .before .before .before .before .before in
     let args = head .before .before .before .before .args in
     let bytes = args .bytes .now in
-    let value = c .little .ensures ∙ sym (word-is (head .loop .i) bytes (omega (arith, head .before .least .ensures))) in (
+    let word : c .little .result ≡ wordAt bytes (4 * head .loop .i) = c .little .ensures in
+    let value = word ∙ sym (word-is (head .loop .i) bytes (omega (arith, head .before .least .ensures))) in (
       rw (head .loop .inv .0, value) (store (wordsOf bytes) (args .words .now) (head .loop .i) (rw length-words (omega (arith, head .before .least .ensures))) (omega (arith, head .before .least .ensures))),
       omega arith,
       simp length-set (head .loop .inv .2),

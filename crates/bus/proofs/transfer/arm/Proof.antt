@@ -11,8 +11,7 @@ use Rattle.bus.proofs.transfer.arm.Tie as tie
 returns : tie.Need-returns
 unfolding arm
 returns c =
-    let dctrl = c .before .before in
-    let dlen = dctrl .before .before .before .before in
+    let dlen = c .before .before in
     let dtimer = dlen .before .before .before .before in
     let stopped = dtimer .before .before .before .before in
     let dctrl2 = stopped .before .before .before .before in
@@ -20,7 +19,7 @@ returns c =
     seq (dctrl2 .write-row .ensures s)
     (seq (stopped .stop-data .ensures s)
     (seq (dtimer .write-row2 .ensures s)
-    (seq (dlen .write-row3 .ensures s) (rw (dctrl2 .before .before .before .dctrl .ensures) at (dctrl .write-row4 .ensures s)))))
+    (dlen .write-row3 .ensures s)))
 
 same-length : tie.Need-same-length
 same-length c = sym (rows-long _) ∙ keeps (returns c []) .long ∙ rows-long _
@@ -28,6 +27,5 @@ same-length c = sym (rows-long _) ∙ keeps (returns c []) .long ∙ rows-long _
 pub arm-spec : {M : Type 1} → statement M
 arm-spec =
     tie.close
-    (tie.spec (λ c κs. search needs) (λ c. search needs) (λ c. search needs) (λ c κs. search needs)
-    (λ c κs. search needs) (λ c κs. search needs) (λ c κs. search needs) (λ c κs. search needs) same-length
-    returns)
+    (tie.spec (λ c. search needs) (λ c. search needs) (λ c κs. search needs)
+    (λ c κs. search needs) (λ c κs. search needs) (λ c κs. search needs) same-length returns)

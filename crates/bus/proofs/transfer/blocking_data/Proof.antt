@@ -13,7 +13,7 @@ returns : tie.Need-returns
 unfolding blockingData
 returns c =
     let read = c .before .before .before .before .before in (
-      guarded {p = transferData _ _ _ _} resetController (read .before .before .enum-told .given .1) (read .transfer-data .ensures .0) (settled-value (c .enum-told2 .given .1) stay),
+      guarded {p = transferData _ _ _ _ _} resetController (read .before .before .enum-told .given .1) (read .transfer-data .ensures .0) (settled-value (c .enum-told2 .given .1) stay),
       read .transfer-data .ensures .1,
     )
 
@@ -23,7 +23,7 @@ returns-2 c =
     let closed = c .before .before in
     let read = closed .before .before .before .before .before .before .before in
     let lies = read .transfer-data .ensures .1 in (
-      guarded {p = transferData _ _ _ _} resetController (read .before .before .enum-told .given .1) (read .transfer-data .ensures .0) (closed .close .ensures _),
+      guarded {p = transferData _ _ _ _ _} resetController (read .before .before .enum-told .given .1) (read .transfer-data .ensures .0) (closed .close .ensures _),
       record {
         place = lies .place ∙ guard-keeps resetController 0 _ (closed .close .ensures []);
         count = lies .count ∙ guard-keeps resetController 0 _ (closed .close .ensures []);

@@ -2,7 +2,7 @@ use mathlib.Core.Path.{ap}
 use native.Mathlib.Omega.{arith}
 use Rattle.tape.specs.Plan.{Nothing}
 use Rattle.tape.specs.Run.{After}
-use Rattle.bus.specs.Transfer.{receive}
+use Rattle.bus.specs.Transfer.{receive, landed}
 use Rattle.tape.proofs.Laws.{seq, read-on}
 use borrow.Author.Needs.{needs}
 use Rattle.bus.proofs.transfer.receive.Statement.{statement}
@@ -12,7 +12,7 @@ take-data-requires : tie.Need-take-data-requires
 take-data-requires c κs = omega (arith, read-on (c .wait-data .ensures), c .before .rest .ensures .1)
 
 returns : tie.Need-returns
-unfolding receive
+unfolding receive landed
 returns c =
     let done = c .before in
     let part = done .before .rest .ensures .0 in (

@@ -1,4 +1,3 @@
-use borrow.Author.Tests.{eq-eqb, ne-eqb}
 use Rattle.bus.specs.Transfer.{stopTransmission}
 use Rattle.tape.proofs.Laws.{forget, stay, on-true, on-false}
 use borrow.Author.Needs.{needs}
@@ -9,11 +8,11 @@ returns : tie.Need-returns
 unfolding stopTransmission
 returns c =
     let told = c .before .before .before in
-    on-true _ (eq-eqb _ 18 (told .before .before .if1 .taken)) (forget (told .send .ensures))
+    on-true _ (rw (told .before .before .before .of-many .ensures) at (told .before .before .if1 .taken)) (forget (told .send .ensures))
 
 returns-2 : tie.Need-returns-2
 unfolding stopTransmission
-returns-2 c = on-false _ (ne-eqb _ _ (c .if1 .left)) stay
+returns-2 c = on-false _ (rw (c .before .of-many .ensures) at (c .if1 .left)) stay
 
 pub stop-transmission-spec : {M : Type 1} → statement M
-stop-transmission-spec = tie.close (tie.spec (λ c κs. search needs) (λ c. search needs) returns returns-2)
+stop-transmission-spec = tie.close (tie.spec (λ c κs. search needs) (λ c κs. search needs) (λ c. search needs) returns returns-2)

@@ -18,7 +18,11 @@ returns-3 c = rw (c .before .first2 .given .1) refl
 
 returns-4 : tie.Need-returns-4
 unfolding askedBy
-returns-4 c = rw (c .enum-told2 .given .1) refl
+returns-4 c = rw (c .before .first3 .given .1) refl
+
+returns-5 : tie.Need-returns-5
+unfolding askedBy
+returns-5 c = rw (c .enum-told2 .given .1) refl
 
 pub asked-spec : {M : Type 1} → statement M
 asked-spec =
@@ -28,7 +32,9 @@ asked-spec =
     (λ c. search needs)
     (λ c. search needs)
     (λ c. search needs)
+    (λ c. search needs)
     returns
     returns-2
     returns-3
-    returns-4)
+    returns-4
+    returns-5)

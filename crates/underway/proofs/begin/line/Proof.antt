@@ -20,6 +20,10 @@ returns-4 : tie.Need-returns-4
 unfolding lineBy
 returns-4 c = rw (c .enum-told3 .given .1) refl
 
+returns-5 : tie.Need-returns-5
+unfolding lineBy
+returns-5 c = rw (c .enum-told4 .given .1) refl
+
 pub line-spec : {M : Type 1} → statement M
 line-spec =
     tie.close
@@ -29,7 +33,9 @@ line-spec =
     (λ c κs. search needs)
     (λ c. search needs)
     (λ c. search needs)
+    (λ c. search needs)
     returns
     returns-2
     returns-3
-    returns-4)
+    returns-4
+    returns-5)

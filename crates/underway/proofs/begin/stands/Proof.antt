@@ -15,11 +15,15 @@ returns-2 c = λ asked held g h gate. rw (c .enum-told .given .1) (B.resets-begi
 
 returns-3 : tie.Need-returns-3
 unfolding firstPlan askedBy lineBy
-returns-3 c = λ asked held g h gate. rw (c .before .enum-told2 .given .1) (c .waits .ensures held g h gate ∙ B.waits-begins (c .before .before .before .args .job) (c .before .before .before .args .known) held g _ _ h (rw (c .before .enum-told2 .given .1) at asked))
+returns-3 c = λ asked held g h gate. rw (c .before .enum-told2 .given .1) (c .waits .ensures held g h gate ∙ B.reads-begins (c .before .before .before .args .job) (c .before .before .before .args .known) held g _ _ h (rw (c .before .enum-told2 .given .1) at asked))
 
 returns-4 : tie.Need-returns-4
 unfolding firstPlan askedBy lineBy
-returns-4 c = λ asked held g h gate. rw (c .before .enum-told3 .given .1) (c .app .ensures (c .before .before .before .args .job) (c .before .before .before .args .known) held g h gate ∙ B.app-begins (c .before .before .before .args .job) (c .before .before .before .args .known) held g h (rw (c .before .enum-told3 .given .1) at asked))
+returns-4 c = λ asked held g h gate. rw (c .before .enum-told3 .given .1) (c .waits2 .ensures held g h gate ∙ B.sends-begins (c .before .before .before .args .job) (c .before .before .before .args .known) held g _ _ h (rw (c .before .enum-told3 .given .1) at asked))
+
+returns-5 : tie.Need-returns-5
+unfolding firstPlan askedBy lineBy
+returns-5 c = λ asked held g h gate. rw (c .before .enum-told4 .given .1) (c .app .ensures (c .before .before .before .args .job) (c .before .before .before .args .known) held g h gate ∙ B.app-begins (c .before .before .before .args .job) (c .before .before .before .args .known) held g h (rw (c .before .enum-told4 .given .1) at asked))
 
 pub stands-spec : {M : Type 1} → statement M
 stands-spec =
@@ -31,7 +35,10 @@ stands-spec =
     (λ c κs. search needs)
     (λ c. search needs)
     (λ c κs. search needs)
+    (λ c. search needs)
+    (λ c κs. search needs)
     returns
     returns-2
     returns-3
-    returns-4)
+    returns-4
+    returns-5)

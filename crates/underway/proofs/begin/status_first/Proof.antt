@@ -6,11 +6,11 @@ use Rattle.underway.proofs.begin.status_first.Tie as tie
 
 returns : tie.Need-returns
 unfolding firstPlan statusCall
-returns c = rw (c .if1 .taken) refl
+returns c = λ sent. rw (c .if1 .taken) refl
 
 returns-2 : tie.Need-returns-2
 unfolding firstPlan statusCall
-returns-2 c = rw (c .if1 .left) refl
+returns-2 c = λ sent. rw (c .if1 .left) refl
 
 pub status-first-spec : {M : Type 1} → statement M
 status-first-spec =

@@ -9,10 +9,12 @@ use Rattle.underway.proofs.steps.heard.Statement.{statement}
 use Rattle.underway.proofs.steps.heard.Tie as tie
 
 returns : tie.Need-returns
-returns c = λ before g g′ kept. rw (c .before .before .before .at .given .1) (c .commanded .ensures (c .before .before .before .before .before .args .held) g′ (c .before .before .before .before .before .args .line) refl ∙ M.command-heard (c .before .before .before .before .before .args .job) (c .before .before .before .before .before .args .known) (c .before .before .before .before .before .args .line) before g _ _ _ _ (c .before .fed .ensures (c .before .before .before .before .before .args .line)))
+unfolding KeptAt
+returns c = λ before g g′ kept. rw (c .before .before .before .at .given .1) (c .commanded .ensures (c .before .before .before .before .before .args .held) g′ (c .before .before .before .before .before .args .line) refl ∙ M.site-sent _ _ _ _ (rw (c .before .before .before .at .given .1) at kept) ∙ M.command-heard (c .before .before .before .before .before .args .job) (c .before .before .before .before .before .args .known) (c .before .before .before .before .before .args .line) before g _ _ _ _ (c .before .fed .ensures (c .before .before .before .before .before .args .line)))
 
 returns-2 : tie.Need-returns-2
-returns-2 c = λ before g g′ kept. rw (c .before .before .before .before .at2 .given .1) (c .waited .ensures (c .before .before .before .before .before .before .args .held) g′ (c .before .before .before .before .before .before .args .line) refl ∙ M.ready-heard (c .before .before .before .before .before .before .args .job) (c .before .before .before .before .before .before .args .known) (c .before .before .before .before .before .before .args .line) before g _ _ _ _ (rw (c .before .before .wait-bus .ensures) at (c .before .fed2 .ensures (c .before .before .before .before .before .before .args .line))))
+unfolding KeptAt
+returns-2 c = λ before g g′ kept. rw (c .before .before .before .before .at2 .given .1) (c .waited .ensures (c .before .before .before .before .before .before .args .held) g′ (c .before .before .before .before .before .before .args .line) refl ∙ M.wait-sent _ _ _ _ (rw (c .before .before .before .before .at2 .given .1) at kept) ∙ M.ready-heard (c .before .before .before .before .before .before .args .job) (c .before .before .before .before .before .before .args .known) (c .before .before .before .before .before .before .args .line) before g _ _ _ _ (rw (c .before .before .wait-bus .ensures) at (c .before .fed2 .ensures (c .before .before .before .before .before .before .args .line))))
 
 returns-3 : tie.Need-returns-3
 unfolding KeptAt

@@ -1,5 +1,6 @@
 use mathlib.Core.Path.{refl}
 use Rattle.underway.specs.Under.{keptAt, KeptAt}
+use Rattle.step.proofs.Words.{handed-sent}
 use Rattle.underway.proofs.Moving as M
 use borrow.Author.Needs.{needs}
 use Rattle.underway.proofs.steps.kept.Statement.{statement}
@@ -7,11 +8,11 @@ use Rattle.underway.proofs.steps.kept.Tie as tie
 
 returns : tie.Need-returns
 unfolding keptAt KeptAt
-returns c = (rw (c .enum-told .given .1) refl, λ j k h g g′ same e. rw (c .enum-told .given .1) tt)
+returns c = (rw (c .enum-told .given .1) refl, λ j k h g g′ same e. rw (c .enum-told .given .1) (handed-sent _ _ g g′ e))
 
 returns-2 : tie.Need-returns-2
 unfolding keptAt KeptAt
-returns-2 c = (rw (c .enum-told2 .given .1) refl, λ j k h g g′ same e. rw (c .enum-told2 .given .1) tt)
+returns-2 c = (rw (c .enum-told2 .given .1) refl, λ j k h g g′ same e. rw (c .enum-told2 .given .1) (handed-sent _ _ g g′ e))
 
 returns-3 : tie.Need-returns-3
 unfolding keptAt KeptAt

@@ -1,13 +1,13 @@
 use borrow.Author.Tests.{le-ltb}
 use Rattle.tape.proofs.Layouts.{Fits, row-stored, rows-long}
-use Rattle.feed.specs.Turns.{turnBy, handedAt}
+use Rattle.feed.specs.Turns.{turnBy, takenAt}
 use Rattle.feed.proofs.Fed as F
 use borrow.Author.Needs.{needs}
 use Rattle.feed.proofs.turn.Feeding.writes.Statement.{statement}
 use Rattle.feed.proofs.turn.Feeding.writes.Tie as tie
 
 returns : tie.Need-returns
-unfolding turnBy handedAt
+unfolding turnBy takenAt
 returns c = λ g s asked. rw (rows-long _, le-ltb _ _ (c .if1 .taken))
 
 returns-2 : tie.Need-returns-2

@@ -5,7 +5,8 @@ use lib.ListN.{take, drop}
 use Rattle.tape.specs.Run.{at}
 use Rattle.tape.proofs.Laws.{kept}
 use Rattle.tape.specs.Layout.{rowsIn}
-use Rattle.host.specs.Calls.{Came, calledOf, readPlan, readNext, blocksFilled}
+use Rattle.bus.specs.Transfer.{incoming}
+use Rattle.host.specs.Calls.{Came, calledOf, blocksPlan, blocksNext, blocksFilled}
 use Rattle.host.proofs.Ran.{data-done, data-told, ends-taken, none-accepted, none-refused}
 use borrow.Author.Needs.{needs}
 use Rattle.host.proofs.host.Sdmmc.read_data.Statement.{statement}
@@ -29,8 +30,8 @@ returns c =
     let ws = take (read .blocking-data .result .count) (drop (read .blocking-data .result .place) (start .args .script .now)) in
     let gave = rw (read .before .before .read-transfer .ensures) at (read .blocking-data .ensures .0) in
     let words : part .part .result .now ≡ ws = part .part .ensures in
-    let done = data-done host (readPlan host (start .args .address) (start .args .blocks)) (readNext host) _ (start .pre .0) gave in
-    let came = data-told host (readPlan host (start .args .address) (start .args .blocks)) (readNext host) _ (start .pre .0) gave (c .ends-without .ensures ws (left .list) ∙ ap calledOf (none-accepted host _ _ _ ws _ _ left (c .before .enum-told2 .given .1))) in
+    let done = data-done host (blocksPlan host incoming (start .args .address) (start .args .blocks)) (blocksNext host) _ (start .pre .0) gave in
+    let came = data-told host (blocksPlan host incoming (start .args .address) (start .args .blocks)) (blocksNext host) _ (start .pre .0) gave (c .ends-without .ensures ws (left .list) ∙ ap calledOf (none-accepted host _ _ _ ws _ _ left (c .before .enum-told2 .given .1))) in
     (came .0, (came .1, filled .fill-blocks .ensures ∙ buffered (start .args .buffer .now) (words ∙ sym (ends-taken host _ _ ws _ _ (kept gave))) done))
 
 returns-2 : tie.Need-returns-2
@@ -44,8 +45,8 @@ returns-2 c =
     let ws = take (read .blocking-data .result .count) (drop (read .blocking-data .result .place) (start .args .script .now)) in
     let gave = rw (read .before .before .read-transfer .ensures) at (read .blocking-data .ensures .0) in
     let words : part .part .result .now ≡ ws = part .part .ensures in
-    let done = data-done host (readPlan host (start .args .address) (start .args .blocks)) (readNext host) _ (start .pre .0) gave in
-    let came = data-told host (readPlan host (start .args .address) (start .args .blocks)) (readNext host) _ (start .pre .0) gave (rw (c .before .with .ensures) at (c .ends .ensures ws (left .list)) ∙ ap calledOf (none-refused host _ _ _ ws _ left (c .before .before .enum-told .given .1))) in
+    let done = data-done host (blocksPlan host incoming (start .args .address) (start .args .blocks)) (blocksNext host) _ (start .pre .0) gave in
+    let came = data-told host (blocksPlan host incoming (start .args .address) (start .args .blocks)) (blocksNext host) _ (start .pre .0) gave (rw (c .before .with .ensures) at (c .ends .ensures ws (left .list)) ∙ ap calledOf (none-refused host _ _ _ ws _ left (c .before .before .enum-told .given .1))) in
     (came .0, (came .1, filled .fill-blocks .ensures ∙ buffered (start .args .buffer .now) (words ∙ sym (ends-taken host _ _ ws _ _ (kept gave))) done))
 
 pub read-data-spec : {M : Type 1} → statement M

@@ -20,7 +20,12 @@ unfolding transferOf
 returns-4 c = rw (c .enum-told4 .given .1)
 
 returns-5 : tie.Need-returns-5
-returns-5 c = rw (c .before .before .self .given .1) (c .read-blocks .ensures)
+unfolding transferOf
+returns-5 c = rw (c .before .before .self .given .1) (c .move-blocks .ensures)
+
+returns-6 : tie.Need-returns-6
+unfolding transferOf
+returns-6 c = rw (c .before .before .self2 .given .1) (c .move-blocks2 .ensures)
 
 pub transfer-spec : {M : Type 1} → statement M
 transfer-spec =
@@ -32,8 +37,11 @@ transfer-spec =
     (λ c. search needs)
     (λ c. search needs)
     (λ c κs. search needs)
+    (λ c. search needs)
+    (λ c κs. search needs)
     returns
     returns-2
     returns-3
     returns-4
-    returns-5)
+    returns-5
+    returns-6)

@@ -1,14 +1,12 @@
 use mathlib.Core.Path.{_∙_}
 use borrow.Author.Tests.{eq-eqb, ne-eqb}
-use Rattle.step.specs.Transfer.{dataPlan}
 use Rattle.step.proofs.Phases as P
 use borrow.Author.Needs.{needs}
 use Rattle.step.proofs.ready.Bus.counts.Statement.{statement}
 use Rattle.step.proofs.ready.Bus.counts.Tie as tie
 
 returns : tie.Need-returns
-unfolding dataPlan
-returns c = λ ws h. rw (c .top .ensures) (P.count-good (c .before .before .args .self) (c .before .before .args .phase) h ws _ _ (eq-eqb _ _ (c .before .if1 .taken)))
+returns c = λ ws h. c .lands .ensures ws h ∙ P.count-good (c .before .before .args .self) (c .before .before .args .phase) h ws _ _ (eq-eqb _ _ (c .before .if1 .taken))
 
 returns-2 : tie.Need-returns-2
 returns-2 c = λ ws h. c .refuses .ensures ws h ∙ P.count-bad (c .before .before .args .self) (c .before .before .args .phase) h ws _ _ (ne-eqb _ _ (c .before .if1 .left))

@@ -7,11 +7,11 @@ use Rattle.step.proofs.ready.Bus.takes.Tie as tie
 
 returns : tie.Need-returns
 unfolding dataPlan readingAt Handed
-returns c = λ ws ws′ h word more. rw (c .before .before .place .ensures, c .before .top .ensures) (P.word-goes (c .before .before .before .args .self) (c .before .before .before .args .phase) h ws ws′ _ _ more (rw (c .before .before .place .ensures, c .before .top .ensures) at (c .if1 .taken)))
+returns c = λ ws ws′ h word more. rw (c .before .before .place .ensures, c .before .top .ensures) (P.word-goes (c .before .before .before .args .self) (c .before .before .before .args .phase) h ws ws′ _ _ (more .1) (rw (c .before .before .place .ensures, c .before .top .ensures) at (c .if1 .taken)))
 
 returns-2 : tie.Need-returns-2
 unfolding dataPlan readingAt Handed
-returns-2 c = λ ws ws′ h word more. P.word-ends (c .before .before .before .args .self) (c .before .before .before .args .phase) h ws ws′ _ _ more (rw (c .before .before .place .ensures, c .before .top .ensures) at (c .if1 .left))
+returns-2 c = λ ws ws′ h word more. P.word-ends (c .before .before .before .args .self) (c .before .before .before .args .phase) h ws ws′ _ _ (more .1) (rw (c .before .before .place .ensures, c .before .top .ensures) at (c .if1 .left))
 
 pub takes-spec : {M : Type 1} → statement M
 takes-spec =

@@ -50,6 +50,10 @@ returns-11 : tie.Need-returns-11
 unfolding heldBy HandedAt
 returns-11 c = (rw (c .enum-told10 .given .1), λ g g′ more. rw (c .enum-told10 .given .1, rw (c .enum-told10 .given .1) at more) refl)
 
+returns-12 : tie.Need-returns-12
+unfolding heldBy HandedAt
+returns-12 c = (rw (c .enum-told11 .given .1), λ g g′ more. rw (c .enum-told11 .given .1, rw (c .enum-told11 .given .1) at more) refl)
+
 pub keeps-spec : {M : Type 1} → statement M
 keeps-spec =
     tie.close
@@ -68,6 +72,7 @@ keeps-spec =
     (λ c. search needs)
     (λ c. search needs)
     (λ c. search needs)
+    (λ c. search needs)
     returns
     returns-2
     returns-3
@@ -78,4 +83,5 @@ keeps-spec =
     returns-8
     returns-9
     returns-10
-    returns-11)
+    returns-11
+    returns-12)

@@ -15,6 +15,10 @@ returns-3 : tie.Need-returns-3
 unfolding frequencyOf
 returns-3 c = rw (c .enum-told2 .given .1)
 
+returns-4 : tie.Need-returns-4
+unfolding frequencyOf
+returns-4 c = rw (c .enum-told3 .given .1)
+
 pub frequency-spec : {M : Type 1} → statement M
 frequency-spec =
     tie.close
@@ -22,6 +26,8 @@ frequency-spec =
     (λ c. search needs)
     (λ c. search needs)
     (λ c. search needs)
+    (λ c. search needs)
     returns
     returns-2
-    returns-3)
+    returns-3
+    returns-4)

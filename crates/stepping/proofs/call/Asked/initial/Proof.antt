@@ -15,6 +15,10 @@ returns-3 : tie.Need-returns-3
 unfolding initialOf
 returns-3 c = rw (c .before .enum-told2 .given .1) (c .no-clock2 .ensures)
 
+returns-4 : tie.Need-returns-4
+unfolding initialOf
+returns-4 c = rw (c .before .enum-told3 .given .1) (c .no-clock3 .ensures)
+
 pub initial-spec : {M : Type 1} → statement M
 initial-spec =
     tie.close
@@ -24,6 +28,9 @@ initial-spec =
     (λ c κs. search needs)
     (λ c. search needs)
     (λ c κs. search needs)
+    (λ c. search needs)
+    (λ c κs. search needs)
     returns
     returns-2
-    returns-3)
+    returns-3
+    returns-4)

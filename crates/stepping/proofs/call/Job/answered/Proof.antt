@@ -14,7 +14,7 @@ returns-2 : tie.Need-returns-2
 returns-2 c = λ ws h. rw (c .before .before .before .enum-told .given .1) (ap (λ (t : Then). thenNext (c .before .before .before .before .before .args .self) ws t h) (c .and2 .ensures) ∙ S.app-taken (c .before .before .before .before .before .args .self) (c .before .before .before .before .before .args .known) h ws (c .before .before .before .before .before .args .words) (ne-eqb _ _ (c .before .if1 .left)))
 
 returns-3 : tie.Need-returns-3
-returns-3 c = λ ws h. rw (c .before .before .site .given .1) (c .came .ensures ws h ∙ S.init-site (c .before .before .before .before .args .self) (c .before .before .before .before .args .known) h _ (c .before .before .before .before .args .words))
+returns-3 c = λ ws h. rw (c .before .before .site .given .1) (c .came .ensures ws h ∙ S.init-site (c .before .before .before .before .args .self) (c .before .before .before .before .args .known) h ws _ (c .before .before .before .before .args .words))
 
 pub answered-spec : {M : Type 1} → statement M
 answered-spec =

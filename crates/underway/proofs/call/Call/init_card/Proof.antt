@@ -7,7 +7,7 @@ use Rattle.underway.proofs.call.Call.init_card.Statement.{statement}
 use Rattle.underway.proofs.call.Call.init_card.Tie as tie
 
 returns : tie.Need-returns
-returns c = λ g. c .begin .ensures g ∙ ap (λ (p : Plan Closing). record { before = c .before .before .args .host; ahead = next p (c .before .before .args .host .line) }) (c .before .init-first .ensures)
+returns c = λ g. c .begin .ensures g ∙ ap (λ (p : Plan Closing). record { before = c .before .before .args .host; ahead = next p (c .before .before .args .host .line) }) (c .before .init-first .ensures (g .sent))
 
 pub init-card-spec : {M : Type 1} → statement M
 init-card-spec =

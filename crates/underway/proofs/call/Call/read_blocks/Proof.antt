@@ -7,7 +7,7 @@ use Rattle.underway.proofs.call.Call.read_blocks.Statement.{statement}
 use Rattle.underway.proofs.call.Call.read_blocks.Tie as tie
 
 returns : tie.Need-returns
-returns c = λ g. c .begin .ensures g ∙ ap (λ (p : Plan Closing). record { before = c .before .before .args .host; ahead = next p (c .before .before .args .host .line) }) (c .before .read-first .ensures)
+returns c = λ g. c .begin .ensures g ∙ ap (λ (p : Plan Closing). record { before = c .before .before .args .host; ahead = next p (c .before .before .args .host .line) }) (c .before .blocks-first .ensures (g .sent))
 
 pub read-blocks-spec : {M : Type 1} → statement M
 read-blocks-spec =

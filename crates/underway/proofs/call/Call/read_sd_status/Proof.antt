@@ -7,7 +7,7 @@ use Rattle.underway.proofs.call.Call.read_sd_status.Statement.{statemen
 use Rattle.underway.proofs.call.Call.read_sd_status.Tie as tie
 
 returns : tie.Need-returns
-returns c = λ g. c .begin .ensures g ∙ ap (λ (p : Plan Closing). record { before = c .before .before .args .host; ahead = next p (c .before .before .args .host .line) }) (c .before .status-first .ensures)
+returns c = λ g. c .begin .ensures g ∙ ap (λ (p : Plan Closing). record { before = c .before .before .args .host; ahead = next p (c .before .before .args .host .line) }) (c .before .status-first .ensures (g .sent))
 
 pub read-sd-status-spec : {M : Type 1} → statement M
 read-sd-status-spec =

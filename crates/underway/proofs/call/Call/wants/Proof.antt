@@ -1,4 +1,5 @@
 use mathlib.Core.Path.{ap, _∙_}
+use Rattle.step.specs.Next.{filledIn}
 use Rattle.stepping.specs.Ahead.{atPlan}
 use Rattle.underway.proofs.Moving as M
 use Rattle.underway.proofs.Rowing as Ro
@@ -17,15 +18,15 @@ returns-3 : tie.Need-returns-3
 returns-3 c = λ g. rw (c .before .before .before .before .at3 .given .1) (M.data-wants (c .before .before .before .before .before .before .before .before .before .args .self .job) (c .before .before .before .before .before .before .before .before .before .args .self .known) (c .before .before .before .before .before .before .before .before .before .args .self .line) (c .before .before .before .before .before .before .before .before .before .args .self .held) g _ _ _ (λ ws. rw (c .before .before .data-bus .ensures, c .before .phase .ensures) at (c .wants3 .ensures ws)))
 
 returns-4 : tie.Need-returns-4
-unfolding atPlan
+unfolding atPlan filledIn
 returns-4 c = λ g. rw (c .enum-told .given .1) (Ro.idle-wants (c .before .before .before .before .before .args .self .job) (c .before .before .before .before .before .args .self .known) (c .before .before .before .before .before .args .self .line) _ _)
 
 returns-5 : tie.Need-returns-5
-unfolding atPlan
+unfolding atPlan filledIn
 returns-5 c = λ g. rw (c .before .before .at4 .given .1) (ap Wa.Write (c .row .ensures) ∙ Ro.row-wants (c .before .before .before .before .before .before .before .args .self .job) (c .before .before .before .before .before .before .before .args .self .known) (c .before .before .before .before .before .before .before .args .self .line) _)
 
 returns-6 : tie.Need-returns-6
-unfolding atPlan
+unfolding atPlan filledIn
 returns-6 c = λ g. rw (c .enum-told2 .given .1) (Ro.end-wants (c .before .before .before .before .before .args .self .job) (c .before .before .before .before .before .args .self .known) (c .before .before .before .before .before .args .self .line) _ _)
 
 pub wants-spec : {M : Type 1} → statement M

@@ -1,12 +1,35 @@
--- Words to bytes and back, either way.
-use Prim.Native.Nat.{ℕ, zero, suc, _+_, _*_, _/_, _%_, _^_, _<_}
+-- Bytes as words: how many, each by itself; and words to bytes and back, either way.
+use Prim.Native.Nat.{ℕ, zero, suc, _+_, _*_, _/_, _%_, _^_, _≤_, _<_}
 use mathlib.Core.List.{List, [], _∷_}
 use mathlib.Core.Path.{_≡_, refl, ap, sym}
 use native.Mathlib.Nat.{div-div-eq-div-mul, div-add-mod', mod-eq-of-lt}
 use native.Mathlib.Omega.{arith}
 use lib.ListN.{length, getD}
-use Rattle.types.specs.Words.{bytesOf}
-use Rattle.book.specs.Layout.{word4, wordsOf}
+use Rattle.types.specs.Words.{bytesOf, word4, wordsOf}
+
+pub length-words : (bytes : List ℕ) → length (wordsOf bytes) ≡ length bytes / 4
+unfolding wordsOf
+length-words [] = refl
+length-words (a ∷ []) = refl
+length-words (a ∷ b ∷ []) = refl
+length-words (a ∷ b ∷ c ∷ []) = refl
+length-words (a ∷ b ∷ c ∷ d ∷ bytes) = omega (arith, length-words bytes)
+
+-- word i, of its four bytes
+abbrev pub wordAt : List ℕ → ℕ → ℕ
+wordAt bytes at = word4 (getD bytes at 0) (getD bytes (at + 1) 0) (getD bytes (at + 2) 0) (getD bytes (at + 3) 0)
+
+pub word-is : (i : ℕ) (bytes : List ℕ) → 4 * i + 4 ≤ length bytes → getD (wordsOf bytes) i 0 ≡ wordAt bytes (4 * i)
+unfolding wordsOf
+word-is i [] h = absurd (omega arith)
+word-is i (a ∷ []) h = absurd (omega arith)
+word-is i (a ∷ b ∷ []) h = absurd (omega arith)
+word-is i (a ∷ b ∷ c ∷ []) h = absurd (omega arith)
+word-is zero (a ∷ b ∷ c ∷ d ∷ bytes) h = refl
+word-is (suc i) (a ∷ b ∷ c ∷ d ∷ bytes) h =
+    let first : 4 * suc i ≡ suc (suc (suc (suc (4 * i)))) = omega arith in
+    let past : (m : ℕ) → suc (suc (suc (suc (4 * i)))) + m ≡ suc (suc (suc (suc (4 * i + m)))) = λ m. omega arith in
+    rw (first, past 1, past 2, past 3) (word-is i bytes (omega arith))
 
 parts : (w r₀ q₁ r₁ q₂ r₂ q₃ : ℕ) → q₁ * 256 + r₀ ≡ w → q₂ * 256 + r₁ ≡ q₁ → q₃ * 256 + r₂ ≡ q₂ → word4 r₀ r₁ r₂ q₃ ≡ w
 parts w r₀ q₁ r₁ q₂ r₂ q₃ e₀ e₁ e₂ = omega arith

@@ -1,27 +1,25 @@
 use native.Mathlib.Omega.{arith}
 use borrow.Author.Tests.{ne-eqb}
-use Rattle.step.specs.Transfer.{blocksOf, transferOf}
+use Rattle.step.specs.Transfer.{blocksOf}
 use borrow.Author.Needs.{needs}
-use Rattle.step.proofs.phase.read_blocks.Statement.{statement}
-use Rattle.step.proofs.phase.read_blocks.Tie as tie
+use Rattle.step.proofs.phase.move_blocks.Statement.{statement}
+use Rattle.step.proofs.phase.move_blocks.Tie as tie
 
-mul-t6 : tie.Need-mul-t6
+mul-t8 : tie.Need-mul-t8
 unfolding blocksOf
-mul-t6 c = omega (arith, c .before .blocks2 .ensures)
+mul-t8 c = omega (arith, c .before .blocks2 .ensures)
 
 returns : tie.Need-returns
-unfolding transferOf
 returns c = rw (← c .before .blocks2 .ensures, c .if1 .taken)
 
 returns-2 : tie.Need-returns-2
-unfolding transferOf
 returns-2 c = rw (← c .before .blocks2 .ensures, ne-eqb _ _ (c .if1 .left))
 
-pub read-blocks-spec : {M : Type 1} → statement M
-read-blocks-spec =
+pub move-blocks-spec : {M : Type 1} → statement M
+move-blocks-spec =
     tie.close
     (tie.spec
     (λ c κs. search needs)
-    mul-t6
+    mul-t8
     returns
     returns-2)
