@@ -31,13 +31,18 @@
 extern "C" {
 #endif
 
-/* The numbers of the answers that these four functions give. */
+/*
+ * The numbers of the answers that these four functions give. The last is none of theirs: a host answers it to a write where
+ * the card is protected against writing (bits 13 and 12 of its CSD). It has a name here so that firmware can hand it on like
+ * the others.
+ */
 enum boresacu_answer_number {
     BORESACU_ACCEPTED = 0,
     BORESACU_UNSUPPORTED_CARD_TYPE = 13,
     BORESACU_BAD_CLOCK = 17,
     BORESACU_INVALID_BUFFER_LENGTH = 19,
-    BORESACU_ADDRESS_OUT_OF_RANGE = 20
+    BORESACU_ADDRESS_OUT_OF_RANGE = 20,
+    BORESACU_WRITE_PROTECTED = 26
 };
 
 /*

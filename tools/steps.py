@@ -25,8 +25,8 @@ import sys
 
 READ = re.compile(r"read (?:status|respcmd|response [0-3]|dma|dcount|data \d+) (?:0x([0-9a-f]{8})|none)")
 ROW = re.compile(r"row \d+ \d+")
-# Only 13 has a field.
-LINE = re.compile(r"\d+ answer (\d+)(?:(?<= 13) field [1-8])? words (\d+) rows \d+")
+# Only 13 has a field, and only 0 tells how a card is protected.
+LINE = re.compile(r"\d+ answer (\d+)(?:(?<= 13) field [1-8])? words (\d+) rows \d+(?: protect [0-3])?")
 # What may close a call whose script ended.
 RESET = [f"row {register} 0" for register in (9, 10, 7, 4, 1, 2, 3, 5, 6)] + [f"row 8 {0xC007FF}"]
 CLKCR = re.compile(r"row 2 (\d+)")

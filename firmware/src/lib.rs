@@ -46,7 +46,7 @@ impl Field {
 }
 
 /// Why the card host refuses. The functions of this crate give `UnsupportedCardType`, `BadClock`, `InvalidBufferLength`
-/// and `AddressOutOfRange`; the others are the driver's.
+/// and `AddressOutOfRange`; the others are the host's.
 #[derive(Clone, Copy, Debug, PartialEq, Eq)]
 pub enum Error {
     Timeout,
@@ -69,6 +69,8 @@ pub enum Error {
     InvalidConfig,
     InvalidBufferLength,
     AddressOutOfRange,
+    /// A write to a card that is protected against writing, by bit 13 or bit 12 of its CSD. The driver did not have it.
+    WriteProtected,
 }
 
 /// How a card is addressed: SDSC by byte, SDHC and SDXC by block.

@@ -8,10 +8,9 @@ use Rattle.text.specs.Ink.{Laid}
 use Rattle.text.proofs.Ink.{and-then}
 use Rattle.host.specs.declared.host.Made.{Made}
 use Rattle.host.specs.Calls.{made}
-use Rattle.calls.specs.Serve.{serve}
 use Rattle.book.specs.Layout.{Book}
 use Rattle.book.specs.Lines.{hostLine}
-use Rattle.bench.specs.Bench.{settingsOf, callOf, numberOf, linesFrom, whereAccepted, bookLines}
+use Rattle.bench.specs.Bench.{settingsOf, callOf, numberOf, linesServed, whereAccepted, bookLines}
 
 module _ (a : Answer) (first second : List ℕ) {out : List ℕ} {at : ℕ} {out′ : List ℕ} (line : Laid 0 first out at out′) where
   pub and-accepted : {p : ℕ} {out″ : List ℕ} → a ≡ Answered.Accepted → Laid at second out′ p out″ → Laid 0 (first ++ whereAccepted a second) out p out″
@@ -25,7 +24,7 @@ module _ (a : Answer) (first second : List ℕ) {out : List ℕ} {at : ℕ} {out
 -- of a book's host
 module _ (book : Book) (m : Made) (e : made (settingsOf book) ≡ m) {out : List ℕ} {at : ℕ} {out′ : List ℕ} (line : Laid 0 (hostLine (numberOf (m .answer))) out at out′) where
   abbrev calls : List ℕ
-  calls = linesFrom 1 (serve (m .host) (map (callOf 4096) (book .calls)) .came)
+  calls = linesServed 1 (m .host) (map (callOf 4096) (book .calls))
 
   pub with-host : {p : ℕ} {out″ : List ℕ} → m .answer ≡ Answered.Accepted → Laid at calls out′ p out″ → Laid 0 (bookLines book) out p out″
   unfolding bookLines

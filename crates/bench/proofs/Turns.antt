@@ -15,14 +15,14 @@ use Rattle.book.specs.Readers.{askedAt}
 use Rattle.book.proofs.Causes.{Good, or-left, or-right, few-blocks}
 use Rattle.book.proofs.Rows.{rowAt, badAsked, bad-next}
 use Rattle.book.proofs.Reached.{Reached, callsLeft, reached-first, reached-next, all-calls, none-left, one-call}
-use Rattle.bench.specs.Bench.{callOf, linesFrom, lineOf, hostAfter}
+use Rattle.bench.specs.Bench.{callOf, linesFrom, linesServed, lineOf, hostAfter}
 
 -- what is printed of the calls from k on
 abbrev pub rest : List ℕ → ℕ → ℕ → Sdmmc → List ℕ
-rest ws k place host = linesFrom (k + 1) (serve host (map (callOf 4096) (callsLeft ws k place)) .came)
+rest ws k place host = linesServed (k + 1) host (map (callOf 4096) (callsLeft ws k place))
 
 abbrev pub all : List ℕ → Sdmmc → List ℕ
-all ws host = linesFrom 1 (serve host (map (callOf 4096) (bookIn ws .calls)) .came)
+all ws host = linesServed 1 host (map (callOf 4096) (bookIn ws .calls))
 
 pub record Serving (ws : List ℕ) (host₀ : Sdmmc) (at₀ : ℕ) (out₀ : List ℕ) (k : ℕ) (host : Sdmmc) (place at : ℕ) (out : List ℕ) : Type 0 where
   pub reached : Reached ws k place

@@ -1,5 +1,5 @@
--- Document 01, 'The bench book and its program', with request P5's writes: what a book's calls come to, and the lines that are
--- printed of them.
+-- Document 01, 'The bench book and its program', with the writes of request P5 and the protection of P8: what a book's calls come
+-- to, and the lines that are printed of them.
 use Prim.Native.Nat.{ℕ, _+_, _*_, _/_, _%_}
 use mathlib.Core.Bool.{cond}
 use mathlib.Core.List.{List, [], _∷_, _++_, map}
@@ -72,20 +72,35 @@ bufferAfter (S.write index bytes s l) x buffer = bytes
 abbrev pub numberOf : Answer → ℕ
 numberOf answer = answerTold answer .number
 
-abbrev pub cameLine : ℕ → Came → List ℕ
-cameLine k x = callLine k (x .answer) (x .words) (x .rows)
+-- the kind that a book has for a call
+unfoldable pub kindOf : S.Call → ℕ
+kindOf (S.initialise frequency s l) = 1
+kindOf (S.read index bytes s l) = 2
+kindOf (S.status s l) = 3
+kindOf (S.write index bytes s l) = 4
+
+abbrev pub cameLine : ℕ → S.Call → Came → List ℕ
+cameLine k c x = callLine k (kindOf c) (x .answer) (x .words) (x .rows) (x .host .card .protection)
 
 -- what each call came to, a line each, numbered from k on
-unfoldable pub linesFrom : ℕ → List Came → List ℕ
-linesFrom k [] = []
-linesFrom k (x ∷ xs) = cameLine k x ++ linesFrom (k + 1) xs
+unfoldable pub linesFrom : ℕ → List S.Call → List Came → List ℕ
+linesFrom k [] xs = []
+linesFrom k (c ∷ cs) [] = []
+linesFrom k (c ∷ cs) (x ∷ xs) = cameLine k c x ++ linesFrom (k + 1) cs xs
 
--- of call k of a book's words, counted from 0, whose body starts at a place: what it comes to, its line, the host after it
+-- the lines of calls that a host serves one after the other
+abbrev pub linesServed : ℕ → Sdmmc → List S.Call → List ℕ
+linesServed k host cs = linesFrom k cs (serve host cs .came)
+
+-- call k of a book's words, counted from 0, whose body starts at a place: what it comes to, its line, the host after it
+abbrev pub callIn : List ℕ → ℕ → ℕ → S.Call
+callIn ws k place = callOf 4096 (callAsked ws (askedAt ws k place))
+
 abbrev pub cameOf : Sdmmc → List ℕ → ℕ → ℕ → Came
-cameOf host ws k place = comes host (callOf 4096 (callAsked ws (askedAt ws k place)))
+cameOf host ws k place = comes host (callIn ws k place)
 
 abbrev pub lineOf : Sdmmc → List ℕ → ℕ → ℕ → List ℕ
-lineOf host ws k place = cameLine (k + 1) (cameOf host ws k place)
+lineOf host ws k place = cameLine (k + 1) (callIn ws k place) (cameOf host ws k place)
 
 abbrev pub hostAfter : Sdmmc → List ℕ → ℕ → ℕ → Sdmmc
 hostAfter host ws k place = cameOf host ws k place .host
@@ -102,7 +117,7 @@ unfoldable pub bookLines : Book → List ℕ
 bookLines book =
     let host = made (settingsOf book) in
     hostLine (numberOf (host .answer))
-    ++ whereAccepted (host .answer) (linesFrom 1 (serve (host .host) (map (callOf 4096) (book .calls)) .came))
+    ++ whereAccepted (host .answer) (linesServed 1 (host .host) (map (callOf 4096) (book .calls)))
 
 abbrev pub linesOf : Option Book → List ℕ
 linesOf none = hostLine (numberOf Answered.BadBook)

@@ -13,13 +13,13 @@ use Rattle.tape.specs.Steps.{word, row, holdGated, holdClock, holdSignalling, w
 use Rattle.bus.specs.Clock.{configureClock, clockDelay}
 use Rattle.bus.specs.Command.{issue, complete, commandInner, command}
 use Rattle.init.specs.Initialise.{powerOn, beginInit, initCard, initialise}
-use Rattle.host.specs.Calls.{ends, initFrom, initialised, blocksCame, clockedHost, judgedHost, made}
+use Rattle.host.specs.Calls.{ends, initFrom, initialised, blocksFrom, blocksJudged, blocksCame, clockedHost, judgedHost, made}
 use Rattle.calls.specs.Serve.{comes, serve}
 use Rattle.book.specs.Cases.{words}
 use Rattle.book.specs.Layout.{dataCount, callsOf, bookIn, badRow, badRows, bodyWords, badWords, badBook, bookOf}
-use Rattle.bench.specs.Bench.{linesFrom, whereAccepted, bookLines, printed}
+use Rattle.bench.specs.Bench.{kindOf, linesFrom, whereAccepted, bookLines, printed}
 
 pub worked : printed (bytesOf words)
     ≡ typed "host answer 0\n1 answer 17 words 0 rows 0\n2 answer 16 words 0 rows 0\n3 answer 2 words 1 rows 20\n"
-unfolding rowsIn errorTold answerTold divisorOf clockOf madeOf bytesOf decimalIn decimalOf handle until noted run word row holdGated holdClock holdSignalling waitIdle resetController setClken configureClock clockDelay issue complete commandInner command powerOn beginInit initCard initialise ends initFrom initialised blocksCame clockedHost judgedHost made comes serve wordsOf dataCount callsOf bookIn badRow badRows bodyWords badWords badBook bookOf linesFrom whereAccepted bookLines
+unfolding rowsIn errorTold answerTold divisorOf clockOf madeOf bytesOf decimalIn decimalOf handle until noted run word row holdGated holdClock holdSignalling waitIdle resetController setClken configureClock clockDelay issue complete commandInner command powerOn beginInit initCard initialise ends initFrom initialised blocksFrom blocksJudged blocksCame clockedHost judgedHost made comes serve wordsOf dataCount callsOf bookIn badRow badRows bodyWords badWords badBook bookOf kindOf linesFrom whereAccepted bookLines
 worked = refl

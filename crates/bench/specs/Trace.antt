@@ -38,7 +38,7 @@ kindText kind host count buffer =
 -- its line; every row; the word that its answer carries; the host's state; what it gave
 abbrev pub traceText : ℕ → S.Call → Came → List ℕ → List ℕ
 traceText k c x buffer =
-    cameLine k x ++ (rowsText (x .rows) (x .list) ++ carriedText (x .answer) ++ stateText (x .host)) ++ givenText c x buffer
+    cameLine k c x ++ (rowsText (x .rows) (x .list) ++ carriedText (x .answer) ++ stateText (x .host)) ++ givenText c x buffer
 
 -- the same of a call of a book's words, from the row list and the buffer before it
 abbrev pub tracedText : ℕ → Sdmmc → List Row → List ℕ → List ℕ → Asked → List ℕ

@@ -5,9 +5,8 @@ ghost use mathlib.Core.Path.{_≡_};
 ghost use Prim.Native.Nat.{_+_, _*_, _≤_, _<_};
 ghost use lib.ListN.{length, getD};
 ghost use Rattle.text.specs.Ink.{Laid};
-ghost use Rattle.calls.specs.Serve.{serve};
 ghost use Rattle.book.specs.Layout.{badWords, bookIn};
-ghost use Rattle.bench.specs.Bench.{callOf, linesFrom, lineOf, hostAfter, bookLines, printed};
+ghost use Rattle.bench.specs.Bench.{callOf, linesServed, lineOf, hostAfter, bookLines, printed};
 use crate::serve;
 use book::layout;
 use book::layout::Opened;
@@ -36,7 +35,18 @@ fn serve_call(host: Sdmmc, words: &[u32], k: u32, place: usize, out: &mut [u8], 
     let called = serve::ask_in(host, words, asked, &mut rows, &mut buffer);
     let answer = called.answer;
     let next = called.host;
-    let place = lines::put_call(out, at, k + 1, answer, called.words, called.rows);
+    let card = next.card;
+    let protection = card.protection;
+    let place = lines::put_call(
+        out,
+        at,
+        k + 1,
+        asked.kind,
+        answer,
+        called.words,
+        called.rows,
+        protection,
+    );
     Turn {
         host: next,
         body_at: end,
@@ -47,7 +57,7 @@ fn serve_call(host: Sdmmc, words: &[u32], k: u32, place: usize, out: &mut [u8], 
 // Serves the calls of a good book, and prints their lines.
 fn serve_calls(words: &[u32], host: Sdmmc, out: &mut [u8], at: usize) -> usize
     requires { ⌜ (badWords (now words) ≡ false) × (at ≤ length (now out)) ⌝ }
-    ensures { λ r. ⌜ Laid at (linesFrom 1 (serve host (map (callOf 4096) (bookIn (now (words .entry)) .calls)) .came)) (now (out .entry)) r (now (out .exit)) ⌝ }
+    ensures { λ r. ⌜ Laid at (linesServed 1 host (map (callOf 4096) (bookIn (now (words .entry)) .calls))) (now (out .entry)) r (now (out .exit)) ⌝ }
 {
     let calls = layout::word(words, 6);
     let mut turn = Turn {

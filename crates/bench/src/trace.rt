@@ -111,7 +111,18 @@ fn trace_exact(
     let called = serve::ask(host, words, asked, list, buffer);
     let answer = called.answer;
     let next = called.host;
-    let line = lines::put_call(out, 0, number, answer, called.words, called.rows);
+    let card = next.card;
+    let protection = card.protection;
+    let line = lines::put_call(
+        out,
+        0,
+        number,
+        kind,
+        answer,
+        called.words,
+        called.rows,
+        protection,
+    );
     let told = put_happened(out, line, list, called);
     let last = put_given(out, told, kind, answer, next, buffer, count);
     Traced {

@@ -1,5 +1,5 @@
--- Commands, ready waits and data phases hold nothing new, and are never refused with UnsupportedCardType or BadClock; until a
--- reset no row of theirs is the last reset row. So they obey every rule that allows the other errors, and such rows.
+-- Commands, ready waits and data phases hold nothing new, and are never refused with UnsupportedCardType, BadClock or WriteProtected;
+-- until a reset no row of theirs is the last reset row. So they obey every rule that allows the other errors, and such rows.
 use Prim.Native.Nat.{ℕ}
 use mathlib.Core.Bool.{Bool, true, false, cond, not, _&&_, _||_}
 use mathlib.Core.List.{List, [], _∷_}
@@ -30,9 +30,9 @@ use Rattle.bus.specs.Command.{formOf, issue, pollCompletion, waitComplet
 use Rattle.bus.specs.Ready.{retryDelay, readStatus, tryReady, waitReady}
 use Rattle.bus.specs.Transfer.{Buffer, incoming, outgoing, Polled, arm, readyData, orderData, beforeCommand, afterCommand, landed, startData, heeded, clean, pollTransfer, drained, settle, dataComplete, waitData, receive, closeGate, ofMany, stopTransmission, endData, transferData, blockingData}
 
--- an error other than UnsupportedCardType and BadClock
+-- an error other than UnsupportedCardType, BadClock and WriteProtected
 abbrev pub Other : Error → Type 0
-Other e = (eqb (errorTold e .number) 13 || eqb (errorTold e .number) 17) ≡ false
+Other e = (eqb (errorTold e .number) 13 || (eqb (errorTold e .number) 17 || eqb (errorTold e .number) 26)) ≡ false
 
 pub unequal : _≡_ {A = Bool} true false → ⊥
 unequal e = let z : _≡_ {A = ℕ} 1 0 = cc in omega arith
@@ -42,6 +42,9 @@ not-13 e o z = let no : _≡_ {A = Bool} true false = rw z at o in unequal no
 
 pub not-17 : (e : Error) → Other e → errorTold e .number ≡ 17 → ⊥
 not-17 e o z = let no : _≡_ {A = Bool} true false = rw z at o in unequal no
+
+pub not-26 : (e : Error) → Other e → errorTold e .number ≡ 26 → ⊥
+not-26 e o z = let no : _≡_ {A = Bool} true false = rw z at o in unequal no
 
 -- a row other than the last of the reset rows
 abbrev pub Ordinary : Row → Type 0

@@ -1,6 +1,6 @@
 -- The order's third demand, proved of the definitions that the methods' contracts cite: any list of calls on one host.
-use Prim.Native.Nat.{ℕ, _/_, _%_}
-use mathlib.Core.Bool.{Bool, true, false, cond, not, _&&_, _||_}
+use Prim.Native.Nat.{ℕ, _/_}
+use mathlib.Core.Bool.{Bool, true, false, cond, not, _||_}
 use mathlib.Core.List.{List, [], _∷_}
 use mathlib.Core.Path.{_≡_, refl, ap, sym, _∙_}
 use native.Mathlib.Omega.{arith}
@@ -17,7 +17,7 @@ use Rattle.types.specs.declared.config.ConfigAnswer.the-variants as Judged
 use Rattle.types.specs.declared.error.Answer.{Answer}
 use Rattle.types.specs.declared.error.Answer.the-variants as Answered
 use Rattle.types.specs.declared.error.Error.the-variants as E
-use Rattle.types.specs.Leaf.{addressOf, clockOf}
+use Rattle.types.specs.Leaf.{clockOf}
 use Rattle.types.specs.Settings.{madeOf}
 use Rattle.types.specs.Words.{sdStatusOf, wordsOf}
 use Rattle.tape.specs.declared.progress.Halt.the-variants.{Refused, ScriptEnded, TraceFull}
@@ -39,7 +39,7 @@ use Rattle.refusals.proofs.Leaves.{Leaves, initialise-leaves, blocks-leaves, st
 use Rattle.host.specs.declared.host.Held.{Held}
 use Rattle.host.specs.declared.host.Sdmmc.{Sdmmc}
 use Rattle.host.specs.Calls.{Came, freshLine, hostOf, heldOf, holding, dropped, kept, ends, untouched, withStatus, initialised, initFrom}
-use Rattle.host.specs.Calls.{transferred, approached, served, blocksNext, blocksPlan, blocksFrom, blocksKnown, blocksCame, statusNext, statusPlan, statusFrom, statusCame}
+use Rattle.host.specs.Calls.{transferred, approached, served, blocksNext, blocksPlan, blocksFrom, blocksJudged, sends, blocksCame, statusNext, statusPlan, statusFrom, statusCame}
 use Rattle.host.specs.Calls.{clockedHost, judgedHost, made}
 use Rattle.calls.specs.Serve.{Call, initialise, read, write, status, comes, Served, serve, foundFrom, foundBy, approach, none, approachOf, addressed, blocksApproach, going, passed, begun}
 use Rattle.calls.specs.Serve.{Told, toldOf, leftOut, asNew, remaining, counted, history, holds, holdsNone, allowed, afterInitialise, afterData, afterCall, expected}
@@ -147,20 +147,16 @@ status-follows host s l = by (host .known) refl
 
 -- a read or a write
 blocks-follows : (host : Sdmmc) (buffer : Buffer) (index bytes : ℕ) (s : List ℕ) (l : List Row)
-    → Follows host (λ r words. afterData r (passed (blocksApproach host index bytes) (host .line) s l) (heldOf host) (heldOf host)) (blocksCame host buffer index bytes s l)
-unfolding blocksCame blocksKnown blocksFrom blocksApproach passed leftOut afterData
-blocks-follows host buffer index bytes s l =
-    by (host .known) (eqb (bytes % 512) 0) (addressOf (host .card .«card_type») (host .card .«block_count» .0) index (bytes / 512))
+    → Follows host (λ r words. afterData r (passed (blocksApproach host (sends buffer) index bytes) (host .line) s l) (heldOf host) (heldOf host)) (blocksCame host buffer index bytes s l)
+unfolding blocksCame blocksFrom blocksApproach passed leftOut afterData
+blocks-follows host buffer index bytes s l = by (blocksJudged host (sends buffer) index bytes)
   where
-    by : (b d : Bool) (a : AddressAnswer)
-        → Follows host (λ r words. afterData r (passed (cond (b && d) (addressed host a) none) (host .line) s l) (heldOf host) (heldOf host))
-        (cond b (cond d (blocksFrom host buffer (bytes / 512) a s l) (untouched host E.InvalidBufferLength l)) (untouched host E.NoCard l))
-    by true true (Address.Address a) =
+    by : (a : AddressAnswer)
+        → Follows host (λ r words. afterData r (passed (addressed host a) (host .line) s l) (heldOf host) (heldOf host)) (blocksFrom host buffer (bytes / 512) a s l)
+    by (Address.Address a) =
         served-follows host (waitReady (sourceOf (host .settings)) (host .settings .config) (host .card .rca)) (blocksPlan host buffer a (bytes / 512)) (blocksNext host)
         (λ ws. heldOf host) (λ w ws. refl) s l
-    by true true (Address.Refused e) = refl
-    by true false a = refl
-    by false d a = refl
+    by (Address.Refused e) = refl
 
 -- a host whose source has a clock of identification, as every one that is made
 unfoldable pub Clockable : Settings → Type 0

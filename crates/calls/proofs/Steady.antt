@@ -1,13 +1,11 @@
 -- A read, a write and a status call leave clock, signalling and gate as they were: of what the host holds of its line, their plans
 -- change no more than CLKCR, by its rows.
-use Prim.Native.Nat.{ℕ, _/_, _%_}
+use Prim.Native.Nat.{ℕ, _/_}
 use mathlib.Core.List.{List, []}
 use mathlib.Core.Path.{_≡_, refl}
-use lib.Dec.{eqb}
 use lib.ListN.{length}
 use Rattle.types.specs.declared.card.AddressAnswer.{AddressAnswer}
 use Rattle.types.specs.declared.card.AddressAnswer.the-variants as Address
-use Rattle.types.specs.Leaf.{addressOf}
 use Rattle.types.specs.Words.{wordsOf}
 use Rattle.tape.specs.declared.progress.Halt.the-variants.{Refused, ScriptEnded, TraceFull}
 use Rattle.tape.specs.declared.progress.Line.{Line}
@@ -25,7 +23,7 @@ use Rattle.bus.specs.Transfer.{Buffer, incoming, outgoing, blockingData}
 use Rattle.bus.proofs.Walks.{app-obeys, ready-obeys, data-obeys}
 use Rattle.init.specs.Initialise.{sourceOf, limitOf}
 use Rattle.host.specs.declared.host.Sdmmc.{Sdmmc}
-use Rattle.host.specs.Calls.{Came, dropped, kept, ends, transferred, approached, served, blocksTransfer, blocksPlan, blocksNext, blocksFrom, blocksKnown, blocksCame, statusTransfer, statusPlan, statusNext, statusCame}
+use Rattle.host.specs.Calls.{Came, dropped, kept, ends, transferred, approached, served, blocksTransfer, blocksPlan, blocksNext, blocksFrom, blocksJudged, sends, blocksCame, statusTransfer, statusPlan, statusNext, statusCame}
 use Rattle.calls.specs.Serve as S
 use Rattle.calls.specs.Serve.{comes, SameLine}
 
@@ -81,13 +79,8 @@ status-keeps-the-clock host s l =
     unmoved
 
 blocks-steady : (host : Sdmmc) (buffer : Buffer) (index bytes : ℕ) (s : List ℕ) (l : List Row) → SameLine (host .line) (blocksCame host buffer index bytes s l .host .line)
-unfolding blocksCame blocksKnown blocksFrom
-blocks-steady host buffer index bytes s l =
-    by-cases (λ (x : Came). SameLine (host .line) (x .host .line)) (host .known) _ _
-    (by-cases (λ (x : Came). SameLine (host .line) (x .host .line)) (eqb (bytes % 512) 0) _ _
-    (by (addressOf (host .card .«card_type») (host .card .«block_count» .0) index (bytes / 512)))
-    unmoved)
-    unmoved
+unfolding blocksCame blocksFrom
+blocks-steady host buffer index bytes s l = by (blocksJudged host (sends buffer) index bytes)
   where
     by : (a : AddressAnswer) → SameLine (host .line) (blocksFrom host buffer (bytes / 512) a s l .host .line)
     by (Address.Refused e) = unmoved

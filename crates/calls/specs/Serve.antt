@@ -2,8 +2,8 @@
 -- 'Take any list of calls on one host, leaving out those answered TraceFull. The record held is that of the last accepted
 -- initialisation, its status that of the last accepted status read since, or zero. There is none before the first, nor once an
 -- initialisation of allowed frequency, or a call whose data phase had begun, was refused since.'
-use Prim.Native.Nat.{ℕ, _/_, _%_}
-use mathlib.Core.Bool.{Bool, true, false, cond, not, _&&_, _||_}
+use Prim.Native.Nat.{ℕ}
+use mathlib.Core.Bool.{Bool, true, false, cond, not, _||_}
 use mathlib.Core.List.{List, [], _∷_}
 use mathlib.Core.Path.{_≡_}
 use lib.Dec.{eqb, ltb}
@@ -16,7 +16,7 @@ use Rattle.types.specs.declared.clock.ClockAnswer.the-variants as Clocked
 use Rattle.types.specs.declared.error.Answer.{Answer}
 use Rattle.types.specs.declared.error.Answer.the-variants as Answered
 use Rattle.types.specs.declared.error.Error.the-variants as E
-use Rattle.types.specs.Leaf.{addressOf, clockOf}
+use Rattle.types.specs.Leaf.{clockOf}
 use Rattle.types.specs.Words.{sdStatusOf}
 use Rattle.tape.specs.declared.progress.Line.{Line}
 use Rattle.tape.specs.declared.progress.Pace.{Pace}
@@ -31,7 +31,7 @@ use Rattle.init.specs.Initialise as I
 use Rattle.init.specs.Initialise.{sourceOf, limitOf, noCard}
 use Rattle.host.specs.declared.host.Held.{Held}
 use Rattle.host.specs.declared.host.Sdmmc.{Sdmmc}
-use Rattle.host.specs.Calls.{Came, freshLine, initialised, readCame, writeCame, statusCame, withStatus}
+use Rattle.host.specs.Calls.{Came, freshLine, initialised, blocksJudged, readCame, writeCame, statusCame, withStatus}
 
 -- a call: what is asked, its script, and its row list
 pub data Call : Type 0 where
@@ -81,16 +81,14 @@ abbrev pub addressed : Sdmmc → AddressAnswer → Approach
 addressed host (Address.Refused e) = none
 addressed host (Address.Address a) = approach (waitReady (sourceOf (host .settings)) (host .settings .config) (host .card .rca))
 
--- of so many bytes from a block on
-unfoldable pub blocksApproach : Sdmmc → ℕ → ℕ → Approach
-blocksApproach host index bytes =
-    cond (host .known && eqb (bytes % 512) 0)
-    (addressed host (addressOf (host .card .«card_type») (host .card .«block_count» .0) index (bytes / 512))) none
+-- of so many bytes from a block on, sent or not
+unfoldable pub blocksApproach : Sdmmc → Bool → ℕ → ℕ → Approach
+blocksApproach host sends index bytes = addressed host (blocksJudged host sends index bytes)
 
 unfoldable pub approachOf : Sdmmc → Call → Approach
 approachOf host (initialise frequency s l) = none
-approachOf host (read index bytes s l) = blocksApproach host index bytes
-approachOf host (write index bytes s l) = blocksApproach host index (length bytes)
+approachOf host (read index bytes s l) = blocksApproach host false index bytes
+approachOf host (write index bytes s l) = blocksApproach host true index (length bytes)
 approachOf host (status s l) = cond (host .known) (approach (appCommand (limitOf (host .settings)) (host .card .rca))) none
 
 unfoldable pub going : Pace → Bool

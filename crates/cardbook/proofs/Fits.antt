@@ -9,6 +9,7 @@ use lib.ListN.{length, getD, take, drop, replicate, length-append, length-take, 
 use borrow.Author.Tests.{lt-ltb}
 use Rattle.types.specs.declared.error.Answer.{Answer}
 use Rattle.types.specs.declared.error.Answer.the-variants as Answered
+use Rattle.types.specs.declared.register.Protection.{Protection}
 use Rattle.text.specs.Digits.{decimalIn, decimalOf}
 use Rattle.text.specs.Typed.{typed}
 use Rattle.tape.proofs.Laws.{by-cases}
@@ -22,10 +23,10 @@ use Rattle.calls.proofs.AnyList.{leaves, scriptOf, listOf}
 use Rattle.book.specs.Layout as L
 use Rattle.types.specs.Words.{wordsOf}
 use Rattle.book.specs.Layout.{dataCount, countOf, contentsOf, callsOf, bookIn, badWords, badBook, bookOf}
-use Rattle.book.specs.Lines.{hostLine, answerText, callLine}
-use Rattle.book.proofs.Short.{answer-number, answer-short}
+use Rattle.book.specs.Lines.{hostLine, answerText, protectText, callLine}
+use Rattle.book.proofs.Short.{answer-number, answer-short, protect-short}
 use Rattle.book.proofs.Causes.{good-words, or-right}
-use Rattle.bench.specs.Bench.{settingsOf, callOf, numberOf, cameLine, linesFrom, whereAccepted, bookLines, printed}
+use Rattle.bench.specs.Bench.{settingsOf, callOf, numberOf, kindOf, cameLine, linesFrom, linesServed, whereAccepted, bookLines, printed}
 
 -- A number's digits.
 
@@ -56,17 +57,20 @@ host-line a =
     joined (typed "host answer ") (decimalOf (numberOf a) ++ typed "\n") {m = 12} (omega arith)
     (joined (decimalOf (numberOf a)) (typed "\n") {n = 1} (digits 1 (numberOf a) (omega (arith, answer-number a))) (omega arith))
 
-call-line : (k : ℕ) (a : Answer) (words rows : ℕ) → k ≤ 64 → words ≤ 4096 → rows ≤ 4096 → length (callLine k a words rows) ≤ 42
+call-line : (k kind : ℕ) (a : Answer) (words rows : ℕ) (p : Protection) → k ≤ 64 → words ≤ 4096 → rows ≤ 4096
+    → length (callLine k kind a words rows p) ≤ 52
 unfolding tens
-call-line k a words rows hk hw hr =
+call-line k kind a words rows p hk hw hr =
     let used = typed " words " ++ decimalOf words in
     let wrote = typed " rows " ++ decimalOf rows in
-    joined (decimalOf k ++ answerText a ++ used ++ wrote) (typed "\n") {n = 1}
+    joined (decimalOf k ++ answerText a ++ used ++ wrote ++ protectText kind a p) (typed "\n") {n = 1}
+    (joined (decimalOf k ++ answerText a ++ used ++ wrote) (protectText kind a p)
     (joined (decimalOf k ++ answerText a ++ used) wrote
     (joined (decimalOf k ++ answerText a) used
     (joined (decimalOf k) (answerText a) (digits 1 k (omega (arith, hk))) (answer-short a))
     (joined (typed " words ") (decimalOf words) {m = 7} (omega arith) (digits 3 words (omega (arith, hw)))))
     (joined (typed " rows ") (decimalOf rows) {m = 6} (omega arith) (digits 3 rows (omega (arith, hr)))))
+    (protect-short kind a p))
     (omega arith)
 
 -- A call: it uses no more words than its script has, and writes no more rows than there is room for.
@@ -81,12 +85,14 @@ list-of c =
     let its : S.Call → Type 0 = λ x. listOf x ≡ rowsIn (replicate 4096 0) in
     by-cases its (eqb (c .kind) 1) _ _ refl (by-cases its (eqb (c .kind) 2) _ _ refl (by-cases its (eqb (c .kind) 4) _ _ refl refl))
 
-came-line : (host : Sdmmc) (c : L.Call) (k : ℕ) → k ≤ 64 → length (c .script) ≤ 4096 → length (cameLine k (comes host (callOf 4096 c))) ≤ 42
+came-line : (host : Sdmmc) (c : L.Call) (k : ℕ) → k ≤ 64 → length (c .script) ≤ 4096 → length (cameLine k (callOf 4096 c) (comes host (callOf 4096 c))) ≤ 52
 came-line host c k hk hs =
-    let left = leaves host (callOf 4096 c) in
+    let call = callOf 4096 c in
+    let x = comes host call in
+    let left = leaves host call in
     let used = rw (script-of c) at (left .words) in
     let wrote = rw (list-of c) at (left .rows .within (omega arith)) in
-    call-line k _ _ _ hk (omega (arith, used, hs)) (omega (arith, wrote, rows-long (replicate 4096 0), length-replicate {A = ℕ} 4096 0))
+    call-line k (kindOf call) (x .answer) (x .words) (x .rows) (x .host .card .protection) hk (omega (arith, used, hs)) (omega (arith, wrote, rows-long (replicate 4096 0), length-replicate {A = ℕ} 4096 0))
 
 -- All calls of a book.
 
@@ -95,7 +101,7 @@ data Short : List L.Call → Type 0 where
   more : (c : L.Call) (cs : List L.Call) → length (c .script) ≤ 4096 → Short cs → Short (c ∷ cs)
 
 lines : (host : Sdmmc) (k : ℕ) (cs : List L.Call) → Short cs → k + length cs ≤ 65
-    → length (linesFrom k (serve host (map (callOf 4096) cs) .came)) ≤ 42 * length cs
+    → length (linesServed k host (map (callOf 4096) cs)) ≤ 52 * length cs
 unfolding serve linesFrom
 lines host k [] done h = omega arith
 lines host k (c ∷ cs) (more _ _ short rest) h =
@@ -118,7 +124,7 @@ book-lines ws e =
     let found = calls (countOf ws) (drop 7 ws) (drop (contentsOf ws) ws) (rw length-drop (omega (arith, good .long))) in
     let host = made (settingsOf (bookIn ws)) in
     let all = lines (host .host) 1 (bookIn ws .calls) (found .0) (omega (arith, found .1, good .most)) in
-    let told = whole (host .answer) (linesFrom 1 (serve (host .host) (map (callOf 4096) (bookIn ws .calls)) .came)) all in
+    let told = whole (host .answer) (linesServed 1 (host .host) (map (callOf 4096) (bookIn ws .calls))) all in
     rw length-append (omega (arith, host-line (host .answer), told, found .1, good .most))
   where
     whole : (a : Answer) (text : List ℕ) {n : ℕ} → length text ≤ n → length (whereAccepted a text) ≤ n

@@ -3,12 +3,14 @@
 use mathlib.Core.Path.{_≡_, refl, ap, _∙_}
 use mathlib.Core.List.{List, [], _∷_, map}
 use Rattle.types.specs.declared.error.Answer.the-variants as Answered
+use Rattle.types.specs.Sd.{Protects}
 use Rattle.init.specs.declared.settings.Settings.{Settings}
 use Rattle.host.specs.declared.host.Called.{Called}
 use Rattle.host.specs.declared.host.Sdmmc.{Sdmmc}
 use Rattle.host.specs.Calls.{calledOf, heldOf, made}
 use Rattle.calls.specs.Serve.{Call, comes, serve, history}
 use Rattle.calls.specs.Order.{due}
+use Rattle.calls.proofs.Held.{held-protects}
 use Rattle.calls.proofs.Order.{record-due}
 use Rattle.feed.specs.Stepped.{AllStepped, none, one}
 use Rattle.feed.proofs.Stepped.{stepped-comes}
@@ -30,3 +32,8 @@ all-served (one {host = host} {c = c} {r = r} {cs = cs} {rs = rs} {h = h} x xs) 
 pub record-stepped : (set : Settings) → made set .answer ≡ Answered.Accepted → {cs : List Call} {rs : List Called} {h : Sdmmc}
     → AllStepped (made set .host) cs rs h → heldOf h ≡ due (history [] (made set .host) cs)
 record-stepped set ok {cs = cs} all = ap heldOf (all-served all .1) ∙ record-due set ok cs
+
+-- and its two flags are those of the CSD held (P8)
+pub protects-stepped : (set : Settings) → made set .answer ≡ Answered.Accepted → {cs : List Call} {rs : List Called} {h : Sdmmc}
+    → AllStepped (made set .host) cs rs h → Protects (h .card)
+protects-stepped set ok {cs = cs} all = rw (all-served all .1) (held-protects set ok cs)

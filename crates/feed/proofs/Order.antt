@@ -1,11 +1,11 @@
 -- The data words of an accepted read lie in the script one after the other, from the place of its last word 0 on.
-use Prim.Native.Nat.{ℕ, zero, suc, _+_, _/_, _%_, _<_}
+use Prim.Native.Nat.{ℕ, zero, suc, _+_, _/_, _<_}
 use mathlib.Core.Path.{_≡_, refl, ap, _∙_}
 use mathlib.Core.Bool.{Bool, true, false, cond}
 use mathlib.Core.List.{List, [], _∷_}
 use native.Mathlib.Omega.{arith}
 use native.Mathlib.Decide.{decLt}
-use lib.Dec.{eqb, ltb}
+use lib.Dec.{ltb}
 use lib.ListN.{length, getD, take, drop, set}
 use lib.Seq.{drop-cons}
 use borrow.Author.Tests.{lt-ltb, le-ltb, ne-eqb}
@@ -27,7 +27,7 @@ use Rattle.tape.specs.declared.script.Reading.the-variants as Reading
 use Rattle.tape.specs.Plan.{Nothing, Plan, Cause, failed, ended, give, refuse, read, write, look, hold, handle, _then_, refusing, ensure, until}
 use Rattle.tape.specs.Run.{State, After, after, noted, run, runFrom, nextAt}
 use Rattle.tape.specs.Steps.{word, row, waitIdle, resetController, stopData, setClken, dataFrom, dataWords}
-use Rattle.tape.proofs.Laws.{by-cases, run-handle}
+use Rattle.tape.proofs.Laws.{run-handle}
 use Rattle.bus.specs.declared.response.Form.{Form}
 use Rattle.bus.specs.declared.response.Response.{Response}
 use Rattle.bus.specs.declared.transfer.Transfer.{Transfer}
@@ -36,11 +36,10 @@ use Rattle.bus.specs.Ready.{retryDelay, readStatus, tryReady, waitReady}
 use Rattle.bus.specs.Transfer.{incoming, landed, startData, waitData, receive, closeGate, ofMany, stopTransmission, endData, transferData, blockingData}
 use Rattle.init.specs.Initialise.{sourceOf}
 use Rattle.host.specs.declared.host.Sdmmc.{Sdmmc}
-use Rattle.host.specs.Calls.{Came, dropped, kept, ends, transferred, approached, served, blocksNext, blocksPlan, blocksFrom, blocksKnown, blocksCame, readCame}
+use Rattle.host.specs.Calls.{Came, dropped, kept, ends, transferred, approached, served, blocksNext, blocksPlan, blocksFrom, blocksCame, readCame}
 use Rattle.refusals.proofs.Whole.{read-exact}
 use Rattle.stepping.specs.Closing.{Closing, keeping, dropping, accepting, blocksHost}
 use Rattle.feed.specs.Runs.{cameBy, noClosing, liesAt, placeRun, countOf}
-use Rattle.underway.specs.Whole as One
 use Rattle.underway.specs.Whole.{callPlan, blocksAt, blocksCall}
 use Rattle.feed.proofs.Whole.{blocks-call}
 
@@ -364,10 +363,8 @@ module _ (s : List ℕ) where
     at-laid blocks (Address.Address a) = call-laid (blocksHost host) _ _ (transfer-laid _ _ _ _)
 
     read-laid : (index bytes : ℕ) → LaidCall (blocksCall host incoming index bytes)
-    unfolding blocksCall One.blocksKnown
-    read-laid index bytes =
-        by-cases LaidCall (host .known) _ _
-        (by-cases LaidCall (eqb (bytes % 512) 0) _ _ (at-laid (bytes / 512) _) (keeping-laid E.InvalidBufferLength)) (keeping-laid E.NoCard)
+    unfolding blocksCall
+    read-laid index bytes = at-laid (bytes / 512) _
 
     read-lain : (index bytes : ℕ) (l : List Row)
         → Lain (readCame host index bytes s l .taken) (placeRun s (blocksCall host incoming index bytes) 0 0 0 (host .line) l)
@@ -422,8 +419,8 @@ module _ (host : Sdmmc) (index bytes : ℕ) (s : List ℕ) (l : List Row) where
       by (Stopped h) = ends-own host (kept host w) host [] (Stopped h) w
 
   read-own : Own (readCame host index bytes s l)
-  unfolding blocksCame blocksKnown takenBy
-  read-own = by-cases Own (host .known) _ _ (by-cases Own (eqb (bytes % 512) 0) _ _ (from-own _) refl) refl
+  unfolding blocksCame
+  read-own = from-own _
 
   pub read-none : (readCame host index bytes s l .answer ≡ Answered.Accepted → ⊥) → readCame host index bytes s l .taken ≡ []
   unfolding takenBy

@@ -1,6 +1,6 @@
 -- Each call on a script comes to what its one plan does there: `initialised`, `blocksCame` and `statusCame` are the runs of
 -- `initCall`, `blocksCall` and `statusCall`.
-use Prim.Native.Nat.{ℕ, _/_, _%_}
+use Prim.Native.Nat.{ℕ, _/_}
 use mathlib.Core.Path.{_≡_, refl, ap, sym, _∙_}
 use mathlib.Core.Bool.{Bool, true, false, cond, _||_}
 use mathlib.Core.List.{List, []}
@@ -12,7 +12,7 @@ use Rattle.types.specs.declared.clock.ClockAnswer.{ClockAnswer}
 use Rattle.types.specs.declared.clock.ClockAnswer.the-variants as Clocked
 use Rattle.types.specs.declared.error.Error.{Error}
 use Rattle.types.specs.declared.error.Error.the-variants as E
-use Rattle.types.specs.Leaf.{addressOf, clockOf}
+use Rattle.types.specs.Leaf.{clockOf}
 use Rattle.tape.specs.declared.progress.Halt.the-variants.{Refused, ScriptEnded, TraceFull}
 use Rattle.tape.specs.declared.progress.Line.{Line}
 use Rattle.tape.specs.declared.progress.Pace.{Pace}
@@ -27,10 +27,9 @@ use Rattle.bus.specs.Transfer.{Buffer}
 use Rattle.init.specs.Initialise.{sourceOf, limitOf, noCard, initialise}
 use Rattle.host.specs.declared.host.Sdmmc.{Sdmmc}
 use Rattle.host.specs.Calls.{Came, untouched, holding, dropped, ends, freshLine, initFrom, initialised}
-use Rattle.host.specs.Calls.{transferred, approached, served, blocksPlan, blocksFrom, blocksKnown, blocksCame, statusPlan, statusCame}
+use Rattle.host.specs.Calls.{transferred, approached, served, blocksPlan, blocksFrom, blocksJudged, sends, blocksCame, statusPlan, statusCame}
 use Rattle.stepping.specs.Closing.{Closing, keeping, dropping, finding, accepting, blocksHost, statusHost}
 use Rattle.feed.specs.Runs.{cameBy, cameOf, noClosing}
-use Rattle.underway.specs.Whole as One
 use Rattle.underway.specs.Whole.{initAt, initCall, callPlan, blocksAt, blocksCall, statusCall}
 
 -- a test before a function is a test inside it
@@ -114,13 +113,8 @@ module _ (host : Sdmmc) (s : List ℕ) (l : List Row) where
         served-call (blocksHost host) (waitReady (sourceOf (host .settings)) (host .settings .config) (host .card .rca)) (blocksPlan host buffer a blocks)
 
     pub blocks-call : (index bytes : ℕ) → blocksCame host buffer index bytes s l ≡ came (blocksCall host buffer index bytes)
-    unfolding blocksCame blocksKnown blocksCall One.blocksKnown
-    blocks-call index bytes =
-        either came (host .known)
-        (either came (eqb (bytes % 512) 0)
-        (blocks-at (bytes / 512) (addressOf (host .card .«card_type») (host .card .«block_count» .0) index (bytes / 512)))
-        (untouched-call E.InvalidBufferLength))
-        (untouched-call E.NoCard)
+    unfolding blocksCame blocksCall
+    blocks-call index bytes = blocks-at (bytes / 512) (blocksJudged host (sends buffer) index bytes)
 
   pub status-call : statusCame host s l ≡ came (statusCall host)
   unfolding statusCame statusCall

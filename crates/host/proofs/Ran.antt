@@ -1,15 +1,14 @@
 -- What a call's steps come to, from their contracts.
-use mathlib.Core.Bool.{Bool, true, false, cond}
+use mathlib.Core.Bool.{Bool, true, false, cond, _&&_}
 use mathlib.Core.List.{List, []}
 use mathlib.Core.Path.{_≡_, refl, ap, sym, _∙_}
 use Prim.Native.Nat.{ℕ, _/_, _%_, _≤_}
 use native.Mathlib.Omega.{arith}
 use lib.Dec.{eqb}
 use borrow.Author.Tests.{eqb-true}
-use Rattle.types.specs.declared.card.AddressAnswer.{AddressAnswer}
 use Rattle.types.specs.declared.card.AddressAnswer.the-variants as Address
 use Rattle.types.specs.declared.error.Error.the-variants as E
-use Rattle.types.specs.Leaf.{addressOf}
+use Rattle.types.specs.Leaf.{addressOf, stopsWrites}
 use Rattle.types.proofs.Agree.{address}
 use Rattle.tape.specs.declared.progress.Halt.{Halt}
 use Rattle.tape.specs.declared.progress.Halt.the-variants.{Refused, ScriptEnded, TraceFull}
@@ -21,13 +20,12 @@ use Rattle.tape.specs.declared.rows.Row.{Row}
 use Rattle.tape.specs.Plan.{Nothing, Plan}
 use Rattle.tape.specs.Run.{State, at, After, keptAt, run, runFrom, doesAt, Gave}
 use Rattle.bus.specs.Command.{appCommand}
-use Rattle.bus.specs.Transfer.{Buffer}
 use Rattle.init.specs.Initialise.{limitOf}
 use Rattle.host.specs.declared.host.Called.{Called}
 use Rattle.host.specs.declared.host.Sdmmc.{Sdmmc}
 use Rattle.types.specs.Words.{sdStatusOf}
 use Rattle.tape.proofs.Laws.{by-cases}
-use Rattle.host.specs.Calls.{Came, calledOf, ends, dropped, kept, untouched, transferred, approached, served, blocksFrom, blocksKnown}
+use Rattle.host.specs.Calls.{Came, calledOf, ends, dropped, kept, transferred, approached, served, blocksJudged}
 use Rattle.host.specs.Calls.{statusPlan, statusNext, statusCame, statusGiven, statusReadOf}
 
 -- a choice by a test that is known
@@ -132,35 +130,28 @@ module _ (host : Sdmmc) (transfer : Plan (List ℕ)) (next : State → List ℕ 
         → ends host (kept host (at p l′)) host [] (p .pace) (at p l′) ≡ served host approach transfer next s l
     stopped-there h g = at-stopped (at p l′) h g ∙ through
 
--- The place of a read or a write, judged before anything else of it.
+-- A place that was judged good: whole blocks, 1 to 511.
 
-abbrev pub judgedOf : Sdmmc → ℕ → ℕ → AddressAnswer
-judgedOf host index bytes =
-    cond (eqb (bytes % 512) 0) (addressOf (host .card .«card_type») (host .card .«block_count» .0) index (bytes / 512)) (Address.Refused E.InvalidBufferLength)
-
-pub from-judged : (host : Sdmmc) (buffer : Buffer) (index bytes : ℕ) (s : List ℕ) (l : List Row)
-    → blocksFrom host buffer (bytes / 512) (judgedOf host index bytes) s l ≡ blocksKnown host buffer index bytes s l
-unfolding blocksKnown blocksFrom
-from-judged host buffer index bytes s l = by (eqb (bytes % 512) 0)
-  where
-    by : (b : Bool)
-        → blocksFrom host buffer (bytes / 512) (cond b (addressOf (host .card .«card_type») (host .card .«block_count» .0) index (bytes / 512)) (Address.Refused E.InvalidBufferLength)) s l
-        ≡ cond b (blocksFrom host buffer (bytes / 512) (addressOf (host .card .«card_type») (host .card .«block_count» .0) index (bytes / 512)) s l) (untouched host E.InvalidBufferLength l)
-    by true = refl
-    by false = refl
-
--- a place that is good: whole blocks, at most 511
 pub record Good (bytes : ℕ) : Type 0 where
   pub whole : bytes % 512 ≡ 0
+  pub some : 1 ≤ bytes / 512
   pub most : bytes / 512 ≤ 511
 
-pub judged-good : (host : Sdmmc) (index bytes a : ℕ) → judgedOf host index bytes ≡ Address.Address a → Good bytes
-judged-good host index bytes a e = by (eqb (bytes % 512) 0) refl e
+pub judged-good : (host : Sdmmc) (sends : Bool) (index bytes a : ℕ) → blocksJudged host sends index bytes ≡ Address.Address a → Good bytes
+unfolding blocksJudged
+judged-good host sends index bytes a e = by (host .known) (sends && stopsWrites (host .card .protection)) (eqb (bytes % 512) 0) refl e
   where
-    by : (b : Bool) → eqb (bytes % 512) 0 ≡ b
-        → cond b (addressOf (host .card .«card_type») (host .card .«block_count» .0) index (bytes / 512)) (Address.Refused E.InvalidBufferLength) ≡ Address.Address a → Good bytes
-    by true t e = record { whole = eqb-true (bytes % 512) 0 t; most = address _ _ _ _ _ e .most }
-    by false t e = let z : _≡_ {A = ℕ} 0 1 = cc in absurd (omega arith)
+    by : (known stops whole : Bool) → eqb (bytes % 512) 0 ≡ whole
+        → cond known
+        (cond stops (Address.Refused E.WriteProtected)
+        (cond whole (addressOf (host .card .«card_type») (host .card .«block_count» .0) index (bytes / 512)) (Address.Refused E.InvalidBufferLength)))
+        (Address.Refused E.NoCard) ≡ Address.Address a → Good bytes
+    by true false true t e =
+        let place = address _ _ _ _ _ e in
+        record { whole = eqb-true (bytes % 512) 0 t; some = place .some; most = place .most }
+    by true false false t e = let z : _≡_ {A = ℕ} 0 1 = cc in absurd (omega arith)
+    by true true whole t e = let z : _≡_ {A = ℕ} 0 1 = cc in absurd (omega arith)
+    by false stops whole t e = let z : _≡_ {A = ℕ} 0 1 = cc in absurd (omega arith)
 
 -- The status that a status call gives is the one that the record then has.
 

@@ -1,7 +1,7 @@
 -- What each call on a host comes to: its answer, the words it used and the rows it wrote, the row list, the lent buffer and
 -- the next host; for every script, list, buffer and argument. A call is served by running its plan.
 use Prim.Native.Nat.{ℕ, _*_, _/_, _%_, min}
-use mathlib.Core.Bool.{Bool, true, false, cond, _||_}
+use mathlib.Core.Bool.{Bool, true, false, cond, _&&_, _||_}
 use mathlib.Core.List.{List, [], _++_}
 use lib.Dec.{eqb, ltb}
 use lib.ListN.{length, take, drop, replicate}
@@ -18,7 +18,7 @@ use Rattle.types.specs.declared.error.Answer.{Answer}
 use Rattle.types.specs.declared.error.Answer.the-variants as Answered
 use Rattle.types.specs.declared.error.Error.{Error}
 use Rattle.types.specs.declared.error.Error.the-variants as E
-use Rattle.types.specs.Leaf.{clockOf, addressOf}
+use Rattle.types.specs.Leaf.{clockOf, addressOf, stopsWrites}
 use Rattle.types.specs.Settings.{madeOf}
 use Rattle.types.specs.Words.{bytesOf, wordsOf, sdStatusOf}
 use Rattle.tape.specs.declared.progress.Halt.the-variants.{Refused, ScriptEnded, TraceFull}
@@ -159,16 +159,25 @@ blocksFrom host buffer blocks (Address.Address a) s l =
     served host (waitReady (sourceOf (host .settings)) (host .settings .config) (host .card .rca))
     (blocksPlan host buffer a blocks) (blocksNext host) s l
 
--- 16; 19 for a byte length not a multiple of 512, for 0 blocks or over 511; 20 when index plus count exceeds the blocks
-unfoldable pub blocksKnown : Sdmmc → Buffer → ℕ → ℕ → List ℕ → List Row → Came
-blocksKnown host buffer index bytes s l =
-    cond (eqb (bytes % 512) 0)
-    (blocksFrom host buffer (bytes / 512) (addressOf (host .card .«card_type») (host .card .«block_count» .0) index (bytes / 512)) s l)
-    (untouched host E.InvalidBufferLength l)
+-- THE CHECKS BEFORE ANYTHING REACHES THE CARD, in their order: 16; at a write 26, where the card is protected against writing (P8);
+-- 19 for a byte length not a multiple of 512, for 0 blocks or over 511; 20 when index plus count exceeds the blocks. Then the address
+unfoldable pub blocksJudged : Sdmmc → Bool → ℕ → ℕ → AddressAnswer
+blocksJudged host sends index bytes =
+    cond (host .known)
+    (cond (sends && stopsWrites (host .card .protection)) (Address.Refused E.WriteProtected)
+    (cond (eqb (bytes % 512) 0)
+    (addressOf (host .card .«card_type») (host .card .«block_count» .0) index (bytes / 512))
+    (Address.Refused E.InvalidBufferLength)))
+    (Address.Refused E.NoCard)
+
+-- a write sends its words
+abbrev pub sends : Buffer → Bool
+sends incoming = false
+sends (outgoing ws) = true
 
 unfoldable pub blocksCame : Sdmmc → Buffer → ℕ → ℕ → List ℕ → List Row → Came
 blocksCame host buffer index bytes s l =
-    cond (host .known) (blocksKnown host buffer index bytes s l) (untouched host E.NoCard l)
+    blocksFrom host buffer (bytes / 512) (blocksJudged host (sends buffer) index bytes) s l
 
 -- a read, into a buffer of so many bytes
 abbrev pub readCame : Sdmmc → ℕ → ℕ → List ℕ → List Row → Came
@@ -204,6 +213,7 @@ withStatus card status =
       scr = card .scr;
       status = status;
       «block_count» = card .«block_count»;
+      protection = card .protection;
     }
 
 -- the data phase of ACMD13

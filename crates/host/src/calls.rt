@@ -1,18 +1,17 @@
 // The calls on a host: initialise, SD status, read and write blocks.
 ghost use mathlib.Core.Path.{_≡_};
 ghost use mathlib.Core.List.{List, []};
-ghost use mathlib.Core.Bool.{cond};
-ghost use Prim.Native.Nat.{ℕ, _*_, _/_, _%_, _≤_};
-ghost use lib.Dec.{eqb};
+ghost use mathlib.Core.Bool.{_&&_};
+ghost use Prim.Native.Nat.{ℕ, _*_, _≤_};
 ghost use lib.ListN.{length};
 ghost use Rattle.types.specs.declared.card.AddressAnswer.the-variants as Address;
 ghost use Rattle.types.specs.declared.clock.ClockAnswer.the-variants as Clocked;
-ghost use Rattle.types.specs.Leaf.{addressOf};
+ghost use Rattle.types.specs.Leaf.{stopsWrites};
 ghost use Rattle.types.specs.Words.{wordsOf};
 ghost use Rattle.tape.specs.Layout.{rowsIn};
 ghost use Rattle.tape.specs.Run.{at};
 ghost use Rattle.bus.specs.Transfer.{incoming, outgoing};
-ghost use Rattle.host.specs.Calls.{calledOf, kept, dropped, ends, initFrom, initialised, blocksIndex, blocksTransfer, blocksData, blocksFrom, blocksKnown, readCame, bufferOf, writeCame, withStatus, statusData, statusFrom, statusCame, statusGiven, statusReadOf};
+ghost use Rattle.host.specs.Calls.{calledOf, kept, dropped, ends, initFrom, initialised, blocksIndex, blocksTransfer, blocksData, blocksFrom, blocksJudged, readCame, bufferOf, writeCame, withStatus, statusData, statusFrom, statusCame, statusGiven, statusReadOf};
 use crate::blocks;
 use crate::host;
 use crate::host::Called;
@@ -37,6 +36,7 @@ use types::clock::Hertz;
 use types::clock::clock_setting;
 use types::error::Answer;
 use types::error::Error;
+use types::register::Protection;
 use types::words;
 
 // The record with another SD status.
@@ -73,6 +73,17 @@ fn write_index(blocks: u16) -> u8
     ensures { λ r. ⌜ ((ws : List ℕ) → r ≡ blocksIndex (outgoing ws) blocks) ⌝ }
 {
     if blocks == 1 { 24 } else { 25 }
+}
+
+// A card that is protected bars a write, and nothing else.
+fn barred(sends: bool, protection: Protection) -> bool
+    ensures { λ r. ⌜ r ≡ (sends && stopsWrites protection) ⌝ }
+{
+    if sends {
+        protection.stops_writes()
+    } else {
+        false
+    }
 }
 
 // What a read of so many blocks asks for.
@@ -294,37 +305,25 @@ impl Sdmmc {
         }
     }
 
-    // The address of so many bytes from a block on: whole blocks, 1 to 511 of them, that the card has.
-    fn judged(self, index: u32, bytes: usize) -> AddressAnswer
-        ensures { λ r. ⌜ r ≡ cond (eqb (bytes % 512) 0) (addressOf (self .card .«card_type») (self .card .«block_count» .0) index (bytes / 512)) (Address.Refused Error.InvalidBufferLength) ⌝ }
+    // The checks of a read or a write of so many bytes from a block on, before anything reaches the card: there is a card, it
+    // may be written to, and it has that many whole blocks there, 1 to 511. Then the address of the first.
+    pub fn judged(self, sends: bool, index: u32, bytes: usize) -> AddressAnswer
+        ensures { λ r. ⌜ r ≡ blocksJudged self sends index bytes ⌝ }
     {
         let card = self.card;
         let class = card.card_type;
         let count = card.block_count;
+        let protection = card.protection;
+        if !self.known {
+            return AddressAnswer::Refused(Error::NoCard);
+        }
+        if barred(sends, protection) {
+            return AddressAnswer::Refused(Error::WriteProtected);
+        }
         if bytes % 512 != 0 {
             return AddressAnswer::Refused(Error::InvalidBufferLength);
         }
         block_address(class, count, index, bytes / 512)
-    }
-
-    // A read on a host that has a card.
-    fn read_known(self, script: &[u32], rows: &mut [u64], index: u32, buffer: &mut [u8]) -> Called
-        ensures answered { λ r. ⌜ r ≡ calledOf (blocksKnown self incoming index (length (now (buffer .entry))) (now (script .entry)) (rowsIn (now (rows .entry)))) ⌝ }
-        ensures listed { λ r. ⌜ rowsIn (now (rows .exit)) ≡ blocksKnown self incoming index (length (now (buffer .entry))) (now (script .entry)) (rowsIn (now (rows .entry))) .list ⌝ }
-        ensures filled { λ r. ⌜ now (buffer .exit) ≡ bufferOf (blocksKnown self incoming index (length (now (buffer .entry))) (now (script .entry)) (rowsIn (now (rows .entry)))) (now (buffer .entry)) ⌝ }
-    {
-        let bytes = buffer.len();
-        let answer = self.judged(index, bytes);
-        match answer {
-            AddressAnswer::Address(address) => self.read_from(
-                script,
-                rows,
-                buffer,
-                address,
-                (bytes / 512) as u16,
-            ),
-            AddressAnswer::Refused(error) => self.untouched(error),
-        }
     }
 
     // Reads blocks from an index on into the buffer, which has 512 bytes for each.
@@ -339,10 +338,17 @@ impl Sdmmc {
         ensures listed { λ r. ⌜ rowsIn (now (rows .exit)) ≡ readCame self index (length (now (buffer .entry))) (now (script .entry)) (rowsIn (now (rows .entry))) .list ⌝ }
         ensures filled { λ r. ⌜ now (buffer .exit) ≡ bufferOf (readCame self index (length (now (buffer .entry))) (now (script .entry)) (rowsIn (now (rows .entry)))) (now (buffer .entry)) ⌝ }
     {
-        if self.known {
-            self.read_known(script, rows, index, buffer)
-        } else {
-            self.untouched(Error::NoCard)
+        let bytes = buffer.len();
+        let answer = self.judged(false, index, bytes);
+        match answer {
+            AddressAnswer::Address(address) => self.read_from(
+                script,
+                rows,
+                buffer,
+                address,
+                (bytes / 512) as u16,
+            ),
+            AddressAnswer::Refused(error) => self.untouched(error),
         }
     }
 
@@ -399,25 +405,6 @@ impl Sdmmc {
         }
     }
 
-    // A write on a host that has a card.
-    fn write_known(self, script: &[u32], rows: &mut [u64], index: u32, data: &[u8]) -> Called
-        ensures answered { λ r. ⌜ r ≡ calledOf (blocksKnown self (outgoing (wordsOf (now («data» .entry)))) index (length (now («data» .entry))) (now (script .entry)) (rowsIn (now (rows .entry)))) ⌝ }
-        ensures listed { λ r. ⌜ rowsIn (now (rows .exit)) ≡ blocksKnown self (outgoing (wordsOf (now («data» .entry)))) index (length (now («data» .entry))) (now (script .entry)) (rowsIn (now (rows .entry))) .list ⌝ }
-    {
-        let bytes = data.len();
-        let answer = self.judged(index, bytes);
-        match answer {
-            AddressAnswer::Address(address) => self.write_from(
-                script,
-                rows,
-                data,
-                address,
-                (bytes / 512) as u16,
-            ),
-            AddressAnswer::Refused(error) => self.untouched(error),
-        }
-    }
-
     // Writes the data, 512 bytes for each block, to the blocks from an index on.
     pub fn blocking_write_blocks(
         self,
@@ -429,10 +416,17 @@ impl Sdmmc {
         ensures answered { λ r. ⌜ r ≡ calledOf (writeCame self index (now («data» .entry)) (now (script .entry)) (rowsIn (now (rows .entry)))) ⌝ }
         ensures listed { λ r. ⌜ rowsIn (now (rows .exit)) ≡ writeCame self index (now («data» .entry)) (now (script .entry)) (rowsIn (now (rows .entry))) .list ⌝ }
     {
-        if self.known {
-            self.write_known(script, rows, index, data)
-        } else {
-            self.untouched(Error::NoCard)
+        let bytes = data.len();
+        let answer = self.judged(true, index, bytes);
+        match answer {
+            AddressAnswer::Address(address) => self.write_from(
+                script,
+                rows,
+                data,
+                address,
+                (bytes / 512) as u16,
+            ),
+            AddressAnswer::Refused(error) => self.untouched(error),
         }
     }
 }

@@ -22,7 +22,7 @@ use Rattle.types.specs.declared.register.CountAnswer.the-variants as Counted
 use Rattle.types.specs.declared.register.RateAnswer.{RateAnswer}
 use Rattle.types.specs.declared.register.RateAnswer.the-variants as Rated
 use Rattle.types.specs.Bits.{bits, clear}
-use Rattle.types.specs.Leaf.{clockOf, countOf, rateOf}
+use Rattle.types.specs.Leaf.{clockOf, countOf, rateOf, protectionOf}
 use Rattle.types.specs.Sd.{wideOf, tranSpeed, sdSpec, oneLine, fourLines}
 use Rattle.types.specs.Words.{bytesOf, halvesOf, scrOf}
 use Rattle.tape.specs.Plan.{Nothing, Cause, failed, ended, Plan, give, refuse, look, handle, _then_, guard, fail, ensure, until}
@@ -70,6 +70,7 @@ timedOut E.BadClock = false
 timedOut E.InvalidConfig = false
 timedOut E.InvalidBufferLength = false
 timedOut E.AddressOutOfRange = false
+timedOut E.WriteProtected = false
 
 unfoldable pub late : Cause → Plan Bool
 late (failed e) = cond (timedOut e) (give false) (fail e)
@@ -136,9 +137,10 @@ noCard =
       scr = record { 0 = 0 };
       status = replicate 16 0;
       «block_count» = record { 0 = 0 };
+      protection = record { permanent = false; temporary = false };
     }
 
--- what a card says of itself: its OCR, address, CID, CSD and blocks
+-- what a card says of itself: its OCR, address, CID, CSD and blocks, and by its CSD whether it is protected against writing
 abbrev pub cardOf : ℕ → ℕ → List ℕ → List ℕ → BlockCount → Card
 cardOf ocr rca cid csd blocks =
     record {
@@ -150,6 +152,7 @@ cardOf ocr rca cid csd blocks =
       scr = record { 0 = 0 };
       status = replicate 16 0;
       «block_count» = blocks;
+      protection = protectionOf (wideOf (halvesOf csd));
     }
 
 abbrev pub noBlocks : BlockCount
@@ -272,6 +275,7 @@ withScr card scr =
       scr = record { 0 = scr };
       status = card .status;
       «block_count» = card .«block_count»;
+      protection = card .protection;
     }
 
 -- what follows identification

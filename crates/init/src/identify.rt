@@ -29,6 +29,7 @@ use types::error::Field;
 use types::register;
 use types::register::BlockCount;
 use types::register::CountAnswer;
+use types::register::Protection;
 use types::register::Wide;
 use types::status::Scr;
 use types::words;
@@ -163,6 +164,10 @@ pub fn no_card() -> Card
         scr: Scr(0),
         status: [0; 16],
         block_count: BlockCount(0),
+        protection: Protection {
+            permanent: false,
+            temporary: false,
+        },
     }
 }
 
@@ -170,15 +175,17 @@ pub fn no_card() -> Card
 pub fn described(ocr: u32, rca: u16, cid: [u32; 4], csd: [u32; 4], blocks: BlockCount) -> Card
     ensures { λ r. ⌜ r ≡ cardOf ocr rca cid csd blocks ⌝ }
 {
+    let told = words::response_value(csd);
     Card {
         card_type: class(ocr),
         ocr: ocr,
         rca: rca,
         cid: words::response_value(cid),
-        csd: words::response_value(csd),
+        csd: told,
         scr: Scr(0),
         status: [0; 16],
         block_count: blocks,
+        protection: Protection::of(told),
     }
 }
 

@@ -1,14 +1,12 @@
 -- Document 01's table of refusals, lines 4 and 5: a read, a write or a status call refused before its data phase, or in it.
-use Prim.Native.Nat.{ℕ, _*_, _-_, _/_, _%_}
+use Prim.Native.Nat.{ℕ, _-_, _/_}
 use mathlib.Core.Bool.{true}
 use mathlib.Core.List.{List, []}
 use mathlib.Core.Path.{_≡_, refl, _∙_}
 use native.Mathlib.Omega.{arith}
-use borrow.Author.Tests.{eq-eqb}
 use Rattle.types.specs.declared.card.AddressAnswer.the-variants as Address
 use Rattle.types.specs.declared.config.Config.{Config}
 use Rattle.types.specs.declared.error.Answer.the-variants as Answered
-use Rattle.types.specs.Leaf.{addressOf}
 use Rattle.types.specs.Words.{sdStatusOf}
 use Rattle.tape.specs.declared.progress.Halt.the-variants.{Refused, ScriptEnded, TraceFull}
 use Rattle.tape.specs.declared.progress.Pace.{Pace}
@@ -24,7 +22,7 @@ use Rattle.bus.specs.Ready.{waitReady}
 use Rattle.bus.specs.Transfer.{Buffer, incoming, blockingData, transferData}
 use Rattle.init.specs.Initialise.{sourceOf, limitOf}
 use Rattle.host.specs.Calls.{came, holding, dropped, kept, ends}
-use Rattle.host.specs.Calls.{transferred, approached, served, blocksNext, blocksPlan, blocksTransfer, blocksFrom, blocksKnown, blocksCame}
+use Rattle.host.specs.Calls.{transferred, approached, served, blocksNext, blocksPlan, blocksTransfer, blocksFrom, blocksJudged, sends, blocksCame}
 use Rattle.host.specs.Calls.{statusNext, statusPlan, statusTransfer, statusCame, withStatus}
 use Rattle.host.specs.declared.host.Sdmmc.{Sdmmc}
 use Rattle.host.specs.Calls.{answerFor}
@@ -92,60 +90,57 @@ module _ (host : Sdmmc) (transfer : Plan (List ℕ)) (next : State → List ℕ 
     unfolding served approached
     goes-on g = rw g
 
-module _ (host : Sdmmc) (buffer : Buffer) (index blocks address : ℕ) (s : List ℕ) (l : List Row) (known : host .known ≡ true) (place : addressOf (host .card .«card_type») (host .card .«block_count» .0) index blocks ≡ Address.Address address) where
+module _ (host : Sdmmc) (buffer : Buffer) (index bytes address : ℕ) (s : List ℕ) (l : List Row) (judged : blocksJudged host (sends buffer) index bytes ≡ Address.Address address) where
   -- where the ready wait of a read or a write has come
   abbrev pub blocksWait : State
   blocksWait = run s (tt {0}) (waitReady (sourceOf (host .settings)) (host .settings .config) (host .card .rca)) 0 0 (host .line) l .state
 
   -- where its data phase has come, before a refusal's reset rows
   abbrev pub blocksSteps : State
-  blocksSteps = runFrom s [] (transferData (sourceOf (host .settings)) (host .settings .config) buffer (blocksTransfer buffer address blocks) (host .card .rca)) blocksWait .state
+  blocksSteps = runFrom s [] (transferData (sourceOf (host .settings)) (host .settings .config) buffer (blocksTransfer buffer address (bytes / 512)) (host .card .rca)) blocksWait .state
 
-  blocks-served : blocksCame host buffer index (512 * blocks) s l
-      ≡ served host (waitReady (sourceOf (host .settings)) (host .settings .config) (host .card .rca)) (blocksPlan host buffer address blocks) (blocksNext host) s l
-  unfolding blocksCame blocksKnown blocksFrom
-  blocks-served =
-      let whole : 512 * blocks % 512 ≡ 0 = omega arith in
-      let count : 512 * blocks / 512 ≡ blocks = omega arith in
-      rw (known, eq-eqb (512 * blocks % 512) 0 whole, count, place)
+  blocks-served : blocksCame host buffer index bytes s l
+      ≡ served host (waitReady (sourceOf (host .settings)) (host .settings .config) (host .card .rca)) (blocksPlan host buffer address (bytes / 512)) (blocksNext host) s l
+  unfolding blocksCame blocksFrom
+  blocks-served = rw judged
 
   blocks-data : blocksWait .progress .pace ≡ Going
-      → blocksCame host buffer index (512 * blocks) s l ≡ transferred host (blocksPlan host buffer address blocks) (blocksNext host) s blocksWait
+      → blocksCame host buffer index bytes s l ≡ transferred host (blocksPlan host buffer address (bytes / 512)) (blocksNext host) s blocksWait
   blocks-data g =
       blocks-served
-      ∙ goes-on host (blocksPlan host buffer address blocks) (blocksNext host) s
+      ∙ goes-on host (blocksPlan host buffer address (bytes / 512)) (blocksNext host) s
       (waitReady (sourceOf (host .settings)) (host .settings .config) (host .card .rca)) l g
 
   -- an accepted one: its data words, none of a write, and the record as before
-  pub blocks-accepted : blocksCame host buffer index (512 * blocks) s l .answer ≡ Answered.Accepted
-      → blocksCame host buffer index (512 * blocks) s l
-      ≡ came Answered.Accepted (runFrom s [] (blocksPlan host buffer address blocks) blocksWait .state) (runFrom s [] (blocksPlan host buffer address blocks) blocksWait .value)
-      (kept host (runFrom s [] (blocksPlan host buffer address blocks) blocksWait .state))
+  pub blocks-accepted : blocksCame host buffer index bytes s l .answer ≡ Answered.Accepted
+      → blocksCame host buffer index bytes s l
+      ≡ came Answered.Accepted (runFrom s [] (blocksPlan host buffer address (bytes / 512)) blocksWait .state) (runFrom s [] (blocksPlan host buffer address (bytes / 512)) blocksWait .value)
+      (kept host (runFrom s [] (blocksPlan host buffer address (bytes / 512)) blocksWait .state))
   blocks-accepted r =
-      let g = served-accepted host (blocksPlan host buffer address blocks) (blocksNext host) s
+      let g = served-accepted host (blocksPlan host buffer address (bytes / 512)) (blocksNext host) s
       (waitReady (sourceOf (host .settings)) (host .settings .config) (host .card .rca)) l (rw blocks-served at r) in
-      blocks-data g ∙ data-accepted host (blocksPlan host buffer address blocks) (blocksNext host) s blocksWait (rw (blocks-data g) at r)
+      blocks-data g ∙ data-accepted host (blocksPlan host buffer address (bytes / 512)) (blocksNext host) s blocksWait (rw (blocks-data g) at r)
 
   -- a refused one: refused in its ready wait (line 4), or in its data phase (line 5)
-  pub blocks-refused-in : (e : Cause) → blocksCame host buffer index (512 * blocks) s l .answer ≡ answerFor e → RefusedIn e blocksWait
+  pub blocks-refused-in : (e : Cause) → blocksCame host buffer index bytes s l .answer ≡ answerFor e → RefusedIn e blocksWait
   blocks-refused-in e r =
-      refused-in host (blocksPlan host buffer address blocks) (blocksNext host) s
+      refused-in host (blocksPlan host buffer address (bytes / 512)) (blocksNext host) s
       (waitReady (sourceOf (host .settings)) (host .settings .config) (host .card .rca)) l e (rw blocks-served at r)
 
   -- Line 4. 'Before the data phase of a read (ready wait): rows so far, record kept, no reset.'
   pub blocks-early : (e : Cause) → blocksWait .progress .pace ≡ Stopped (haltOf e)
-      → blocksCame host buffer index (512 * blocks) s l ≡ came (answerFor e) blocksWait [] (kept host blocksWait)
+      → blocksCame host buffer index bytes s l ≡ came (answerFor e) blocksWait [] (kept host blocksWait)
   blocks-early e g =
       blocks-served
-      ∙ early host (blocksPlan host buffer address blocks) (blocksNext host) s
+      ∙ early host (blocksPlan host buffer address (bytes / 512)) (blocksNext host) s
       (waitReady (sourceOf (host .settings)) (host .settings .config) (host .card .rca)) l e g
 
   -- Line 5. 'In a data phase: reset rows, no record.'
-  pub blocks-refused-in-data : (e : Cause) → blocksWait .progress .pace ≡ Going → blocksCame host buffer index (512 * blocks) s l .answer ≡ answerFor e
-      → ResetAfter e host blocksSteps (blocksCame host buffer index (512 * blocks) s l)
+  pub blocks-refused-in-data : (e : Cause) → blocksWait .progress .pace ≡ Going → blocksCame host buffer index bytes s l .answer ≡ answerFor e
+      → ResetAfter e host blocksSteps (blocksCame host buffer index bytes s l)
   blocks-refused-in-data e g r =
       rw (blocks-data g)
-      (data-refused host (sourceOf (host .settings)) (host .settings .config) buffer (blocksTransfer buffer address blocks) (host .card .rca) (blocksNext host) s blocksWait e
+      (data-refused host (sourceOf (host .settings)) (host .settings .config) buffer (blocksTransfer buffer address (bytes / 512)) (host .card .rca) (blocksNext host) s blocksWait e
       (rw (blocks-data g) at r))
 
 module _ (host : Sdmmc) (s : List ℕ) (l : List Row) (known : host .known ≡ true) where

@@ -101,7 +101,7 @@ module _ (host : Sdmmc) (s : List ℕ) (l : List Row) where
   pub blocks-ended : (buffer : Buffer) (index bytes : ℕ)
       → Ended s l (reach s (blocksWhole host buffer index bytes) 0 (host .line)) (wouldWrite s [] (blocksWhole host buffer index bytes) (host .line)) (blocksCame host buffer index bytes s l)
   blocks-ended buffer index bytes =
-      ended-at plain [] (blocksWhole host buffer index bytes) (host .line) s l (blocksCame host buffer index bytes s l) (blocks-ran host s l buffer index bytes)
+      ended-at (plain host buffer) [] (blocksWhole host buffer index bytes) (host .line) s l (blocksCame host buffer index bytes s l) (blocks-ran host s l buffer index bytes)
       (blocks-walk host buffer index bytes .each) tt
 
   pub status-ended : Ended s l (reach s (statusWhole host) 0 (host .line)) (wouldWrite s [] (statusWhole host) (host .line)) (statusCame host s l)

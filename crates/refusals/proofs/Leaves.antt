@@ -1,5 +1,5 @@
 -- Document 01's table of refusals, line 6, and what every call leaves as it was.
-use Prim.Native.Nat.{ℕ, _+_, _-_, _/_, _%_, _≤_, min}
+use Prim.Native.Nat.{ℕ, _+_, _-_, _/_, _≤_, min}
 use mathlib.Core.Bool.{false, _||_}
 use mathlib.Core.List.{List, []}
 use mathlib.Core.Path.{_≡_, refl, ap, sym, subst, _∙_}
@@ -14,7 +14,7 @@ use Rattle.types.specs.declared.clock.ClockAnswer.the-variants as Clocked
 use Rattle.types.specs.declared.error.Answer.the-variants as Answered
 use Rattle.types.specs.declared.error.Error.{Error}
 use Rattle.types.specs.declared.error.Error.the-variants as E
-use Rattle.types.specs.Leaf.{addressOf, clockOf}
+use Rattle.types.specs.Leaf.{clockOf}
 use Rattle.types.specs.Words.{bytesOf}
 use Rattle.tape.specs.declared.progress.Halt.the-variants.{Refused, ScriptEnded, TraceFull}
 use Rattle.tape.specs.declared.progress.Pace.{Pace}
@@ -33,7 +33,7 @@ use Rattle.bus.specs.Transfer.{Buffer}
 use Rattle.init.specs.Initialise.{sourceOf, limitOf, noCard}
 use Rattle.init.specs.Initialise.{initialise}
 use Rattle.host.specs.Calls.{Came, untouched, holding, dropped, kept, ends, freshLine, initFrom, initialised}
-use Rattle.host.specs.Calls.{transferred, approached, served, blocksNext, blocksPlan, blocksFrom, blocksKnown, blocksCame}
+use Rattle.host.specs.Calls.{transferred, approached, served, blocksNext, blocksPlan, blocksFrom, blocksJudged, sends, blocksCame}
 use Rattle.host.specs.Calls.{statusNext, statusPlan, statusCame, bufferOf, blocksFilled}
 use Rattle.host.specs.declared.host.Sdmmc.{Sdmmc}
 
@@ -152,13 +152,8 @@ initialise-leaves host frequency s l =
         (going-kept s noCard (initialise (host .settings) c frequency) (at (begun (freshLine (c .frequency))) l) refl)
 
 pub blocks-leaves : (host : Sdmmc) (buffer : Buffer) (index bytes : ℕ) (s : List ℕ) (l : List Row) → Leaves host s l (blocksCame host buffer index bytes s l)
-unfolding blocksCame blocksKnown blocksFrom
-blocks-leaves host buffer index bytes s l =
-    by-cases (Leaves host s l) (host .known) _ _
-    (by-cases (Leaves host s l) (eqb (bytes % 512) 0) _ _
-    (by (addressOf (host .card .«card_type») (host .card .«block_count» .0) index (bytes / 512)))
-    (untouched-leaves host E.InvalidBufferLength s l))
-    (untouched-leaves host E.NoCard s l)
+unfolding blocksCame blocksFrom
+blocks-leaves host buffer index bytes s l = by (blocksJudged host (sends buffer) index bytes)
   where
     by : (a : AddressAnswer) → Leaves host s l (blocksFrom host buffer (bytes / 512) a s l)
     by (Address.Refused e) = untouched-leaves host e s l

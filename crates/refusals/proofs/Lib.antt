@@ -5,5 +5,6 @@ pub mod InitRefusals
 pub mod DataRefusals
 pub mod Ended
 pub mod Leaves
+pub mod Protected
 pub mod Whole
 pub mod Fields

@@ -1,6 +1,6 @@
 -- Document 01's table of refusals, lines 1 and 2: refused at making, or before the first row.
 use Prim.Native.Nat.{ℕ, _+_, _*_, _-_, _/_, _%_, _≤_, _<_}
-use mathlib.Core.Bool.{Bool, true, false, cond, _||_}
+use mathlib.Core.Bool.{Bool, true, false, cond, _&&_, _||_}
 use mathlib.Core.List.{List}
 use mathlib.Core.Path.{_≡_, refl}
 use native.Mathlib.Omega.{arith}
@@ -16,15 +16,15 @@ use Rattle.types.specs.declared.config.ConfigAnswer.the-variants as Judged
 use Rattle.types.specs.declared.error.Answer.the-variants as Answered
 use Rattle.types.specs.declared.error.Error.{Error}
 use Rattle.types.specs.declared.error.Error.the-variants as E
-use Rattle.types.specs.Leaf.{addressOf, clockOf}
+use Rattle.types.specs.Leaf.{addressOf, clockOf, stopsWrites}
 use Rattle.types.specs.Settings.{madeOf}
 use Rattle.tape.specs.declared.progress.Halt.the-variants.{Refused}
 use Rattle.tape.specs.declared.rows.Row.{Row}
-use Rattle.bus.specs.Transfer.{Buffer}
+use Rattle.bus.specs.Transfer.{Buffer, outgoing}
 use Rattle.init.specs.declared.settings.Settings.{Settings}
 use Rattle.init.specs.Initialise.{sourceOf, noCard}
 use Rattle.host.specs.Calls.{untouched, initialised}
-use Rattle.host.specs.Calls.{blocksFrom, blocksKnown, blocksCame}
+use Rattle.host.specs.Calls.{blocksFrom, blocksJudged, sends, blocksCame}
 use Rattle.host.specs.Calls.{statusCame, noHost, clockedHost, judgedHost, made}
 use Rattle.host.specs.declared.host.Sdmmc.{Sdmmc}
 
@@ -107,48 +107,66 @@ making-accepted set z from2 upTo =
         (record { from2 = omega arith; to257 = omega arith; slow = omega arith }))
 
 -- Line 2. '16 at a read or status; 19, 20 at a read; 17 for an asked frequency of 0 or over 50,000,000: host as before, no
--- row, no word used.' That is `untouched`: no word, no row, the list, no data words, the host.
+-- row, no word used', and with P8 26 at a write. That is `untouched`: no word, no row, the list, no data words, the host.
+
+-- no protection of the card stands in the way: none of a read's
+abbrev pub Free : Sdmmc → Buffer → Type 0
+Free host buffer = (sends buffer && stopsWrites (host .card .protection)) ≡ false
 
 module _ (host : Sdmmc) (s : List ℕ) (l : List Row) where
   -- 16
   pub blocks-16 : (buffer : Buffer) (index bytes : ℕ) → host .known ≡ false → blocksCame host buffer index bytes s l ≡ untouched host E.NoCard l
-  unfolding blocksCame
+  unfolding blocksCame blocksJudged blocksFrom
   blocks-16 buffer index bytes k = rw k
 
   pub status-16 : host .known ≡ false → statusCame host s l ≡ untouched host E.NoCard l
   unfolding statusCame
   status-16 k = rw k
 
+  -- what the checks refuse is untouched
+  pub judged-untouched : (buffer : Buffer) (index bytes : ℕ) (e : Error) → blocksJudged host (sends buffer) index bytes ≡ Address.Refused e
+      → blocksCame host buffer index bytes s l ≡ untouched host e l
+  unfolding blocksCame blocksFrom
+  judged-untouched buffer index bytes e j = rw j
+
+  -- 26 at a write to a protected card, whatever its index and its bytes: so before 19 and 20
+  pub write-26 : (ws : List ℕ) (index bytes : ℕ) → host .known ≡ true → stopsWrites (host .card .protection) ≡ true
+      → blocksCame host (outgoing ws) index bytes s l ≡ untouched host E.WriteProtected l
+  unfolding blocksJudged
+  write-26 ws index bytes k p = judged-untouched (outgoing ws) index bytes E.WriteProtected (rw (k, p) refl)
+
   -- 19 for a byte length not a multiple of 512
-  pub blocks-19-length : (buffer : Buffer) (index bytes : ℕ) → host .known ≡ true → (bytes % 512 ≡ 0 → ⊥) → blocksCame host buffer index bytes s l ≡ untouched host E.InvalidBufferLength l
-  unfolding blocksCame blocksKnown
-  blocks-19-length buffer index bytes k n = rw (k, ne-eqb (bytes % 512) 0 n)
+  pub blocks-19-length : (buffer : Buffer) (index bytes : ℕ) → host .known ≡ true → Free host buffer → (bytes % 512 ≡ 0 → ⊥)
+      → blocksCame host buffer index bytes s l ≡ untouched host E.InvalidBufferLength l
+  unfolding blocksJudged
+  blocks-19-length buffer index bytes k f n = judged-untouched buffer index bytes E.InvalidBufferLength (rw (k, f, ne-eqb (bytes % 512) 0 n) refl)
 
   -- any refusal of the leaf rule for the address (19, 20)
-  pub blocks-refused : (buffer : Buffer) (index blocks : ℕ) (e : Error) → host .known ≡ true
+  pub blocks-refused : (buffer : Buffer) (index blocks : ℕ) (e : Error) → host .known ≡ true → Free host buffer
       → addressOf (host .card .«card_type») (host .card .«block_count» .0) index blocks ≡ Address.Refused e
       → blocksCame host buffer index (512 * blocks) s l ≡ untouched host e l
-  unfolding blocksCame blocksKnown blocksFrom
-  blocks-refused buffer index blocks e k a =
+  unfolding blocksJudged
+  blocks-refused buffer index blocks e k f a =
       let whole : 512 * blocks % 512 ≡ 0 = omega arith in
       let count : 512 * blocks / 512 ≡ blocks = omega arith in
-      rw (k, eq-eqb (512 * blocks % 512) 0 whole, count, a)
+      judged-untouched buffer index (512 * blocks) e (rw (k, f, eq-eqb (512 * blocks % 512) 0 whole, count) a)
 
   -- 19 for 0 blocks or over 511
-  pub blocks-19-none : (buffer : Buffer) (index : ℕ) → host .known ≡ true → blocksCame host buffer index 0 s l ≡ untouched host E.InvalidBufferLength l
+  pub blocks-19-none : (buffer : Buffer) (index : ℕ) → host .known ≡ true → Free host buffer → blocksCame host buffer index 0 s l ≡ untouched host E.InvalidBufferLength l
   unfolding addressOf
-  blocks-19-none buffer index k = blocks-refused buffer index 0 E.InvalidBufferLength k refl
+  blocks-19-none buffer index k f = blocks-refused buffer index 0 E.InvalidBufferLength k f refl
 
-  pub blocks-19-many : (buffer : Buffer) (index blocks : ℕ) → host .known ≡ true → 511 < blocks → blocksCame host buffer index (512 * blocks) s l ≡ untouched host E.InvalidBufferLength l
+  pub blocks-19-many : (buffer : Buffer) (index blocks : ℕ) → host .known ≡ true → Free host buffer → 511 < blocks
+      → blocksCame host buffer index (512 * blocks) s l ≡ untouched host E.InvalidBufferLength l
   unfolding addressOf
-  blocks-19-many buffer index blocks k many = blocks-refused buffer index blocks E.InvalidBufferLength k (rw (lt-ltb 511 blocks many, or-true))
+  blocks-19-many buffer index blocks k f many = blocks-refused buffer index blocks E.InvalidBufferLength k f (rw (lt-ltb 511 blocks many, or-true))
 
   -- 20 when index plus count exceeds the block count
-  pub blocks-20 : (buffer : Buffer) (index blocks : ℕ) → host .known ≡ true → 1 ≤ blocks → blocks ≤ 511 → host .card .«block_count» .0 < index + blocks
-      → blocksCame host buffer index (512 * blocks) s l ≡ untouched host E.AddressOutOfRange l
+  pub blocks-20 : (buffer : Buffer) (index blocks : ℕ) → host .known ≡ true → Free host buffer → 1 ≤ blocks → blocks ≤ 511
+      → host .card .«block_count» .0 < index + blocks → blocksCame host buffer index (512 * blocks) s l ≡ untouched host E.AddressOutOfRange l
   unfolding addressOf
-  blocks-20 buffer index blocks k some most past =
-      blocks-refused buffer index blocks E.AddressOutOfRange k
+  blocks-20 buffer index blocks k f some most past =
+      blocks-refused buffer index blocks E.AddressOutOfRange k f
       (rw (ne-eqb blocks 0 (λ e. omega arith), le-ltb 511 blocks most, lt-ltb (host .card .«block_count» .0) (index + blocks) past))
 
   -- 17 for an asked frequency of 0 or over 50,000,000

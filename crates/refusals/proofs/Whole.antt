@@ -1,8 +1,8 @@
 -- Theorems about whole calls. Each call does what its one plan does (`initialise-ran`, `blocks-ran`, `status-ran`); from that, of
--- every call: when it answers 22, and how many rows it has then written; whence a 17 comes; and that an accepted read has filled
--- its whole buffer. (21: Ended.antt.)
+-- every call: when it answers 22, and how many rows it has then written; whence a 17 and a 26 come; and that an accepted read has
+-- filled its whole buffer. (21: Ended.antt.)
 use Prim.Native.Nat.{ℕ, _+_, _*_, _-_, _/_, _%_, _≤_, _<_, _^_, min}
-use mathlib.Core.Bool.{Bool, true, false, cond, _||_}
+use mathlib.Core.Bool.{Bool, true, false, cond, _&&_, _||_}
 use mathlib.Core.List.{List, [], append-nil}
 use mathlib.Core.Path.{_≡_, refl, ap, sym, _∙_}
 use native.Mathlib.Omega.{arith}
@@ -10,7 +10,7 @@ use native.Mathlib.Decide.{decLe}
 use lib.Dec.{eqb, ltb}
 use lib.ListN.{length, take, drop, drop-of-length-le}
 use lib.Seq.{take-all}
-use borrow.Author.Tests.{le-ltb, eqb-true}
+use borrow.Author.Tests.{le-ltb}
 use Rattle.types.specs.declared.card.AddressAnswer.{AddressAnswer}
 use Rattle.types.specs.declared.card.AddressAnswer.the-variants as Address
 use Rattle.types.specs.declared.card.Card.{Card}
@@ -23,7 +23,7 @@ use Rattle.types.specs.declared.error.Answer.the-variants as Answered
 use Rattle.types.specs.declared.error.Error.{Error}
 use Rattle.types.specs.declared.error.Error.the-variants as E
 use Rattle.types.specs.Answer.{errorTold}
-use Rattle.types.specs.Leaf.{addressOf, clockOf, unitsOf}
+use Rattle.types.specs.Leaf.{addressOf, clockOf, stopsWrites, unitsOf}
 use Rattle.types.specs.Words.{bytesOf}
 use Rattle.tape.specs.declared.progress.Halt.the-variants.{Refused, ScriptEnded, TraceFull}
 use Rattle.tape.specs.declared.progress.Line.{Line}
@@ -32,7 +32,7 @@ use Rattle.tape.specs.declared.progress.Pace.the-variants.{Going, Stopped}
 use Rattle.tape.specs.declared.rows.Row.{Row}
 use Rattle.tape.specs.Plan.{Nothing, Plan, refuse, fail, _then_}
 use Rattle.tape.specs.Run.{State, After, run, runFrom, nextAt}
-use Rattle.tape.proofs.Laws.{by-cases, from-going, run-handle}
+use Rattle.tape.proofs.Laws.{from-going, run-handle}
 use Rattle.tape.proofs.Room.{free, isFull, run-fits, run-full, full-exactly}
 use Rattle.tape.proofs.Values.{given}
 use Rattle.tape.proofs.Walk.{Rule, Obeys, Obeyed, run-obeys, on-fail, on-test, on-then}
@@ -41,13 +41,14 @@ use Rattle.bus.specs.Ready.{waitReady}
 use Rattle.bus.specs.Transfer.{Buffer, incoming}
 use Rattle.bus.proofs.Bounds.{countIn, gives-words}
 use Rattle.bus.proofs.Delays.{fair}
-use Rattle.bus.proofs.Walks.{Other, not-13, not-17, app-obeys, ready-obeys, data-obeys}
+use Rattle.bus.proofs.Walks.{Other, not-13, not-17, not-26, app-obeys, ready-obeys, data-obeys}
 use Rattle.init.specs.Initialise.{sourceOf, limitOf, noCard, initialise}
 use Rattle.init.proofs.Walks.{clockRule, initialise-obeys}
 use Rattle.host.specs.declared.host.Sdmmc.{Sdmmc}
 use Rattle.host.specs.Calls.{Came, untouched, holding, dropped, kept, ends, freshLine, initFrom, initialised}
-use Rattle.host.specs.Calls.{transferred, approached, served, blocksNext, blocksTransfer, blocksPlan, blocksFrom, blocksKnown, blocksCame, readCame, blocksFilled, bufferOf}
+use Rattle.host.specs.Calls.{transferred, approached, served, blocksNext, blocksTransfer, blocksPlan, blocksFrom, blocksJudged, sends, blocksCame, readCame, blocksFilled, bufferOf}
 use Rattle.host.specs.Calls.{statusNext, statusPlan, statusCame}
+use Rattle.host.proofs.Ran.{judged-good}
 use Rattle.refusals.specs.Whole.{initAt, initWhole, blocksAt, blocksWhole, statusWhole, answerOf, Ran}
 
 -- Each call does what its plan does.
@@ -109,12 +110,8 @@ module _ (host : Sdmmc) (s : List ℕ) (l : List Row) where
           ends-ran (x .value) host (dropped host (x .state)) (holding host (x .state) (x .value)) [] (x .state)
 
   pub blocks-ran : (buffer : Buffer) (index bytes : ℕ) → Ran (blocksCame host buffer index bytes s l) (run s [] (blocksWhole host buffer index bytes) 0 0 (host .line) l)
-  unfolding blocksCame blocksKnown blocksFrom blocksWhole blocksAt
-  blocks-ran buffer index bytes =
-      both (does []) (host .known)
-      (both (does []) (eqb (bytes % 512) 0) (at (addressOf (host .card .«card_type») (host .card .«block_count» .0) index (bytes / 512)))
-      (untouched-ran [] host E.InvalidBufferLength s l))
-      (untouched-ran [] host E.NoCard s l)
+  unfolding blocksCame blocksFrom blocksWhole blocksAt
+  blocks-ran buffer index bytes = at (blocksJudged host (sends buffer) index bytes)
     where
       at : (a : AddressAnswer) → Ran (blocksFrom host buffer (bytes / 512) a s l) (run s [] (blocksAt host buffer (bytes / 512) a) 0 0 (host .line) l)
       at (Address.Refused e) = untouched-ran [] host e s l
@@ -202,12 +199,26 @@ allowed-error ran o e r = o .refused e (refused-pace _ e (sym (ran .answer) ∙ 
 abbrev pub refusalRule : (Error → Type 0) → Rule
 refusalRule R = record { holds = λ h. Unit {0}; writes = λ r. Unit {0}; refuses = R; noted = λ r h i. tt }
 
--- a read or a write is refused with neither UnsupportedCardType nor BadClock, a status call not with BadClock
-abbrev pub plain : Rule
-plain = refusalRule Other
+-- a write that a protected card stops
+pub record Stopped-by (host : Sdmmc) (buffer : Buffer) : Type 0 where
+  pub known : host .known ≡ true
+  pub stops : (sends buffer && stopsWrites (host .card .protection)) ≡ true
+
+-- a read or a write is refused with neither UnsupportedCardType nor BadClock, and with WriteProtected only as such a write; a
+-- status call with neither BadClock nor WriteProtected
+pub record Plain (host : Sdmmc) (buffer : Buffer) (e : Error) : Type 0 where
+  pub typed : errorTold e .number ≡ 13 → ⊥
+  pub timed : errorTold e .number ≡ 17 → ⊥
+  pub barred : errorTold e .number ≡ 26 → Stopped-by host buffer
+
+plain-other : {host : Sdmmc} {buffer : Buffer} (e : Error) → Other e → Plain host buffer e
+plain-other e o = record { typed = not-13 e o; timed = not-17 e o; barred = λ z. absurd (not-26 e o z) }
+
+abbrev pub plain : Sdmmc → Buffer → Rule
+plain host buffer = refusalRule (Plain host buffer)
 
 abbrev pub unclocked : Rule
-unclocked = refusalRule (λ e. errorTold e .number ≡ 17 → ⊥)
+unclocked = refusalRule (λ e. (errorTold e .number ≡ 17 → ⊥) × (errorTold e .number ≡ 26 → ⊥))
 
 units-other : (class : CardCapacity) (index : ℕ) (e : Error) → unitsOf class index ≡ Address.Refused e → Other e
 unfolding unitsOf errorTold
@@ -229,42 +240,65 @@ address-other class blocks index count e r = by (eqb count 0 || ltb 511 count) (
     by false false r = units-other class index e r
 
 module _ (host : Sdmmc) where
-  pub blocks-walk : (buffer : Buffer) (index bytes : ℕ) → Obeys plain (List ℕ) (blocksWhole host buffer index bytes)
-  unfolding blocksWhole blocksAt errorTold
-  blocks-walk buffer index bytes =
-      on-test (host .known)
-      (on-test (eqb (bytes % 512) 0)
-      (at (addressOf (host .card .«card_type») (host .card .«block_count» .0) index (bytes / 512)) refl)
-      (on-fail refl))
-      (on-fail refl)
+  judged-plain : (buffer : Buffer) (index bytes : ℕ) (e : Error) → blocksJudged host (sends buffer) index bytes ≡ Address.Refused e → Plain host buffer e
+  unfolding blocksJudged errorTold
+  judged-plain buffer index bytes e r = by (host .known) (sends buffer && stopsWrites (host .card .protection)) (eqb (bytes % 512) 0) refl refl r
     where
-      at : (a : AddressAnswer) → addressOf (host .card .«card_type») (host .card .«block_count» .0) index (bytes / 512) ≡ a
-          → Obeys plain (List ℕ) (blocksAt host buffer (bytes / 512) a)
-      at (Address.Refused e) r = on-fail (address-other _ _ _ _ e r)
-      at (Address.Address a) r = on-then (ready-obeys plain (λ e o. o) (λ r o. tt) _ _ _) (λ _. data-obeys plain (λ e o. o) (λ r o. tt) (λ r. tt) _ _ _ _ _)
+      by : (known stops whole : Bool) → host .known ≡ known → (sends buffer && stopsWrites (host .card .protection)) ≡ stops
+          → cond known
+          (cond stops (Address.Refused E.WriteProtected)
+          (cond whole (addressOf (host .card .«card_type») (host .card .«block_count» .0) index (bytes / 512)) (Address.Refused E.InvalidBufferLength)))
+          (Address.Refused E.NoCard) ≡ Address.Refused e → Plain host buffer e
+      by false stops whole k p r = let same : E.NoCard ≡ e = cc in rw (← same) (plain-other E.NoCard refl)
+      by true true whole k p r =
+          let same : E.WriteProtected ≡ e = cc in
+          rw (← same) (record { typed = λ z. omega arith; timed = λ z. omega arith; barred = λ z. record { known = k; stops = p } })
+      by true false true k p r = plain-other e (address-other _ _ _ _ e r)
+      by true false false k p r = let same : E.InvalidBufferLength ≡ e = cc in rw (← same) (plain-other E.InvalidBufferLength refl)
+
+  pub blocks-walk : (buffer : Buffer) (index bytes : ℕ) → Obeys (plain host buffer) (List ℕ) (blocksWhole host buffer index bytes)
+  unfolding blocksWhole blocksAt
+  blocks-walk buffer index bytes = at (blocksJudged host (sends buffer) index bytes) refl
+    where
+      at : (a : AddressAnswer) → blocksJudged host (sends buffer) index bytes ≡ a → Obeys (plain host buffer) (List ℕ) (blocksAt host buffer (bytes / 512) a)
+      at (Address.Refused e) r = on-fail (judged-plain buffer index bytes e r)
+      at (Address.Address a) r =
+          on-then (ready-obeys (plain host buffer) plain-other (λ r o. tt) _ _ _) (λ _. data-obeys (plain host buffer) plain-other (λ r o. tt) (λ r. tt) _ _ _ _ _)
+
+  unclocked-other : (e : Error) → Other e → (errorTold e .number ≡ 17 → ⊥) × (errorTold e .number ≡ 26 → ⊥)
+  unclocked-other e o = (not-17 e o, not-26 e o)
 
   pub status-walk : Obeys unclocked (List ℕ) (statusWhole host)
   unfolding statusWhole errorTold
   status-walk =
-      on-test (host .known) (on-then (app-obeys unclocked not-17 (λ r o. tt) (λ z. omega arith) _ _) (λ _. data-obeys unclocked not-17 (λ r o. tt) (λ r. tt) _ _ _ _ _)) (on-fail (λ z. omega arith))
+      on-test (host .known) (on-then (app-obeys unclocked unclocked-other (λ r o. tt) (λ z. omega arith, λ z. omega arith) _ _) (λ _. data-obeys unclocked unclocked-other (λ r o. tt) (λ r. tt) _ _ _ _ _))
+      (on-fail (λ z. omega arith, λ z. omega arith))
 
   module _ (s : List ℕ) (l : List Row) where
-    blocks-obeyed : (buffer : Buffer) (index bytes : ℕ) → Obeyed plain s 0 (run s [] (blocksWhole host buffer index bytes) 0 0 (host .line) l)
-    blocks-obeyed buffer index bytes = run-obeys plain s [] (blocksWhole host buffer index bytes) 0 0 (host .line) l (blocks-walk buffer index bytes .each) tt
+    blocks-obeyed : (buffer : Buffer) (index bytes : ℕ) → Obeyed (plain host buffer) s 0 (run s [] (blocksWhole host buffer index bytes) 0 0 (host .line) l)
+    blocks-obeyed buffer index bytes = run-obeys (plain host buffer) s [] (blocksWhole host buffer index bytes) 0 0 (host .line) l (blocks-walk buffer index bytes .each) tt
 
     status-obeyed : Obeyed unclocked s 0 (run s [] (statusWhole host) 0 0 (host .line) l)
     status-obeyed = run-obeys unclocked s [] (statusWhole host) 0 0 (host .line) l (status-walk .each) tt
 
     -- neither is refused with 17
     pub blocks-not-17 : (buffer : Buffer) (index bytes : ℕ) (e : Error) → blocksCame host buffer index bytes s l .answer ≡ Answered.Refused e → errorTold e .number ≡ 17 → ⊥
-    blocks-not-17 buffer index bytes e r = not-17 e (allowed-error (blocks-ran host s l buffer index bytes) (blocks-obeyed buffer index bytes) e r)
+    blocks-not-17 buffer index bytes e r = allowed-error (blocks-ran host s l buffer index bytes) (blocks-obeyed buffer index bytes) e r .timed
 
     -- nor a read or a write with 13
     pub blocks-not-13 : (buffer : Buffer) (index bytes : ℕ) (e : Error) → blocksCame host buffer index bytes s l .answer ≡ Answered.Refused e → errorTold e .number ≡ 13 → ⊥
-    blocks-not-13 buffer index bytes e r = not-13 e (allowed-error (blocks-ran host s l buffer index bytes) (blocks-obeyed buffer index bytes) e r)
+    blocks-not-13 buffer index bytes e r = allowed-error (blocks-ran host s l buffer index bytes) (blocks-obeyed buffer index bytes) e r .typed
 
     pub status-not-17 : (e : Error) → statusCame host s l .answer ≡ Answered.Refused e → errorTold e .number ≡ 17 → ⊥
-    status-not-17 = allowed-error (status-ran host s l) status-obeyed
+    status-not-17 e r = allowed-error (status-ran host s l) status-obeyed e r .0
+
+    -- whence a 26 comes: a write, on a card that is protected; no status call has one
+    pub blocks-26 : (buffer : Buffer) (index bytes : ℕ) → blocksCame host buffer index bytes s l .answer ≡ Answered.Refused E.WriteProtected → Stopped-by host buffer
+    unfolding errorTold
+    blocks-26 buffer index bytes r = allowed-error (blocks-ran host s l buffer index bytes) (blocks-obeyed buffer index bytes) E.WriteProtected r .barred refl
+
+    pub status-not-26 : (e : Error) → statusCame host s l .answer ≡ Answered.Refused e → errorTold e .number ≡ 26 → ⊥
+    status-not-26 e r = allowed-error (status-ran host s l) status-obeyed e r .1
 
 -- An initialisation, of a host such as is made: its source is 2 Hz or more and has a clock of identification.
 
@@ -315,10 +349,11 @@ unfolding Exact
 untouched-exact buffer host e l bytes = λ r. let z : _≡_ {A = ℕ} 0 1 = cc in absurd (omega arith)
 
 module _ (host : Sdmmc) (buffer : Buffer) (index bytes : ℕ) (s : List ℕ) (l : List Row) where
-  from-exact : bytes % 512 ≡ 0 → (a : AddressAnswer) → Exact buffer bytes (blocksFrom host buffer (bytes / 512) a s l)
+  from-exact : (answer : AddressAnswer) → ((a : ℕ) → answer ≡ Address.Address a → bytes % 512 ≡ 0)
+      → Exact buffer bytes (blocksFrom host buffer (bytes / 512) answer s l)
   unfolding blocksFrom served approached transferred
-  from-exact whole (Address.Refused e) = untouched-exact buffer host e l bytes
-  from-exact whole (Address.Address a) = by (w .progress .pace) refl
+  from-exact (Address.Refused e) whole = untouched-exact buffer host e l bytes
+  from-exact (Address.Address a) whole = by (w .progress .pace) refl
     where
       w : State
       w = run s (tt {0}) (waitReady (sourceOf (host .settings)) (host .settings .config) (host .card .rca)) 0 0 (host .line) l .state
@@ -329,18 +364,13 @@ module _ (host : Sdmmc) (buffer : Buffer) (index bytes : ℕ) (s : List ℕ) (l 
           let gave = from-going {s = s} {d = []} {p = blocksPlan host buffer a (bytes / 512)} {w = w} {v = x .value} {w′ = x .state} g refl in
           let words = gives-words (sourceOf (host .settings)) (host .settings .config) buffer (blocksTransfer buffer a (bytes / 512)) (host .card .rca) in
           ends-exact buffer host (dropped host (x .state)) (blocksNext host (x .state) (x .value)) (x .value) bytes (x .state .progress .pace) (x .state)
-          (λ through. (whole, given words gave through))
+          (λ through. (whole a refl, given words gave through))
       by (Stopped h) g = ends-exact buffer host (kept host w) host [] bytes (Stopped h) w (λ through. let z : _≡_ {A = ℕ} 0 1 = cc in absurd (omega arith))
 
   pub blocks-exact : blocksCame host buffer index bytes s l .answer ≡ Answered.Accepted
       → (bytes % 512 ≡ 0) × (length (blocksCame host buffer index bytes s l .taken) ≡ countIn buffer (128 * (bytes / 512)))
-  unfolding blocksCame blocksKnown Exact
-  blocks-exact = by-cases (Exact buffer bytes) (host .known) _ _ (by (eqb (bytes % 512) 0) refl) (untouched-exact buffer host E.NoCard l bytes)
-    where
-      by : (b : Bool) → eqb (bytes % 512) 0 ≡ b
-          → Exact buffer bytes (cond b (blocksFrom host buffer (bytes / 512) (addressOf (host .card .«card_type») (host .card .«block_count» .0) index (bytes / 512)) s l) (untouched host E.InvalidBufferLength l))
-      by true t = from-exact (eqb-true (bytes % 512) 0 t) (addressOf (host .card .«card_type») (host .card .«block_count» .0) index (bytes / 512))
-      by false t = untouched-exact buffer host E.InvalidBufferLength l bytes
+  unfolding blocksCame Exact
+  blocks-exact = from-exact (blocksJudged host (sends buffer) index bytes) (λ a j. judged-good host (sends buffer) index bytes a j .whole)
 
 module _ (host : Sdmmc) (index bytes : ℕ) (s : List ℕ) (l : List Row) where
   pub read-exact : readCame host index bytes s l .answer ≡ Answered.Accepted

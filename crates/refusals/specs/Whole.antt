@@ -1,6 +1,6 @@
 -- Each call as one plan, from its first check to its last row, so that what is said of a call's rows and words is said of one
 -- run: a read, a write and a status call are served by two, the approach and the data phase.
-use Prim.Native.Nat.{ℕ, _/_, _%_}
+use Prim.Native.Nat.{ℕ, _/_}
 use mathlib.Core.Bool.{cond, _||_, false}
 use mathlib.Core.List.{List}
 use mathlib.Core.Path.{_≡_}
@@ -13,7 +13,7 @@ use Rattle.types.specs.declared.clock.ClockAnswer.the-variants as Clocked
 use Rattle.types.specs.declared.error.Answer.{Answer}
 use Rattle.types.specs.declared.error.Answer.the-variants as Answered
 use Rattle.types.specs.declared.error.Error.the-variants as E
-use Rattle.types.specs.Leaf.{addressOf, clockOf}
+use Rattle.types.specs.Leaf.{clockOf}
 use Rattle.tape.specs.declared.progress.Halt.the-variants.{Refused, ScriptEnded, TraceFull}
 use Rattle.tape.specs.declared.progress.Pace.{Pace}
 use Rattle.tape.specs.declared.progress.Pace.the-variants.{Going, Stopped}
@@ -24,7 +24,7 @@ use Rattle.bus.specs.Ready.{waitReady}
 use Rattle.bus.specs.Transfer.{Buffer}
 use Rattle.init.specs.Initialise.{sourceOf, limitOf, initialise}
 use Rattle.host.specs.declared.host.Sdmmc.{Sdmmc}
-use Rattle.host.specs.Calls.{Came, freshLine, blocksPlan, statusPlan}
+use Rattle.host.specs.Calls.{Came, freshLine, blocksJudged, sends, blocksPlan, statusPlan}
 
 -- an initialisation holds a fresh line before its first row
 unfoldable pub initAt : Sdmmc → ℕ → ClockAnswer → Plan Card
@@ -42,12 +42,7 @@ blocksAt host buffer blocks (Address.Address a) =
     waitReady (sourceOf (host .settings)) (host .settings .config) (host .card .rca) then λ _. blocksPlan host buffer a blocks
 
 unfoldable pub blocksWhole : Sdmmc → Buffer → ℕ → ℕ → Plan (List ℕ)
-blocksWhole host buffer index bytes =
-    cond (host .known)
-    (cond (eqb (bytes % 512) 0)
-    (blocksAt host buffer (bytes / 512) (addressOf (host .card .«card_type») (host .card .«block_count» .0) index (bytes / 512)))
-    (fail E.InvalidBufferLength))
-    (fail E.NoCard)
+blocksWhole host buffer index bytes = blocksAt host buffer (bytes / 512) (blocksJudged host (sends buffer) index bytes)
 
 unfoldable pub statusWhole : Sdmmc → Plan (List ℕ)
 statusWhole host =

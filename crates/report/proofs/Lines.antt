@@ -1,20 +1,16 @@
--- No text, and a line or a number more of each kind, of what the pen laid in.
-use Prim.Native.Nat.{ℕ, _+_, min}
+-- A line or a number more of each kind, of what the pen laid in.
+use Prim.Native.Nat.{ℕ, _+_}
 use mathlib.Core.List.{List, [], _++_}
-use mathlib.Core.Path.{_≡_, refl, sym, _∙_}
+use mathlib.Core.Path.{_≡_, refl}
 use native.Mathlib.Numerals.{add-one}
-use lib.ListN.{length, getD}
+use lib.ListN.{getD}
 use Rattle.text.specs.Digits.{hexOf}
 use Rattle.text.specs.Ink.{Laid}
 use Rattle.text.specs.Typed.{typed}
-use Rattle.text.proofs.Ink.{ink-nil, next-nil, and-then}
+use Rattle.text.proofs.Ink.{and-then}
 use Rattle.tape.specs.declared.rows.Row.{Row}
 use Rattle.tape.specs.Layout.{rowOf}
 use Rattle.report.specs.Report.{rowLine, rowsText, wordsText, bytesText, blockLine, blocksText}
-
--- the pen stands at its place, or at the end where that is past it
-pub nothing : {at place : ℕ} {buffer : List ℕ} → place ≡ min at (length buffer) → Laid at [] buffer place buffer
-nothing {at} {place} {buffer} e = record { placed = e ∙ sym (next-nil at buffer); laid = sym (ink-nil at buffer) }
 
 pub rows-none : (rows : List Row) → rowsText 0 rows ≡ []
 unfolding rowsText

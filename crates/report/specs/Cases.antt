@@ -54,6 +54,7 @@ none : heldText false (record {
   scr = record { 0 = 0 };
   status = [];
   «block_count» = record { 0 = 0 };
+  protection = record { permanent = true; temporary = true };
 }) ≡ typed " record=none"
 none = refl
 
@@ -62,10 +63,11 @@ held : recordText (record {
   ocr = 0xc0ff8000;
   rca = 0xaaaa;
   cid = record { high = 0x0123456789abcdef; low = 1 };
-  csd = record { high = 0x400e00325b590000; low = 0x0edc7f800a404001 };
+  csd = record { high = 0x400e00325b590000; low = 0x0edc7f800a406001 };
   scr = record { 0 = 0x0235800000000000 };
   status = 0x80000000 ∷ 2 ∷ [];
   «block_count» = record { 0 = 3904 };
-}) ≡ typed "SDHC,c0ff8000,aaaa,0123456789abcdef0000000000000001,400e00325b5900000edc7f800a404001,0235800000000000,80000000:00000002:00000000:00000000:00000000:00000000:00000000:00000000:00000000:00000000:00000000:00000000:00000000:00000000:00000000:00000000,3904"
+  protection = record { permanent = true; temporary = false };
+}) ≡ typed "SDHC,c0ff8000,aaaa,0123456789abcdef0000000000000001,400e00325b5900000edc7f800a406001,0235800000000000,80000000:00000002:00000000:00000000:00000000:00000000:00000000:00000000:00000000:00000000:00000000:00000000:00000000:00000000:00000000:00000000,3904,protect=2"
 unfolding recordText wordsText hexOf decimalIn decimalOf
 held = refl

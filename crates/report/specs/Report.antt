@@ -7,6 +7,7 @@ use lib.ListN.{getD}
 use Rattle.text.specs.Digits.{decimalOf, hexOf}
 use Rattle.text.specs.Typed.{typed}
 use Rattle.types.specs.Answer.{answerTold, carried, flag}
+use Rattle.types.specs.Leaf.{protectNumber}
 use Rattle.types.specs.Sd.{wideOf}
 use Rattle.types.specs.declared.card.Card.{Card}
 use Rattle.types.specs.declared.card.CardCapacity.{CardCapacity}
@@ -54,12 +55,13 @@ classText SDHC = typed "SDHC"
 abbrev pub comma : List ℕ → List ℕ
 comma text = typed "," ++ text
 
--- class,ocr,rca,cid,csd,scr,status,blocks
+-- class,ocr,rca,cid,csd,scr,status,blocks,protect=N
 unfoldable pub recordText : Card → List ℕ
 recordText card =
     (classText (card .«card_type») ++ comma (hexOf 8 (card .ocr)) ++ comma (hexOf 4 (card .rca)))
     ++ (comma (hexOf 32 (wideOf (card .cid))) ++ comma (hexOf 32 (wideOf (card .csd))) ++ comma (hexOf 16 (card .scr .0)))
     ++ (comma (wordsText 15 (card .status)) ++ comma (decimalOf (card .«block_count» .0)))
+    ++ (typed ",protect=" ++ decimalOf (protectNumber (card .protection)))
 
 abbrev pub signallingText : Signalling → List ℕ
 signallingText SDR12 = typed "SDR12"

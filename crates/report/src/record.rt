@@ -1,4 +1,4 @@
-// The record of a card: class,ocr,rca,cid,csd,scr,status,blocks.
+// The record of a card: class,ocr,rca,cid,csd,scr,status,blocks,protect=N.
 ghost use mathlib.Core.List.{_++_};
 ghost use Rattle.types.specs.Sd.{wideOf};
 ghost use Rattle.text.specs.Digits.{decimalOf, hexOf};
@@ -70,7 +70,9 @@ pub fn put_record(out: &mut [u8], at: usize, card: Card) -> usize
     let scr = card.scr;
     let status = card.status;
     let blocks = card.block_count;
+    let protection = card.protection;
     let known = put_identity(out, at, class, card.ocr, card.rca);
     let told = put_registers(out, known, cid, csd, scr);
-    put_contents(out, told, status, blocks)
+    let counted = put_contents(out, told, status, blocks);
+    rows::put_named(out, counted, b",protect=", protection.number() as u64)
 }

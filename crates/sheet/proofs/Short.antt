@@ -16,8 +16,10 @@ use Rattle.tape.specs.declared.script.Reading.{Reading}
 use Rattle.tape.specs.declared.script.Reading.the-variants.{Status, RespCmd, Response, Dma, DCount, Data}
 use Rattle.tape.proofs.Laws.{by-cases}
 use Rattle.types.specs.Answer.{flag}
+use Rattle.types.specs.Leaf.{protectNumber}
 use Rattle.types.specs.declared.card.Card.{Card}
 use Rattle.types.specs.declared.error.Answer.{Answer}
+use Rattle.types.specs.declared.register.Protection.{Protection}
 use Rattle.types.specs.declared.card.CardCapacity.{CardCapacity}
 use Rattle.types.specs.declared.card.CardCapacity.the-variants.{SDSC, SDHC}
 use Rattle.types.specs.declared.card.Signalling.{Signalling}
@@ -25,7 +27,7 @@ use Rattle.types.specs.declared.card.Signalling.the-variants.{SDR12, SDR25}
 use Rattle.host.specs.declared.host.Sdmmc.{Sdmmc}
 use Rattle.book.specs.declared.layout.Asked.{Asked}
 use Rattle.book.specs.Lines.{answerText, callLine}
-use Rattle.book.proofs.Short.{answer-short}
+use Rattle.book.proofs.Short.{answer-short, protect-most, protect-short}
 use Rattle.report.specs.Report.{wordsText, classText, recordText, signallingText, heldText, stateText}
 use Rattle.sheet.specs.Lines.{beginsText}
 use Rattle.events.specs.declared.event.Event.{Event}
@@ -198,12 +200,12 @@ begins-short number asked n k a b =
 twenty-digits : (n : ℕ) → n < 2 ^ 64 → length (decimalOf n) ≤ 20
 twenty-digits n h = digits-at-most 19 n (omega arith)
 
-pub called-short : (number : ℕ) (answer : Answer) (words rows : ℕ) → number < 2 ^ 64 → words < 2 ^ 64 → rows < 2 ^ 64
-    → length (callLine number answer words rows) ≤ 512
-called-short number answer words rows n w r =
+pub called-short : (number kind : ℕ) (answer : Answer) (words rows : ℕ) (protection : Protection) → number < 2 ^ 64 → words < 2 ^ 64 → rows < 2 ^ 64
+    → length (callLine number kind answer words rows protection) ≤ 512
+called-short number kind answer words rows protection n w r =
     let few : length (answerText answer) ≤ 18 = answer-short answer in
-    rw (length-append, length-append, length-append, length-append, length-append, length-append, length-append, length-append)
-    (omega (arith, twenty-digits number n, rw (length-append, length-append) at few, twenty-digits words w, twenty-digits rows r))
+    rw (length-append, length-append, length-append, length-append, length-append, length-append, length-append, length-append, length-append)
+    (omega (arith, twenty-digits number n, rw (length-append, length-append) at few, twenty-digits words w, twenty-digits rows r, protect-short kind answer protection))
 
 -- THE STATE: all but the clock, CLKCR and the blocks has digits of one number
 words-length : (n : ℕ) (words : List ℕ) → length (wordsText n words) ≡ 9 * n + 8
@@ -223,19 +225,19 @@ flag-short : (on : Bool) → flag on < 2 ^ 32
 flag-short true = omega arith
 flag-short false = omega arith
 
-record-short : (card : Card) → card .«block_count» .0 < 2 ^ 64 → length (recordText card) ≤ 310
+record-short : (card : Card) → card .«block_count» .0 < 2 ^ 64 → length (recordText card) ≤ 320
 unfolding recordText
 record-short card blocks =
     rw (length-append, length-append, length-append, length-append, length-append, length-append, length-append, length-append, length-append, length-append, length-append, length-append, length-append, length-append, hex-length, hex-length, hex-length, hex-length, hex-length, words-length)
-    (omega (arith, class-short (card .«card_type»), twenty-digits (card .«block_count» .0) blocks))
+    (omega (arith, class-short (card .«card_type»), twenty-digits (card .«block_count» .0) blocks, digits-at-most 0 (protectNumber (card .protection)) (omega (arith, protect-most (card .protection)))))
 
 pub state-short : (host : Sdmmc) → host .line .clock .0 < 2 ^ 32 → host .line .clkcr < 2 ^ 32 → host .card .«block_count» .0 < 2 ^ 64
     → length (stateText host) ≤ 512
 unfolding stateText
 state-short host clock clkcr blocks =
-    let held : length (heldText (host .known) (host .card)) ≤ 318 =
+    let held : length (heldText (host .known) (host .card)) ≤ 328 =
     rw length-append
-    (omega (arith, one-of (host .known) (recordText (host .card)) (typed "none") {n = 310} (record-short (host .card) blocks) (omega arith)))
+    (omega (arith, one-of (host .known) (recordText (host .card)) (typed "none") {n = 320} (record-short (host .card) blocks) (omega arith)))
     in
     rw (length-append, length-append, length-append, length-append, length-append, length-append, length-append, length-append, length-append)
     (omega (arith, held, ten-digits (host .line .clock .0) clock, signalling-short (host .line .signalling), ten-digits (flag (host .line .gated)) (flag-short (host .line .gated)), ten-digits (host .line .clkcr) clkcr))

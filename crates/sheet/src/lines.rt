@@ -45,14 +45,26 @@ pub fn tell_event(sheet: Sheet, event: Event, out: &mut [u8]) -> Sheet
     turned.filled(at)
 }
 
-// The line of a call that came to this.
-pub fn tell_called(sheet: Sheet, number: u32, called: Called, out: &mut [u8]) -> Sheet
+// The line of a call of this kind that came to this.
+pub fn tell_called(sheet: Sheet, number: u32, kind: u32, called: Called, out: &mut [u8]) -> Sheet
     requires { ⌜ Fits sheet (now out) ⌝ }
-    ensures { λ r. ⌜ Tells (callLine number (called .answer) (called .words) (called .rows)) sheet (now (out .entry)) r (now (out .exit)) ⌝ }
+    ensures { λ r. ⌜ Tells (callLine number kind (called .answer) (called .words) (called .rows) (called .host .card .protection)) sheet (now (out .entry)) r (now (out .exit)) ⌝ }
 {
     let answer = called.answer;
+    let next = called.host;
+    let card = next.card;
+    let protection = card.protection;
     let turned = sheet.turned(out);
-    let at = lines::put_call(out, turned.at, number, answer, called.words, called.rows);
+    let at = lines::put_call(
+        out,
+        turned.at,
+        number,
+        kind,
+        answer,
+        called.words,
+        called.rows,
+        protection,
+    );
     turned.filled(at)
 }
 

@@ -40,13 +40,13 @@ module _ (number : ℕ) (host : Sdmmc) (ws : List ℕ) (asked : Asked) (buffer :
       → Tells (beginsText number asked) (record { at = 0; written = true }) out sheet out₁
       → c ≡ calledOf (comes host (asking l buffer ws asked))
       → leaf at out₂ ≡ eventsOf (callAsked ws asked .script) (starts (begins host ws asked buffer)) l (leaf (sheet .at) out₁)
-      → out₃ ≡ endsOn number c (leaf at out₂) .out → out₃ ≡ callOut number host ws asked buffer l out
+      → out₃ ≡ endsOn number (asked .kind) c (leaf at out₂) .out → out₃ ≡ callOut number host ws asked buffer l out
   call-out {at} {out₂ = out₂} first called events ends =
       let c = calledOf (comes host (asking l buffer ws asked)) in
       ends
-      ∙ ap (λ (c : Called). endsOn number c (leaf at out₂) .out) called
-      ∙ ap (λ (p : Leaf). endsOn number c p .out) events
-      ∙ ap (λ (p : Leaf). endsOn number c (eventsOf (callAsked ws asked .script) (starts (begins host ws asked buffer)) l p) .out) (as-leaf first)
+      ∙ ap (λ (c : Called). endsOn number (asked .kind) c (leaf at out₂) .out) called
+      ∙ ap (λ (p : Leaf). endsOn number (asked .kind) c p .out) events
+      ∙ ap (λ (p : Leaf). endsOn number (asked .kind) c (eventsOf (callAsked ws asked .script) (starts (begins host ws asked buffer)) l p) .out) (as-leaf first)
 
 -- after k calls
 pub record Stands (ws : List ℕ) (room : ℕ) (start : Point) (k : ℕ) (host : Sdmmc) (place : ℕ) (out : List ℕ) : Type 0 where

@@ -87,13 +87,14 @@ begins host ws asked buffer =
     begun host asked (wordsOf (blocksFilled (callAsked ws asked .«data») buffer)) (length buffer)
 
 -- the last two lines of a call
-abbrev pub endsOn : ℕ → Called → Leaf → Leaf
-endsOn number c p = lined (stateText (c .host)) (lined (callLine number (c .answer) (c .words) (c .rows)) p)
+abbrev pub endsOn : ℕ → ℕ → Called → Leaf → Leaf
+endsOn number kind c p =
+    lined (stateText (c .host)) (lined (callLine number kind (c .answer) (c .words) (c .rows) (c .host .card .protection)) p)
 
 -- ALL OF A CALL, in the buffer from its start on
 abbrev pub callOut : ℕ → Sdmmc → List ℕ → Asked → List ℕ → List Row → List ℕ → List ℕ
 callOut number host ws asked buffer l out =
-    endsOn number (calledOf (comes host (asking l buffer ws asked)))
+    endsOn number (asked .kind) (calledOf (comes host (asking l buffer ws asked)))
     (eventsOf (callAsked ws asked .script) (starts (begins host ws asked buffer)) l (lined (beginsText number asked) (leaf 0 out)))
     .out
 

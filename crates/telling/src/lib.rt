@@ -146,13 +146,13 @@ fn tell_events(
 }
 
 // The last two lines of a call; then the sheet is handed over.
-fn tell_end(told: Told, number: u32, out: &mut [u8]) -> Sheet
+fn tell_end(told: Told, number: u32, kind: u32, out: &mut [u8]) -> Sheet
     requires { ⌜ Fits (told .sheet) (now out) ⌝ }
-    ensures { λ r. ⌜ now (out .exit) ≡ endsOn number (told .called) (leaf (told .sheet .at) (now (out .entry))) .out ⌝ }
+    ensures { λ r. ⌜ now (out .exit) ≡ endsOn number kind (told .called) (leaf (told .sheet .at) (now (out .entry))) .out ⌝ }
 {
     let called = told.called;
     let next = called.host;
-    let line = lines::tell_called(told.sheet, number, called, out);
+    let line = lines::tell_called(told.sheet, number, kind, called, out);
     let state = lines::tell_state(line, next, out);
     state.handed(out)
 }
@@ -180,7 +180,7 @@ fn tell_exact(
     let told = tell_events(host, words, asked, buffer, rows, begins, out);
     let called = told.called;
     let next = called.host;
-    let sheet = tell_end(told, number, out);
+    let sheet = tell_end(told, number, asked.kind, out);
     Place {
         host: next,
         body_at: trace::behind(words, asked.body_at, asked.body_len),

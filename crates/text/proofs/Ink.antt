@@ -39,6 +39,10 @@ pub next-nil : (at : ℕ) (buffer : List ℕ) → next at [] buffer ≡ min at (
 unfolding next
 next-nil at buffer = rw add-zero
 
+-- no text is laid in: the pen stands at its place, or at the end where that is past it
+pub nothing : {at place : ℕ} {buffer : List ℕ} → place ≡ min at (length buffer) → Laid at [] buffer place buffer
+nothing {at} {place} {buffer} e = record { placed = e ∙ sym (next-nil at buffer); laid = sym (ink-nil at buffer) }
+
 -- past the end nothing is stored
 sets-out : (vs l : List ℕ) (i : ℕ) → length l ≤ i → sets l i vs ≡ l
 sets-out [] l i h = refl

@@ -1,4 +1,4 @@
--- Document 01's arithmetic agrees with SD's fields: capacity, rate and address follow the SD specification.
+-- Document 01's arithmetic agrees with SD's fields: capacity, rate, address and write protection follow the SD specification.
 use Prim.Native.Nat.{ℕ, zero, suc, _+_, _*_, _-_, _/_, _^_, _<_, _≤_}
 use mathlib.Core.Bool.{Bool, true, false, cond, _||_}
 use mathlib.Core.List.{List, [], _∷_, map}
@@ -7,7 +7,7 @@ use native.Mathlib.Nat.{zero-add, mod-lt, mul-assoc, mul-right-comm, mul-div-lef
 use native.Mathlib.Omega.{arith}
 use lib.Dec.{eqb, ltb, lit<}
 use lib.ListN.{getD}
-use lib.Pow.{pow-add}
+use lib.Pow.{pow-add, shr-shr}
 use borrow.Author.Tests.{eqb-false, ltb-true, ltb-false, lt-ltb, le-ltb, ne-eqb}
 use Rattle.types.specs.declared.card.CardCapacity.{CardCapacity}
 use Rattle.types.specs.declared.card.CardCapacity.the-variants.{SDSC, SDHC}
@@ -19,9 +19,11 @@ use Rattle.types.specs.declared.error.Error.{Error}
 use Rattle.types.specs.declared.error.Error.the-variants.{UnsupportedCardType, InvalidBufferLength, AddressOutOfRange}
 use Rattle.types.specs.declared.error.Field.{Field}
 use Rattle.types.specs.declared.error.Field.the-variants.{CsdVersion, BlockLength, RateUnit, RateValue, RateReservedBit}
+use Rattle.types.specs.Answer.{flag}
 use Rattle.types.specs.Bits.{bits, bit}
-use Rattle.types.specs.Leaf.{countOf, rateOf, rateUnits, rateTenths, unitsOf, addressOf}
+use Rattle.types.specs.Leaf.{countOf, rateOf, rateUnits, rateTenths, unitsOf, addressOf, protectionOf, protectNumber}
 use Rattle.types.specs.Sd.{Code, reserved, means, codeIn, Version, version1, version2, csdStructure, structures, readBlLen, blockLengths, cSize1, cSizeMult, cSize2, bytes1, bytes2, bytesBy, capacityBy, sdCapacity, isReserved, lengthFault, atFault, firstFault}
+use Rattle.types.specs.Sd.{permWriteProtect, tmpWriteProtect}
 use Rattle.types.specs.Sd.{wideOf, tranSpeed, transferUnits, timeValues, rateBy, sdRate, unitBytes, errorPlaces, lockedPlaces, appPlaces, shortErrorPlaces}
 use Rattle.types.specs.Words.{counted, halvesOf}
 use Rattle.types.proofs.Counted.{getD-counted}
@@ -289,6 +291,23 @@ address-accepted class blocks index count a word f =
       le-ltb blocks (index + count) (f .inside),
     )
     (in-units class index a (f .place) (f .fits word))
+
+-- Write protection: the flags are SD's, and their number is the two bits, the permanent one on top.
+
+pub protection : (csd : ℕ) → (protectionOf csd .permanent ≡ permWriteProtect csd) × (protectionOf csd .temporary ≡ tmpWriteProtect csd)
+unfolding protectionOf
+protection csd = (refl, refl)
+
+as-number : (n : ℕ) → n < 2 → flag (eqb n 1) ≡ n
+as-number zero h = refl
+as-number (suc zero) h = refl
+as-number (suc (suc n)) h = absurd (omega arith)
+
+pub protect-number : (csd : ℕ) → protectNumber (protectionOf csd) ≡ bits csd 13 12
+unfolding protectionOf
+protect-number csd =
+    let half : csd / 2 ^ 12 / 2 ≡ csd / 2 ^ 13 = shr-shr csd 12 1 in
+    rw (as-number (bits csd 13 13) (omega arith), as-number (bits csd 12 12) (omega arith)) (omega (arith, half))
 
 -- Masks: document 01's masks of the card status are SD's places.
 

@@ -1,4 +1,4 @@
--- Document 01, 'Numbers of the answers', and P4 of document 02: each answer's number, and the values that it carries.
+-- Document 01, 'Numbers of the answers', with P4 and P8 of document 02: each answer's number, and the values that it carries.
 use Prim.Native.Nat.{ℕ}
 use mathlib.Core.Bool.{Bool, true, false}
 use mathlib.Core.List.{List, [], _∷_}
@@ -68,6 +68,7 @@ errorTold E.BadClock = told 17 []
 errorTold E.InvalidConfig = told 18 []
 errorTold E.InvalidBufferLength = told 19 []
 errorTold E.AddressOutOfRange = told 20 []
+errorTold E.WriteProtected = told 26 []
 
 -- a call's answer; the last three are added by document 01
 unfoldable pub answerTold : Answer → Told

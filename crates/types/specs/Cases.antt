@@ -1,13 +1,14 @@
 -- Document 01, 'Cases on each side': K1 to K11, as one table of what the definitions give and what is due: with the field at 13, of a
--- CSD of structure 2 and of 3 too, and of rates that break two rules or three; beside K6 the bargain card of P6; and the bound of a
--- card's size.
-use Prim.Native.Nat.{ℕ, _+_, _*_, _^_}
+-- CSD of structure 2 and of 3 too, and of rates that break two rules or three; beside K6 the bargain card of P6; the bound of a
+-- card's size; and P8's number of a CSD, with nothing but the two bits set or nothing but them clear, and of its refusal.
+use Prim.Native.Nat.{ℕ, _+_, _*_, _-_, _^_}
 use mathlib.Core.Bool.{true, false}
 use mathlib.Core.List.{List, [], _∷_, map}
 use mathlib.Core.Path.{_≡_, refl}
 use Rattle.types.specs.declared.card.CardCapacity.the-variants.{SDSC, SDHC}
+use Rattle.types.specs.declared.error.Error.the-variants.{WriteProtected}
 use Rattle.types.specs.Answer.{Told, told, fieldNumber, errorTold, clockTold, countTold, rateTold, addressTold, sizeTold, dataTold}
-use Rattle.types.specs.Leaf.{divisorOf, clockOf, countOf, rateOf, unitsOf, addressOf, sizeOf, firstMatch, dataOf}
+use Rattle.types.specs.Leaf.{divisorOf, clockOf, countOf, rateOf, unitsOf, addressOf, sizeOf, firstMatch, dataOf, protectionOf, protectNumber}
 
 pub record Case : Type 0 where
   pub got : Told
@@ -23,6 +24,9 @@ csd1 l size multiplier = l * 2 ^ 80 + size * 2 ^ 62 + multiplier * 2 ^ 47
 
 abbrev csd2 : ℕ → ℕ → ℕ
 csd2 l size = 2 ^ 126 + l * 2 ^ 80 + size * 2 ^ 48
+
+abbrev protect : ℕ → Told
+protect csd = told 0 (protectNumber (protectionOf csd) ∷ [])
 
 abbrev pub table : List Case
 table =
@@ -63,8 +67,14 @@ table =
     ∷ (dataTold (dataOf 0x200) due told 4 [])
     ∷ (sizeTold (sizeOf 4_294_967_296) due told 0 (2_199_023_255_552 ∷ []))
     ∷ (sizeTold (sizeOf 4_294_967_297) due told 20 [])
+    ∷ (protect 0 due told 0 (0 ∷ []))
+    ∷ (protect 0x1000 due told 0 (1 ∷ []))
+    ∷ (protect 0x2000 due told 0 (2 ∷ []))
+    ∷ (protect 0x3000 due told 0 (3 ∷ []))
+    ∷ (protect (2 ^ 128 - 1 - 0x3000) due told 0 (0 ∷ []))
+    ∷ (errorTold WriteProtected due told 26 [])
     ∷ []
 
 pub cases : map (λ (c : Case). c .got) table ≡ map (λ (c : Case). c .due) table
-unfolding fieldNumber errorTold clockTold countTold rateTold addressTold sizeTold dataTold divisorOf clockOf countOf rateOf unitsOf addressOf sizeOf firstMatch dataOf
+unfolding fieldNumber errorTold clockTold countTold rateTold addressTold sizeTold dataTold divisorOf clockOf countOf rateOf unitsOf addressOf sizeOf firstMatch dataOf protectionOf
 cases = refl

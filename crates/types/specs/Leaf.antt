@@ -9,6 +9,7 @@ use Rattle.types.specs.declared.error.Error.the-variants as E
 use Rattle.types.specs.declared.error.Field.the-variants as F
 use Rattle.types.specs.declared.clock.ClockAnswer.{ClockAnswer}
 use Rattle.types.specs.declared.clock.ClockAnswer.the-variants as Clock
+use Rattle.types.specs.declared.register.Protection.{Protection}
 use Rattle.types.specs.declared.register.CountAnswer.{CountAnswer}
 use Rattle.types.specs.declared.register.CountAnswer.the-variants as Count
 use Rattle.types.specs.declared.register.RateAnswer.{RateAnswer}
@@ -21,6 +22,7 @@ use Rattle.types.specs.declared.register.SizeAnswer.{SizeAnswer}
 use Rattle.types.specs.declared.register.SizeAnswer.the-variants as Size
 use Rattle.types.specs.declared.status.DataAnswer.{DataAnswer}
 use Rattle.types.specs.declared.status.DataAnswer.the-variants as Data
+use Rattle.types.specs.Answer.{flag}
 use Rattle.types.specs.Bits.{bits, bit, clear}
 
 -- a quotient rounded up
@@ -108,3 +110,13 @@ addressOf class blocks index count =
 -- Size. 512 * count; a count over 4,294,967,296 gives 20
 unfoldable pub sizeOf : ℕ → SizeAnswer
 sizeOf count = cond (ltb 4_294_967_296 count) (Size.Refused E.AddressOutOfRange) (Size.Bytes (512 * count))
+
+-- Write protection (P8), of a CSD: bit 13 permanent, bit 12 temporary; either stops a write; 2 if permanent plus 1 if temporary
+unfoldable pub protectionOf : ℕ → Protection
+protectionOf csd = record { permanent = bit csd 13; temporary = bit csd 12 }
+
+abbrev pub stopsWrites : Protection → Bool
+stopsWrites p = p .permanent || p .temporary
+
+abbrev pub protectNumber : Protection → ℕ
+protectNumber p = 2 * flag (p .permanent) + flag (p .temporary)

@@ -91,6 +91,18 @@ sdCapacity csd = capacityBy csd (codeIn structures (csdStructure csd))
 abbrev pub Counts : Card → Type 0
 Counts card = sdCapacity (wideOf (card .csd)) ≡ means (card .«block_count» .0 * 512)
 
+-- PERM_WRITE_PROTECT and TMP_WRITE_PROTECT, in both versions: the card is protected against writing, for good or for the time being
+abbrev pub permWriteProtect : ℕ → Bool
+permWriteProtect csd = bit csd 13
+
+abbrev pub tmpWriteProtect : ℕ → Bool
+tmpWriteProtect csd = bit csd 12
+
+-- a record's two flags are those of the CSD in it
+pub record Protects (card : Card) : Type 0 where
+  pub permanent : card .protection .permanent ≡ permWriteProtect (wideOf (card .csd))
+  pub temporary : card .protection .temporary ≡ tmpWriteProtect (wideOf (card .csd))
+
 -- TRAN_SPEED, in both versions: the unit in bits 2:0, the time value in bits 6:3, bit 7 reserved
 abbrev pub tranSpeed : ℕ → ℕ
 tranSpeed csd = bits csd 103 96

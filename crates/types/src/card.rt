@@ -4,6 +4,7 @@ ghost use Rattle.types.specs.Leaf.{addressOf, unitsOf, sizeOf};
 ghost use Rattle.types.specs.declared.card.CardCapacity.the-variants.{SDSC};
 use crate::error::Error;
 use crate::register::BlockCount;
+use crate::register::Protection;
 use crate::register::SizeAnswer;
 use crate::register::Wide;
 use crate::status::Scr;
@@ -28,6 +29,7 @@ pub struct Card {
     pub scr: Scr,
     pub status: [u32; 16],
     pub block_count: BlockCount,
+    pub protection: Protection,
 }
 
 pub enum AddressAnswer {

@@ -35,6 +35,8 @@ pub enum Error {
     InvalidConfig,
     InvalidBufferLength,
     AddressOutOfRange,
+    // The driver does not have it: a write to a card that is protected against writing.
+    WriteProtected,
 }
 
 // What a call comes to. The last three are not the driver's: the script had no word left, the row list no room, or the
@@ -65,8 +67,10 @@ impl Field {
 }
 
 impl Error {
-    pub fn number(self) -> u8
-        ensures { λ r. ⌜ r ≡ errorTold self .number ⌝ }
+    // The number of each of the driver's errors is its place among them, so a compiler needs no table. What the driver does
+    // not have has a number of its own, and here a place behind them.
+    fn place(self) -> u8
+        ensures { λ r. ⌜ ((errorTold self .number ≡ 26 → ⊥) → r ≡ errorTold self .number) ⌝ }
     {
         match self {
             Error::Timeout => 1,
@@ -89,6 +93,16 @@ impl Error {
             Error::InvalidConfig => 18,
             Error::InvalidBufferLength => 19,
             Error::AddressOutOfRange => 20,
+            Error::WriteProtected => 21,
+        }
+    }
+
+    pub fn number(self) -> u8
+        ensures { λ r. ⌜ r ≡ errorTold self .number ⌝ }
+    {
+        match self {
+            Error::WriteProtected => 26,
+            _ => self.place(),
         }
     }
 

@@ -1,8 +1,9 @@
-// The 128-bit registers of a card as two 64-bit halves, the first word on top; the capacity and the rate in its CSD.
+// The 128-bit registers of a card as two 64-bit halves, the first word on top; the capacity, the rate and
+// the write protection in its CSD.
 ghost use mathlib.Core.Path.{_≡_};
 ghost use Rattle.types.specs.Bits.{bits};
 ghost use Rattle.types.specs.Sd.{wideOf};
-ghost use Rattle.types.specs.Leaf.{countOf, rateOf, sizeOf};
+ghost use Rattle.types.specs.Leaf.{countOf, rateOf, sizeOf, protectionOf, stopsWrites, protectNumber};
 use crate::error::Error;
 use crate::error::Field;
 
@@ -14,6 +15,12 @@ pub struct Wide {
 
 // A count of blocks of 512 bytes: never a frequency, and more than 32 bits hold.
 pub struct BlockCount(pub u64);
+
+// How a card is protected against writing: for good, or for the time being.
+pub struct Protection {
+    pub permanent: bool,
+    pub temporary: bool,
+}
 
 pub enum CountAnswer {
     Blocks(BlockCount),
@@ -112,6 +119,40 @@ impl BlockCount {
             return SizeAnswer::Refused(Error::AddressOutOfRange);
         }
         SizeAnswer::Bytes(BlockCount::BLOCK * count)
+    }
+}
+
+impl Protection {
+    // Bit 13 of a CSD, PERM_WRITE_PROTECT, and bit 12, TMP_WRITE_PROTECT.
+    pub fn of(csd: Wide) -> Protection
+        ensures { λ r. ⌜ r ≡ protectionOf (wideOf csd) ⌝ }
+    {
+        let low = csd.low;
+        Protection {
+            permanent: low / 0x2000 % 2 == 1,
+            temporary: low / 0x1000 % 2 == 1,
+        }
+    }
+
+    // Whether the card is not to be written to.
+    pub fn stops_writes(self) -> bool
+        ensures { λ r. ⌜ r ≡ stopsWrites self ⌝ }
+    {
+        if self.permanent {
+            return true;
+        }
+        self.temporary
+    }
+
+    // 2 if permanent, plus 1 if temporary.
+    pub fn number(self) -> u8
+        ensures { λ r. ⌜ r ≡ protectNumber self ⌝ }
+    {
+        if self.permanent {
+            if self.temporary { 3 } else { 2 }
+        } else {
+            if self.temporary { 1 } else { 0 }
+        }
     }
 }
 

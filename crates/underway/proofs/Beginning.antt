@@ -1,9 +1,11 @@
 -- A call at its start: what is ahead of it there is its one plan.
-use Prim.Native.Nat.{ℕ, _*_, _^_, _≤_, _-_}
+use Prim.Native.Nat.{ℕ, _*_, _/_, _^_, _≤_, _-_}
 use mathlib.Core.Path.{_≡_, refl, ap, sym, _∙_}
-use mathlib.Core.Bool.{Bool}
+use mathlib.Core.Bool.{Bool, true, false, cond}
 use mathlib.Core.List.{List}
 use native.Mathlib.Omega.{arith}
+use Rattle.types.specs.declared.card.AddressAnswer.{AddressAnswer}
+use Rattle.types.specs.declared.card.AddressAnswer.the-variants as Address
 use Rattle.types.specs.declared.clock.Clock.{Clock}
 use Rattle.types.specs.declared.error.Error.{Error}
 use Rattle.types.specs.declared.error.Error.the-variants as E
@@ -17,7 +19,8 @@ use Rattle.bus.specs.Ready.{waitReady}
 use Rattle.init.specs.Initialise.{powerOn, beginInit, initCard, initialise}
 use Rattle.bus.specs.Transfer.{Buffer, incoming, outgoing}
 use Rattle.host.specs.declared.host.Sdmmc.{Sdmmc}
-use Rattle.host.specs.Calls.{freshLine}
+use Rattle.host.specs.Calls.{freshLine, blocksJudged, sends}
+use Rattle.host.proofs.Ran.{judged-good}
 use Rattle.step.specs.declared.command.Begun.the-variants as B
 use Rattle.step.specs.declared.command.Command.{Command}
 use Rattle.step.specs.declared.reset.Reset.the-variants as Re
@@ -42,14 +45,37 @@ use Rattle.stepping.specs.declared.call.Known.{Known}
 use Rattle.stepping.specs.declared.call.Site.the-variants as T
 use Rattle.stepping.specs.declared.call.Waiting.the-variants as W
 use Rattle.stepping.specs.declared.call.Writes.the-variants as R
-use Rattle.underway.specs.Whole.{initFrom, blocksFrom, statusFrom}
+use Rattle.underway.specs.Whole.{initFrom, blocksFrom, blocksAt, blocksCall, statusFrom}
 
 some-blocks : (n : ℕ) → 1 ≤ n → n ≤ 511 → blocksOf n ≡ n
 unfolding blocksOf
 some-blocks n least most = omega arith
 
-pub some-moved : (host : Sdmmc) (buffer : Buffer) (a n : ℕ) → 1 ≤ n → n ≤ 511 → blocksFrom host buffer a (blocksOf n) ≡ blocksFrom host buffer a n
-some-moved host buffer a n least most = ap (λ (n : ℕ). blocksFrom host buffer a n) (some-blocks n least most)
+-- a read or a write is judged as what it is: from there on it is the plan for that answer
+module _ (host : Sdmmc) (writes : Bool) (index bytes : ℕ) (sent : List ℕ) where
+  abbrev buffer : Buffer
+  buffer = cond writes (outgoing sent) incoming
+
+  its-way : (b : Bool) → sends (cond b (outgoing sent) incoming) ≡ b
+  its-way true = refl
+  its-way false = refl
+
+  judged-call : (a : AddressAnswer) → blocksJudged host writes index bytes ≡ a
+      → blocksAt host buffer (bytes / 512) a ≡ blocksCall host buffer index bytes
+  unfolding blocksCall
+  judged-call a e = rw (its-way writes, e)
+
+  pub moved-call : (a : ℕ) → blocksJudged host writes index bytes ≡ Address.Address a
+      → blocksFrom host buffer a (blocksOf (bytes / 512)) ≡ blocksCall host buffer index bytes
+  unfolding blocksAt
+  moved-call a e =
+      let place = judged-good host writes index bytes a e in
+      ap (λ (n : ℕ). blocksFrom host buffer a n) (some-blocks (bytes / 512) (place .some) (place .most)) ∙ judged-call (Address.Address a) e
+
+  pub refused-call : (x : Error) → blocksJudged host writes index bytes ≡ Address.Refused x
+      → keeping host (failed x) ≡ blocksCall host buffer index bytes
+  unfolding blocksAt
+  refused-call x e = judged-call (Address.Refused x) e
 
 reset-rows : resetController ≡ rowsFrom resetRows
 unfolding resetController row handle rowsFrom

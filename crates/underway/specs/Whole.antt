@@ -1,6 +1,6 @@
 -- Each call as one plan, from its first check to its end, which says how it ended: the answer, the next host, and the words that
 -- it gives. They are the plans of the host's own calls, joined; whether a refusal keeps the record is where it comes.
-use Prim.Native.Nat.{ℕ, _/_, _%_}
+use Prim.Native.Nat.{ℕ, _/_}
 use mathlib.Core.Bool.{cond, false, _||_}
 use mathlib.Core.List.{List}
 use lib.Dec.{eqb, ltb}
@@ -10,7 +10,7 @@ use Rattle.types.specs.declared.clock.Clock.{Clock}
 use Rattle.types.specs.declared.clock.ClockAnswer.{ClockAnswer}
 use Rattle.types.specs.declared.clock.ClockAnswer.the-variants as Clocked
 use Rattle.types.specs.declared.error.Error.the-variants as E
-use Rattle.types.specs.Leaf.{addressOf, clockOf}
+use Rattle.types.specs.Leaf.{clockOf}
 use Rattle.tape.specs.declared.progress.Line.{Line}
 use Rattle.tape.specs.Plan.{Nothing, Plan, failed, hold, handle}
 use Rattle.bus.specs.Command.{appCommand}
@@ -18,7 +18,7 @@ use Rattle.bus.specs.Ready.{waitReady}
 use Rattle.bus.specs.Transfer.{Buffer}
 use Rattle.init.specs.Initialise.{sourceOf, limitOf, initialise}
 use Rattle.host.specs.declared.host.Sdmmc.{Sdmmc}
-use Rattle.host.specs.Calls.{freshLine, blocksPlan, statusPlan}
+use Rattle.host.specs.Calls.{freshLine, blocksPlan, blocksJudged, sends, statusPlan}
 use Rattle.stepping.specs.Closing.{Closing, keeping, dropping, finding, accepting, blocksHost, statusHost}
 
 module _ (host : Sdmmc) where
@@ -51,15 +51,9 @@ module _ (host : Sdmmc) where
   blocksAt buffer blocks (Address.Refused e) = keeping host (failed e)
   blocksAt buffer blocks (Address.Address a) = blocksFrom buffer a blocks
 
-  -- 16; 19 for a byte length not a multiple of 512, for 0 blocks or over 511; 20
-  unfoldable pub blocksKnown : Buffer → ℕ → ℕ → Plan Closing
-  blocksKnown buffer index bytes =
-      cond (eqb (bytes % 512) 0)
-      (blocksAt buffer (bytes / 512) (addressOf (host .card .«card_type») (host .card .«block_count» .0) index (bytes / 512)))
-      (keeping host (failed E.InvalidBufferLength))
-
+  -- judged as the host's own
   unfoldable pub blocksCall : Buffer → ℕ → ℕ → Plan Closing
-  blocksCall buffer index bytes = cond (host .known) (blocksKnown buffer index bytes) (keeping host (failed E.NoCard))
+  blocksCall buffer index bytes = blocksAt buffer (bytes / 512) (blocksJudged host (sends buffer) index bytes)
 
   -- 16; CMD55, and the data phase
   abbrev pub statusFrom : Plan Closing

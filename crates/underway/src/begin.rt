@@ -11,7 +11,7 @@ ghost use Rattle.step.specs.Next.{next, Lent};
 ghost use Rattle.step.specs.Transfer.{blocksOf};
 ghost use Rattle.stepping.specs.Ahead.{atPlan, siteOf};
 ghost use Rattle.underway.specs.Under.{under};
-ghost use Rattle.underway.specs.Whole.{initCall, blocksFrom, blocksKnown, blocksCall, statusCall};
+ghost use Rattle.underway.specs.Whole.{initCall, blocksFrom, blocksCall, statusCall};
 ghost use Rattle.underway.specs.First.{firstPlan, askedBy, lineBy};
 use crate::call::Call;
 use bus::response::Response;
@@ -32,7 +32,6 @@ use stepping::call::Waiting;
 use stepping::call::Writes;
 use tape::progress::Line;
 use types::card::AddressAnswer;
-use types::card::block_address;
 use types::clock::Clock;
 use types::clock::ClockAnswer;
 use types::clock::Hertz;
@@ -79,30 +78,14 @@ fn moves(sends: bool, address: u32, blocks: u16) -> First
     }
 }
 
-fn known_first(host: Sdmmc, sends: bool, index: u32, bytes: usize) -> First
-    ensures { λ r. ⌜ ((sent : List ℕ) → firstPlan host sent r ≡ blocksKnown host (cond sends (outgoing sent) incoming) index bytes) ⌝ }
-{
-    let card = host.card;
-    let class = card.card_type;
-    let count = card.block_count;
-    if bytes % 512 != 0 {
-        return First::Refused(Error::InvalidBufferLength);
-    }
-    let blocks = bytes / 512;
-    let answer = block_address(class, count, index, blocks);
-    match answer {
-        AddressAnswer::Address(address) => moves(sends, address, blocks as u16),
-        AddressAnswer::Refused(error) => First::Refused(error),
-    }
-}
-
+// A read or a write, judged as the host on a script judges it.
 fn blocks_first(host: Sdmmc, sends: bool, index: u32, bytes: usize) -> First
     ensures { λ r. ⌜ ((sent : List ℕ) → firstPlan host sent r ≡ blocksCall host (cond sends (outgoing sent) incoming) index bytes) ⌝ }
 {
-    if host.known {
-        known_first(host, sends, index, bytes)
-    } else {
-        First::Refused(Error::NoCard)
+    let answer = host.judged(sends, index, bytes);
+    match answer {
+        AddressAnswer::Address(address) => moves(sends, address, (bytes / 512) as u16),
+        AddressAnswer::Refused(error) => First::Refused(error),
     }
 }
 

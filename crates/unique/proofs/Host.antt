@@ -22,6 +22,9 @@ host-sdmmc-blocking-init-card = determined _ λ _ _ _ p. by-words (p .1) (p .0)
 host-sdmmc-blocking-read-sd-status : Unique host.Sdmmc.blocking_read_sd_status.Kinds.ps host.Sdmmc.blocking_read_sd_status.Kinds.r host.Sdmmc.blocking_read_sd_status.Reads.Learnt
 host-sdmmc-blocking-read-sd-status = determined _ λ _ _ _ p. by-words (p .1) (p .0)
 
+host-sdmmc-judged : Unique host.Sdmmc.judged.Kinds.ps host.Sdmmc.judged.Kinds.r host.Sdmmc.judged.Reads.Learnt
+host-sdmmc-judged = determined _ λ _ _ _ p. p
+
 host-sdmmc-blocking-read-blocks : Unique host.Sdmmc.blocking_read_blocks.Kinds.ps host.Sdmmc.blocking_read_blocks.Kinds.r host.Sdmmc.blocking_read_blocks.Reads.Learnt
 host-sdmmc-blocking-read-blocks = determined _ λ _ _ _ p. by-words (p .1 .0) (λ i. (p .1 .1 i, p .0 i))
 

@@ -48,6 +48,15 @@ register-wide-transfer-rate = determined _ λ _ _ _ p. p
 register-blockcount-bytes : Unique register.BlockCount.bytes.Kinds.ps register.BlockCount.bytes.Kinds.r register.BlockCount.bytes.Reads.Learnt
 register-blockcount-bytes = determined _ λ _ _ _ p. p
 
+register-protection-of : Unique register.Protection.of.Kinds.ps register.Protection.of.Kinds.r register.Protection.of.Reads.Learnt
+register-protection-of = determined _ λ _ _ _ p. p
+
+register-protection-stops-writes : Unique register.Protection.stops_writes.Kinds.ps register.Protection.stops_writes.Kinds.r register.Protection.stops_writes.Reads.Learnt
+register-protection-stops-writes = determined _ λ _ _ _ p. p
+
+register-protection-number : Unique register.Protection.number.Kinds.ps register.Protection.number.Kinds.r register.Protection.number.Reads.Learnt
+register-protection-number = determined _ λ _ _ _ p. p
+
 register-block-count : Unique register.block_count.Kinds.ps register.block_count.Kinds.r register.block_count.Reads.Learnt
 register-block-count = determined _ λ _ _ _ p. p
 

@@ -76,6 +76,10 @@ fn print_line(out: &mut Vec<u8>, number: u64, outcome: &Outcome) {
     decimal(out, outcome.words_used as u64);
     out.extend(b" rows ");
     decimal(out, outcome.rows.len() as u64);
+    if let Some(protection) = outcome.protection {
+        out.extend(b" protect ");
+        decimal(out, protection.number());
+    }
     out.push(b'\n');
 }
 
@@ -173,7 +177,7 @@ fn print_state(out: &mut Vec<u8>, state: &State) {
     out.push(b'\n');
 }
 
-/// Class, OCR, RCA, CID, CSD, SCR, status, blocks.
+/// Class, OCR, RCA, CID, CSD, SCR, status, blocks, write protection.
 fn print_record(out: &mut Vec<u8>, record: &Record) {
     out.extend(if record.high_capacity { b"SDHC," } else { b"SDSC," });
     hexadecimal(out, record.ocr, 8);
@@ -189,6 +193,8 @@ fn print_record(out: &mut Vec<u8>, record: &Record) {
     print_status(out, &record.status);
     out.push(b',');
     decimal(out, record.blocks);
+    out.extend(b",protect=");
+    decimal(out, record.protection.number());
 }
 
 fn print_status(out: &mut Vec<u8>, words: &[u32; 16]) {

@@ -42,7 +42,7 @@ fn waits_long(index: u32, argument: u32) -> Vec<(u32, u32)> {
 fn record(status: &str) -> String {
     let cid = "00000001000000020000000300000004";
     let csd = "40000032000900000001000000000000";
-    format!("SDHC,c0300000,1234,{cid},{csd},0005000000000000,{status},2048")
+    format!("SDHC,c0300000,1234,{cid},{csd},0005000000000000,{status},2048,protect=0")
 }
 
 /// The record of a card whose status was not read yet.
@@ -83,7 +83,7 @@ fn a_good_card_is_initialised() {
     ]
     .concat();
     let head = "host answer 0\nstate clock=400000 signalling=SDR12 gated=0 clkcr=0 record=none\n";
-    let line = format!("1 answer 0 words 100 rows {}\n", expected.len());
+    let line = format!("1 answer 0 words 100 rows {} protect 0\n", expected.len());
     let state = after(&known());
     assert_eq!(text, format!("{head}{line}{}{state}", rows(&expected)));
 }

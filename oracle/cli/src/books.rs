@@ -3,7 +3,8 @@
 use std::io::{self, BufReader, BufWriter, Read, Write};
 
 use oracle_bench_book::{pile, MOST_ROOM};
-use oracle_model::{aside, generate};
+use oracle_model::aside::{self, Aside};
+use oracle_model::generate;
 
 use crate::written;
 
@@ -39,11 +40,11 @@ pub fn each(room: Option<&str>, print: fn(&[u8], usize, &mut Vec<u8>)) -> Result
 /// Prints in how many calls of a pile, each with this room, the Rust is not asked.
 pub fn aside(room: Option<&str>) -> Result<(), String> {
     let room = room_of(room)?;
-    let mut calls = 0;
+    let mut aside = Aside::default();
     for book in pile::books(input()) {
-        calls += aside::calls(&book.map_err(|error| format!("oracle: {error}"))?, room);
+        aside += aside::of_book(&book.map_err(|error| format!("oracle: {error}"))?, room);
     }
-    written(writeln!(io::stdout(), "{calls}"))
+    written(writeln!(io::stdout(), "{aside}"))
 }
 
 fn input() -> impl Read {

@@ -19,8 +19,9 @@ oracle events [ROOM] < PILE   the Rust's readings and rows of each book, in thei
 oracle book < BOOK            the lines of one book
 oracle leaves SEED COUNT      inputs of the plain functions with the Rust's answers
                               of these four, what the Rust is not asked (about a CSD of version 1 with another block
-                              length than 9, which the documents refuse) is the documents', without the field
-oracle aside [ROOM] < PILE    in how many calls of a pile the Rust is not asked
+                              length than 9, and about a write to a protected card, which the documents refuse) is
+                              the documents', without the field
+oracle aside [ROOM] < PILE    in how many calls of a pile the Rust is not asked, and why
 oracle leaves-aside SEED COUNT
                               about how many inputs of the plain functions it is not
 oracle paper-trace [ROOM] < PILE

@@ -3,7 +3,8 @@
 
 use oracle_bench_book::{events, trace, MOST_ROOM};
 use oracle_driver::Host;
-use oracle_model::{aside, generate, leaves, rng::Rng, settings};
+use oracle_model::aside::{self, Aside};
+use oracle_model::{generate, leaves, rng::Rng, settings};
 use oracle_paper as paper;
 use oracle_paper::asked;
 use oracle_paper::telling::without_fields;
@@ -21,14 +22,14 @@ pub fn paper(seed: u64, count: u64) -> Result<(), String> {
     let (inputs, aside) = on_leaves(seed, count)?;
     println!(
         "the Rust and the documents agree on {count} books, each with two rooms, and on {inputs} leaf inputs; \
-         the Rust was not asked in {calls} calls and about {aside} inputs"
+         the Rust was not asked in {calls} and about {aside} inputs"
     );
     Ok(())
 }
 
-/// The number of calls in which the Rust was not asked.
-fn on_books(seed: u64, count: u64) -> Result<u64, String> {
-    let mut aside = 0;
+/// The calls in which the Rust was not asked.
+fn on_books(seed: u64, count: u64) -> Result<Aside, String> {
+    let mut aside = Aside::default();
     for k in 1..=count {
         let book = generate::book(seed, k);
         let little = settings::little_room(&mut Rng::nth(!seed, k));
@@ -38,7 +39,7 @@ fn on_books(seed: u64, count: u64) -> Result<u64, String> {
                     "oracle: they differ on book {k} of seed {seed} with room {room}"
                 ));
             }
-            aside += aside::calls(&book, room);
+            aside += aside::of_book(&book, room);
         }
     }
     Ok(aside)

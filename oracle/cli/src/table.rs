@@ -5,10 +5,12 @@ use std::fmt::Debug;
 use std::io::{self, Write};
 
 use oracle_bench_book::Fault;
+use oracle_driver::host::WRITE_PROTECTED;
 use oracle_model::arms::Arm;
 use oracle_model::coverage::Coverage;
 use oracle_model::expected::{self, Site};
 use oracle_model::generate;
+use oracle_model::protection;
 use oracle_model::rng::Rng;
 
 use crate::written;
@@ -45,6 +47,7 @@ fn unexpected(coverage: &Coverage) -> Vec<String> {
         strange(&coverage.ended, &expected::ends()),
         strange(&coverage.closings, &KINDS.map(expected::closings).concat()),
         strange(&coverage.calls, &answers()),
+        strange(&coverage.protection, &protection::all()),
     ]
     .concat()
 }
@@ -95,6 +98,7 @@ impl Table {
         self.answers(coverage);
         self.making(coverage);
         self.accepted(coverage);
+        self.protection(coverage);
         self.commands(coverage);
         self.data_phases(coverage);
         self.own_causes(coverage);
@@ -114,7 +118,7 @@ impl Table {
         self.line("\ncalls by kind and answer (18, 23 and 17 of a host stand below)");
         self.kinds("answer");
         let can = answers();
-        for answer in 0..=21 {
+        for answer in 0..=WRITE_PROTECTED {
             if !KINDS.iter().any(|kind| can.contains(&(*kind, answer))) {
                 continue;
             }
@@ -214,6 +218,14 @@ impl Table {
         for body in expected::BODIES {
             let count = self.cell(&coverage.bodies, body);
             self.line(&format!("{count:8} {body}"));
+        }
+    }
+
+    fn protection(&mut self, coverage: &Coverage) {
+        self.line("\nwrite protection (2 if permanent plus 1 if temporary)");
+        for (what, number) in protection::all() {
+            let count = self.cell(&coverage.protection, (what, number));
+            self.line(&format!("{count:8} protect {number}: {what}"));
         }
     }
 

@@ -72,6 +72,9 @@ impl<D: AsRef<[Block]>> CallOf<D> {
 /// UnsupportedCardType, the one answer with a field.
 pub const UNSUPPORTED: u8 = 13;
 
+/// Request P8's answer, which the driver does not have.
+pub const WRITE_PROTECTED: u8 = 26;
+
 /// The numbers of answers that lie outside the driver.
 pub const SCRIPT_ENDED: u8 = 21;
 pub const TRACE_FULL: u8 = 22;
@@ -92,10 +95,30 @@ pub struct Outcome {
     pub status: Option<[u32; 16]>,
     /// The bytes of an accepted read, else none.
     pub blocks: Vec<u8>,
+    /// Of an accepted initialisation.
+    pub protection: Option<Protection>,
     /// The script, or what a live card gave.
     pub script: Vec<u32>,
     /// Only of a watched call.
     pub events: Vec<Event>,
+}
+
+/// What a card's CSD says about writing to it.
+#[derive(Clone, Copy, Debug, Default, Eq, PartialEq)]
+pub struct Protection {
+    pub permanent: bool,
+    pub temporary: bool,
+}
+
+impl Protection {
+    pub fn any(self) -> bool {
+        self.permanent || self.temporary
+    }
+
+    /// As lines and states have it.
+    pub fn number(self) -> u8 {
+        2 * u8::from(self.permanent) + u8::from(self.temporary)
+    }
 }
 
 #[derive(Clone, Copy, Debug, Eq, PartialEq)]
@@ -108,6 +131,7 @@ pub struct Record {
     pub scr: u64,
     pub status: [u32; 16],
     pub blocks: u64,
+    pub protection: Protection,
 }
 
 #[derive(Clone, Copy, Debug, Eq, PartialEq)]

@@ -10,7 +10,7 @@ use super::{types, Card, Config, DataBlock, Error, Sdmmc, Signalling};
 use crate::bench::{self, Feed, Registers, Stop, FIFO};
 use crate::dma::AnyChannel;
 use crate::gpio::AnyPin;
-use crate::host::{self, Block, Call, Outcome, Record, Settings, State};
+use crate::host::{self, Block, Call, Outcome, Protection, Record, Settings, State};
 use crate::interrupt::Nobody;
 use crate::time::Hertz;
 use crate::{peripherals, wrong, Peri};
@@ -72,6 +72,7 @@ impl host::Host for Host {
             rows: kept.rows,
             status: None,
             blocks: Vec::new(),
+            protection: None,
             script: kept.words,
             events: kept.events,
         };
@@ -79,6 +80,7 @@ impl host::Host for Host {
             Ok(Ok((status, blocks))) => {
                 outcome.status = status;
                 outcome.blocks = blocks;
+                outcome.protection = self.taken(call);
             }
             Ok(Err(error)) => (outcome.answer, outcome.carried) = number(error),
             Err(payload) => {
@@ -104,6 +106,7 @@ impl host::Host for Host {
             scr: card.scr.0,
             status: card.status.inner,
             blocks: card.block_count,
+            protection: protection(card.csd),
         });
         State {
             clock: self.driver.clock().0,
@@ -160,6 +163,14 @@ impl Host {
             Call::Read { index, .. } => self.driver.blocking_read_blocks(index, blocks).is_ok(),
             Call::Status => self.driver.blocking_read_sd_status().is_ok(),
             Call::Write { index, .. } => self.driver.blocking_write_blocks(index, blocks).is_ok(),
+        }
+    }
+
+    /// What an accepted call says of the card, if it took one.
+    fn taken(&self, call: Call<'_>) -> Option<Protection> {
+        match call {
+            Call::Initialise { .. } => self.driver.card().ok().map(|card| protection(card.csd)),
+            _ => None,
         }
     }
 
@@ -252,6 +263,14 @@ fn counted_wrongly(call: Call<'_>) -> usize {
     match wrong::is(wrong::WRITE_COUNTS_DATA) {
         true => call.data().len(),
         false => 0,
+    }
+}
+
+/// The driver does not look at these two bits; they are told from the CSD that its record holds.
+fn protection(csd: CSD) -> Protection {
+    Protection {
+        permanent: csd.0 >> 13 & 1 == 1,
+        temporary: csd.0 >> 12 & 1 == 1,
     }
 }
 

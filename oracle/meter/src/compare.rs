@@ -2,7 +2,8 @@
 
 use oracle_bench_book::{lines, MOST_ROOM};
 use oracle_driver::Host;
-use oracle_model::{aside, generate};
+use oracle_model::aside::{self, Aside};
+use oracle_model::generate;
 use oracle_paper as paper;
 use oracle_paper::asked;
 use oracle_paper::telling::without_fields;
@@ -13,7 +14,7 @@ use crate::proved;
 /// the Rust's, where it is asked, but for the fields, which the Rust does not have.
 pub fn compare(seed: u64, count: u64) -> bool {
     let mut out = vec![0; 4_096];
-    let (mut printed, mut aside) = (0, 0);
+    let (mut printed, mut aside) = (0, Aside::default());
     for k in 0..count {
         let book = generate::book(seed, k);
         let (rust, due) = (text::<asked::Host>(&book), text::<paper::Host>(&book));
@@ -26,9 +27,9 @@ pub fn compare(seed: u64, count: u64) -> bool {
             return false;
         }
         printed += due.iter().filter(|byte| **byte == b'\n').count();
-        aside += aside::calls(&book, MOST_ROOM);
+        aside += aside::of_book(&book, MOST_ROOM);
     }
-    println!("seed {seed}: {count} books, {printed} lines equal; the Rust was not asked in {aside} calls");
+    println!("seed {seed}: {count} books, {printed} lines equal; the Rust was not asked in {aside}");
     true
 }
 

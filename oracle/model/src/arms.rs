@@ -1,6 +1,7 @@
 //! Names the arm that refused a call: the step and the cause.
 
 use oracle_driver::bench::{Event, Reading};
+use oracle_driver::host::WRITE_PROTECTED;
 use oracle_driver::{Call, Outcome};
 
 use crate::coverage::kind;
@@ -9,13 +10,14 @@ use crate::walk::{Place, Walk};
 /// Step and cause, as the coverage table has them.
 pub type Arm = (&'static str, &'static str);
 
-/// The arm of a call that a reading or a setting refused (1 to 20). `again`
+/// The arm of a call that a reading, a setting or the record refused (1 to 20, 26). `again`
 /// runs the same call from the same host on another script.
 pub fn refused(call: Call<'_>, outcome: &Outcome, again: impl Fn(&[u32]) -> Vec<Event>) -> Arm {
     match (outcome.answer, call) {
         (16, _) => return (kind(call), "no card"),
         (19, _) => return (kind(call), "no blocks"),
         (20, _) => return (kind(call), "past the card"),
+        (WRITE_PROTECTED, _) => return (kind(call), "write protected"),
         (17, Call::Initialise { frequency: 0 }) => return ("initialise", "asked for 0 Hz"),
         (17, _) if outcome.rows.is_empty() => return ("initialise", "asked for over 50 MHz"),
         _ => {}
@@ -166,7 +168,7 @@ fn rate(top: u32) -> &'static str {
 }
 
 /// A word of the last answer to a command.
-fn word_of(outcome: &Outcome, index: u32, place: u8) -> u32 {
+pub fn word_of(outcome: &Outcome, index: u32, place: u8) -> u32 {
     let mut command = 0;
     let mut answer = 0;
     for event in &outcome.events {
@@ -180,7 +182,7 @@ fn word_of(outcome: &Outcome, index: u32, place: u8) -> u32 {
 }
 
 /// How often a command was sent.
-fn sent(outcome: &Outcome, index: u32) -> usize {
+pub fn sent(outcome: &Outcome, index: u32) -> usize {
     let sent = |row: &&(u32, u32)| row.0 == 4 && row.1 & 0x3f == index;
     outcome.rows.iter().filter(sent).count()
 }

@@ -184,6 +184,12 @@ impl Card {
     pub fn change_scr(&mut self, scr: u64) {
         self.scr = scr;
     }
+
+    /// The same card, which may be protected otherwise. A host that has taken it is not
+    /// told before it takes it again.
+    pub fn change_protection(&mut self, rng: &mut Rng) {
+        self.csd = self.csd & !PROTECTION | protection(rng);
+    }
 }
 
 fn words(bits: u128) -> Reply {
@@ -205,10 +211,21 @@ fn rate(rng: &mut Rng) -> u128 {
     u128::from(byte) << 96
 }
 
-/// Noise outside the fields that count: version, rate, block length and those of the
-/// size.
+/// Write protection, and noise outside the fields that count: it, version, rate, block
+/// length and those of the size.
 fn csd_noise(rng: &mut Rng, size: u128) -> u128 {
-    rng.wide() & !(3 << 126 | 0xff << 96 | 15 << 80 | size)
+    rng.wide() & !(3 << 126 | 0xff << 96 | 15 << 80 | PROTECTION | size) | protection(rng)
+}
+
+/// Permanent and temporary write protection in a CSD.
+const PROTECTION: u128 = 3 << 12;
+
+/// Most cards can be written to; the others have one flag, the other, or both.
+fn protection(rng: &mut Rng) -> u128 {
+    match rng.below(16) {
+        flags @ 1..=3 => u128::from(flags) << 12,
+        _ => 0,
+    }
 }
 
 fn csd_standard(rng: &mut Rng) -> u128 {

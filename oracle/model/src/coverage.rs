@@ -5,14 +5,15 @@ use std::collections::BTreeMap;
 use oracle_bench_book::book::{BLOCK, ENTRY, HEAD, MOST_BLOCKS};
 use oracle_bench_book::{Book, Entry, Fault, MOST_ROOM};
 use oracle_driver::bench::{Event, Feed};
-use oracle_driver::host::{SCRIPT_ENDED, TRACE_FULL, UNSUPPORTED};
-use oracle_driver::{Block, Call, Host as _, Outcome, Settings, State};
+use oracle_driver::host::{SCRIPT_ENDED, TRACE_FULL, UNSUPPORTED, WRITE_PROTECTED};
+use oracle_driver::{Block, Call, Host as _, Outcome, Record, Settings, State};
 use oracle_paper as paper;
 use oracle_paper::asked::Host;
 
 use crate::arms::{self, Arm};
 use crate::closing;
 use crate::expected;
+use crate::protection::{Cards, Met};
 use crate::rng::Rng;
 
 /// Above 32 GiB a card of high capacity is called SDXC.
@@ -47,6 +48,8 @@ pub struct Coverage {
     pub shortages: BTreeMap<&'static str, u64>,
     /// Whether the data of over 16 blocks is there.
     pub too_many: BTreeMap<&'static str, u64>,
+    /// What calls meet on protected cards, and around them.
+    pub protection: BTreeMap<Met, u64>,
     pub arms: BTreeMap<Arm, u64>,
     /// The steps in which scripts ended.
     pub ended: BTreeMap<Arm, u64>,
@@ -106,6 +109,7 @@ impl Coverage {
         let mut document = paper::Host::make(&book.settings).expect("the documents have this host too");
         let mut far = false;
         let mut written = BTreeMap::new();
+        let mut cards = Cards::default();
         for entry in &book.entries {
             let call = entry.call.lent();
             let (before, stood) = (host.snapshot(), host.state());
@@ -116,6 +120,13 @@ impl Coverage {
             assert!(sends_its_data(call, &outcome), "a write sends its data behind DCTRL");
             let wrote = outcome.answer == 0 && matches!(call, Call::Write { .. });
             assert!(!wrote || state == stood, "an accepted write leaves the host as it was");
+            assert!(flags_are_the_csds(&state), "the flags of a record are those of its CSD");
+            let stopped = outcome.answer == WRITE_PROTECTED;
+            assert!(
+                stopped == may_not(call, &stood),
+                "26 comes at a write to a protected card, and nowhere else"
+            );
+            let untouched = outcome.rows.is_empty() && outcome.words_used == 0 && state == stood;
             let initialised = outcome.answer == 0 && matches!(call, Call::Initialise { .. });
             far |= initialised;
             if initialised {
@@ -134,10 +145,13 @@ impl Coverage {
             self.little_room(call, &outcome, &mut again, rng);
             self.closing_rows(call, &outcome, &mut again, rng);
             let again = std::cell::RefCell::new(again);
-            self.call(call, &outcome, told.field, |script| {
+            self.call(call, &outcome, told.field, untouched, |script| {
                 (again.borrow_mut())(script, MOST_ROOM).events
             });
             self.blocks(call, &outcome, &state, &mut written);
+            for met in cards.meet(call, &outcome, &stood, &state) {
+                count(&mut self.protection, met);
+            }
             self.body(entry);
         }
         far
@@ -193,7 +207,14 @@ impl Coverage {
         count(&mut self.bodies, body);
     }
 
-    fn call(&mut self, call: Call<'_>, outcome: &Outcome, field: Option<u8>, again: impl Fn(&[u32]) -> Vec<Event>) {
+    fn call(
+        &mut self,
+        call: Call<'_>,
+        outcome: &Outcome,
+        field: Option<u8>,
+        untouched: bool,
+        again: impl Fn(&[u32]) -> Vec<Event>,
+    ) {
         count(&mut self.calls, (kind(call), outcome.answer));
         let unsupported = outcome.answer == UNSUPPORTED;
         assert!(
@@ -210,8 +231,12 @@ impl Coverage {
             }
             _ => {
                 let (site, cause) = arms::refused(call, outcome, again);
-                let rightly = field == expected::field((site, cause));
-                count(&mut self.arms, (site, if rightly { cause } else { "another field" }));
+                let cause = match cause {
+                    _ if field != expected::field((site, cause)) => "another field",
+                    _ if expected::untouched(site) && !untouched => "not as before",
+                    _ => cause,
+                };
+                count(&mut self.arms, (site, cause));
             }
         }
     }
@@ -299,6 +324,18 @@ fn sends_its_data(call: Call<'_>, outcome: &Outcome) -> bool {
         }
         None => sent == 0,
     }
+}
+
+/// Whether this call is a write to a card that its record says is protected.
+fn may_not(call: Call<'_>, stood: &State) -> bool {
+    let protected = stood.record.is_some_and(|record| record.protection.any());
+    protected && matches!(call, Call::Write { .. })
+}
+
+/// 2 is bit 13 and 1 is bit 12, so the number of the flags is these bits of the CSD.
+fn flags_are_the_csds(state: &State) -> bool {
+    let agree = |record: &Record| u128::from(record.protection.number()) == record.csd >> 12 & 3;
+    state.record.as_ref().is_none_or(agree)
 }
 
 /// Blocks and words of body of each write in the contents of a book.

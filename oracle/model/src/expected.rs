@@ -1,5 +1,7 @@
-//! Every arm that document 01 has, every step in which a script can end and every
+//! Every arm that the documents have, every step in which a script can end and every
 //! closing row, so that one never reached shows.
+
+use oracle_driver::host::WRITE_PROTECTED;
 
 use crate::arms::Arm;
 use crate::closing::SHAPES;
@@ -176,7 +178,7 @@ pub const SITES: &[Site] = &[
     data("CMD18", &[]),
     r1("CMD12", &[]),
     r1("CMD13 after CMD12", &["attempts"]),
-    cause("write", &["no card", "no blocks", "past the card"]),
+    cause("write", &["no card", "write protected", "no blocks", "past the card"]),
     r1("CMD13 before a write", &["attempts"]),
     data("CMD24", &[]),
     r1("CMD13 after CMD24", &["attempts"]),
@@ -212,6 +214,12 @@ pub fn field((_, cause): Arm) -> Option<u8> {
         _ if cause.starts_with("not taken") => Some(8),
         _ => None,
     }
+}
+
+/// Whether what is refused at this place is refused before anything is done: the refusal
+/// table has the host as before, no row and no word used.
+pub fn untouched(site: &str) -> bool {
+    matches!(site, "initialise" | "read" | "write" | "status")
 }
 
 /// Whether a script can end in this step of the data phase. The SCR has two words,
@@ -256,7 +264,8 @@ pub fn answers(kind: &str) -> Vec<u8> {
     match kind {
         "initialise" => (0..=15).chain([17, 21]).collect(),
         "status" => (0..=11).chain([13, 16, 21]).collect(),
-        // A read and a write.
+        "write" => (0..=11).chain([16, 19, 20, 21, WRITE_PROTECTED]).collect(),
+        // A read.
         _ => (0..=11).chain([16, 19, 20, 21]).collect(),
     }
 }

@@ -5,6 +5,7 @@ use std::rc::Rc;
 
 use oracle_bench_book::book::{self, Book, Entry};
 use oracle_driver::bench::{Event, Feed, Reading};
+use oracle_driver::host::WRITE_PROTECTED;
 use oracle_driver::right::Snapshot;
 use oracle_driver::{Call, Host as _, KeptCall, Outcome, Settings};
 use oracle_paper::asked;
@@ -194,8 +195,8 @@ impl Maker {
             let before = self.host.snapshot();
             let whole = self.live(call, None);
             self.host.restore(&before);
-            let places = self.places(&whole.events);
-            let length = self.rng.pick(&places);
+            // A write that is stopped reads nothing, wherever its script ends.
+            let length = self.place(&whole.events).unwrap_or(whole.script.len());
             if !self.serve(call, &whole.script[..length]) {
                 break;
             }
@@ -229,6 +230,15 @@ impl Maker {
         places
     }
 
+    /// One of these lengths, if there is any.
+    fn place(&mut self, events: &[Event]) -> Option<usize> {
+        let places = self.places(events);
+        match places.is_empty() {
+            true => None,
+            false => Some(self.rng.pick(&places)),
+        }
+    }
+
     /// False if the call finds no place in the book any more.
     fn keep(&mut self, call: Call<'_>, script: Vec<u32>) -> bool {
         let call = call.kept();
@@ -249,6 +259,7 @@ impl Maker {
         match self.rng.below(cases) {
             0 => player.card = Card::any(&mut self.rng),
             1 => player.card.change_scr(card::scr(&mut self.rng)),
+            2 => player.card.change_protection(&mut self.rng),
             _ => {}
         }
         player.card.contents = self.rng.draw();
@@ -258,8 +269,13 @@ impl Maker {
     fn live(&mut self, call: Call<'_>, spoil_at: Option<usize>) -> Outcome {
         self.player.borrow_mut().begin();
         self.player.borrow_mut().spoil_at = spoil_at;
+        let card = self.player.borrow().card.clone();
         let seat = Seat(Rc::clone(&self.player));
         let outcome = self.host.call(call, Feed::Live(Box::new(seat)), ENDLESS, true);
+        if outcome.answer == WRITE_PROTECTED {
+            // The words for the script came from the Rust's writing; nothing was written.
+            self.player.borrow_mut().card = card;
+        }
         self.written = match call {
             Call::Write { index, data } if outcome.answer == 0 => Some((index, data.len())),
             _ => None,
@@ -293,11 +309,7 @@ impl Maker {
                 self.again(call, &before, words)
             }
             _ => {
-                let places = self.places(&natural.events);
-                let length = match places.is_empty() {
-                    true => 0,
-                    false => self.rng.pick(&places),
-                };
+                let length = self.place(&natural.events).unwrap_or(0);
                 self.again(call, &before, natural.script[..length].to_vec())
             }
         }
@@ -312,13 +324,15 @@ impl Maker {
 
     /// The number of one reading of a call; seldom one of the many words that
     /// decide nothing (short answers after their first word, data of blocks), and
-    /// more often a status of a data poll, which can be wrong in many ways.
+    /// more often a status of a data poll, or the first word of an answer, which can
+    /// be wrong in many ways.
     fn reading(&mut self, events: &[Event]) -> Option<usize> {
         let mut worth = Vec::new();
         let mut previous = None;
         for (at, reading) in events.iter().filter_map(taken).enumerate() {
             let times = match (previous.replace(reading), reading) {
                 (Some(Reading::Dma | Reading::Response(3)), Reading::Status) => 4,
+                (_, Reading::Response(0)) => 2,
                 (_, Reading::Response(1..)) => usize::from(self.rng.one_in(8)),
                 (_, Reading::Data(8..)) => usize::from(self.rng.one_in(256)),
                 _ => 1,

@@ -11,6 +11,7 @@ pub mod expected;
 pub mod generate;
 pub mod leaves;
 pub mod player;
+pub mod protection;
 pub mod rng;
 pub mod sample;
 pub mod settings;

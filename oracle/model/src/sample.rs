@@ -24,6 +24,7 @@ fn reached(book: &[u8], rng: &mut Rng) -> BTreeSet<String> {
     all.extend(coverage.bodies.keys().map(|key| format!("body {key:?}")));
     all.extend(coverage.shortages.keys().map(|key| format!("shortage {key:?}")));
     all.extend(coverage.too_many.keys().map(|key| format!("too many {key:?}")));
+    all.extend(coverage.protection.keys().map(|key| format!("protection {key:?}")));
     all.extend(coverage.arms.keys().map(|key| format!("arm {key:?}")));
     all.extend(coverage.ended.keys().map(|key| format!("ended {key:?}")));
     all.extend(closings(book, LITTLE).iter().map(|key| format!("closing {key:?}")));

@@ -17,6 +17,12 @@ const TWO_SENT: u64 = 272;
 /// Rows up to DCTRL of a write before which the card was not ready ten times.
 const ARMED: u64 = 76;
 
+/// Rows of a ready wait in which the card was not ready eleven times and is pulled out once it was asked again.
+const PULLED: u64 = 70;
+
+/// Rows for each time that a card is not ready.
+const UNREADY: u64 = 6;
+
 #[test]
 fn closing_rows_of_every_shape_are_without_room_somewhere() {
     let mut met = BTreeSet::new();
@@ -24,6 +30,7 @@ fn closing_rows_of_every_shape_are_without_room_somewhere() {
         let book = generate::book(1, k);
         met.extend(closings(&book, (LEAST + k % 50) as usize));
         met.extend(closings(&book, (SENT + k % 50) as usize));
+        met.extend(closings(&book, (PULLED + UNREADY * (k % 8)) as usize));
     }
     let shapes: BTreeSet<_> = met.iter().map(|(kind, shape, _)| (*kind, *shape)).collect();
     for (kind, shape, _) in ["initialise", "read", "write", "status"]
@@ -46,8 +53,7 @@ fn each_kind_of_row_that_sends_is_without_room_somewhere() {
     let mut met = BTreeSet::new();
     for k in 1..=8_000 {
         let book = generate::book(1, k);
-        // A card that is not ready makes the ready wait before longer, by six rows each time.
-        let longer = 6 * (k % 8);
+        let longer = UNREADY * (k % 8);
         for room in [ARMED - 1, ARMED, SENT - 1, TWO_SENT - 1] {
             met.extend(sendings(&book, (room + longer) as usize));
         }

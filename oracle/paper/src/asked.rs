@@ -1,7 +1,8 @@
-//! The Rust where it is asked. Request P6 refuses CSDs that the Rust takes, so about
-//! these it is not asked: such a call gives what the documents' host gives, without the
-//! field, and leaves the Rust where a refused initialisation leaves a host. All other
-//! calls are the Rust's own, those behind such a one too.
+//! The Rust where it is asked. Request P6 refuses CSDs that the Rust takes, and request
+//! P8 writes that it makes, so about these it is not asked: such a call gives what the
+//! documents' host gives, without the field, and leaves the Rust where the documents have
+//! it, as a host made anew or as it was. All other calls are the Rust's own, those behind
+//! such a one too.
 
 use std::marker::PhantomData;
 
@@ -9,6 +10,7 @@ use oracle_driver::bench::Feed;
 use oracle_driver::host::{self, Call, Host as _, Outcome, Settings, State, TRACE_FULL};
 use oracle_driver::right;
 
+use crate::tape::Beyond;
 use crate::telling::without_fields;
 
 /// Over the right Rust, or over one with a wrong switch on.
@@ -31,8 +33,8 @@ impl<R: host::Host> host::Host for Host<R> {
         let Feed::Script(script) = feed else {
             return self.live(call, feed, room, watched);
         };
-        match self.not_asked(call, script, room, watched) {
-            Some(outcome) => self.left_by(outcome),
+        match self.not_asked(&self.rust.state(), call, script, room, watched) {
+            Some((why, outcome)) => self.left_by(why, outcome),
             None => self.rust.call(call, feed, room, watched),
         }
     }
@@ -51,38 +53,47 @@ impl<R: host::Host> host::Host for Host<R> {
 }
 
 impl<R: host::Host> Host<R> {
-    /// What the documents' host gives, if the Rust is not asked. What was before the
-    /// call does not matter to an initialisation, so a new host serves it.
-    fn not_asked(&self, call: Call<'_>, script: &[u32], room: usize, watched: bool) -> Option<Outcome> {
-        // No other call is told a CSD.
-        let Call::Initialise { .. } = call else {
+    /// What the documents' host gives where the Rust stood before the call, if the Rust
+    /// is not asked, and why it is not.
+    fn not_asked(
+        &self,
+        stood: &State,
+        call: Call<'_>,
+        script: &[u32],
+        room: usize,
+        watched: bool,
+    ) -> Option<(Beyond, Outcome)> {
+        // No other call is told a CSD or writes.
+        let (Call::Initialise { .. } | Call::Write { .. }) = call else {
             return None;
         };
         // Settings that the documents refuse are the business of a wrong Rust alone.
         let mut document = crate::Host::make(&self.settings).ok()?;
+        document.restore(stood);
         let outcome = document.call(call, Feed::Script(script), room, watched);
-        document.beyond_the_rust().then_some(Outcome { field: None, ..outcome })
+        let why = document.beyond_the_rust()?;
+        Some((why, Outcome { field: None, ..outcome }))
     }
 
-    /// A refused initialisation leaves what making a host leaves; 22 leaves the host as
-    /// it was.
-    fn left_by(&mut self, outcome: Outcome) -> Outcome {
-        if outcome.answer != TRACE_FULL {
+    /// A refused initialisation leaves what making a host leaves; 22 and a refused write
+    /// leave the host as it was.
+    fn left_by(&mut self, why: Beyond, outcome: Outcome) -> Outcome {
+        if why == Beyond::BlockLength && outcome.answer != TRACE_FULL {
             self.rust = R::make(&self.settings).expect("these settings made a host before");
         }
         outcome
     }
 
     /// A live card gives its words to a host that is run, so the Rust is run first, and
-    /// put back if it was not to be asked. The script then goes on behind the CSD: a host
-    /// that wrongly takes such a card finds words there.
+    /// put back if it was not to be asked. The script then goes on behind the CSD, and is
+    /// that of a whole write: a host that wrongly goes on finds words there.
     fn live(&mut self, call: Call<'_>, feed: Feed<'_>, room: usize, watched: bool) -> Outcome {
-        let before = self.rust.snapshot();
+        let (before, stood) = (self.rust.snapshot(), self.rust.state());
         let outcome = self.rust.call(call, feed, room, watched);
-        match self.not_asked(call, &outcome.script, room, watched) {
-            Some(outcome) => {
+        match self.not_asked(&stood, call, &outcome.script, room, watched) {
+            Some((why, outcome)) => {
                 self.rust.restore(&before);
-                self.left_by(outcome)
+                self.left_by(why, outcome)
             }
             None => outcome,
         }

@@ -1,18 +1,29 @@
 //! The calls, and what a host holds.
 
 use oracle_driver::bench::Feed;
-use oracle_driver::host::{self, Block, Call, Outcome, Record, Settings, State};
+use oracle_driver::host::{self, Block, Call, Outcome, Protection, Record, Settings, State};
 
 use crate::judging::{slips, Slip};
 use crate::leaf::{address, bits, block_length, capacity, clock, rate, version};
+use crate::protecting;
 use crate::steps::{Bench, Kind, Phase, Way};
-use crate::tape::{refuse, unsupported, Refusal, Step, Stop, Tape, DELAY, POWER};
+use crate::tape::{beyond_the_rust, refuse, unsupported, Beyond, Refusal, Step, Stop, Tape, DELAY, POWER};
 use crate::unsupported::Cause;
 
 pub struct Host {
     settings: Settings,
-    state: State,
-    beyond_the_rust: bool,
+    pub(crate) state: State,
+    beyond_the_rust: Option<Beyond>,
+    pub(crate) stale: Stale,
+}
+
+/// Flags that a host need not keep, and that only wrong models go by.
+#[derive(Default)]
+pub(crate) struct Stale {
+    /// Of the last card that was taken; its record may be lost.
+    pub taken: Option<Protection>,
+    /// Of the last card, if it was refused after it had been selected.
+    pub refused: Protection,
 }
 
 /// What an accepted call gives.
@@ -50,7 +61,8 @@ impl host::Host for Host {
                 clkcr: 0,
                 record: None,
             },
-            beyond_the_rust: false,
+            beyond_the_rust: None,
+            stale: Stale::default(),
         })
     }
 
@@ -59,14 +71,8 @@ impl host::Host for Host {
             unimplemented!("this host only follows scripts");
         };
         let before = self.state;
-        self.beyond_the_rust = false;
         let mut tape = Tape::new(script, room, self.state.clkcr, watched);
-        let ended = match call {
-            Call::Initialise { frequency } => self.initialise(&mut tape, frequency),
-            Call::Read { index, blocks } => self.read(&mut tape, index, blocks),
-            Call::Status => self.status(&mut tape),
-            Call::Write { index, data } => self.write(&mut tape, index, data),
-        };
+        let ended = self.serve(&mut tape, call);
         self.state.clkcr = tape.clkcr;
         let (answer, carried, field) = match ended {
             Ok(_) => (0, 0, None),
@@ -77,6 +83,7 @@ impl host::Host for Host {
             self.state = before;
         }
         let given = ended.unwrap_or_default();
+        let protection = (protecting::now().line)(self, call, answer);
         Outcome {
             answer,
             carried,
@@ -85,13 +92,18 @@ impl host::Host for Host {
             rows: tape.rows,
             status: given.status,
             blocks: given.blocks,
+            protection,
             script: script.to_vec(),
             events: tape.events,
         }
     }
 
     fn state(&self) -> State {
-        self.state
+        let mut state = self.state;
+        if let Some(record) = &mut state.record {
+            record.protection = (protecting::now().state)(record.protection);
+        }
+        state
     }
 
     fn snapshot(&self) -> State {
@@ -104,13 +116,25 @@ impl host::Host for Host {
 }
 
 impl Host {
-    /// Whether the last call was refused where the Rust goes on. It need not have been
-    /// answered so: it is answered 22 if its reset rows found no room.
-    pub fn beyond_the_rust(&self) -> bool {
+    /// Why the last call was refused where the Rust goes on, if it was. It need not have
+    /// been answered so: it is answered 22 if its reset rows found no room.
+    pub fn beyond_the_rust(&self) -> Option<Beyond> {
         self.beyond_the_rust
     }
 
-    fn bench<'t, 'a>(&self, tape: &'t mut Tape<'a>) -> Bench<'t, 'a> {
+    fn serve(&mut self, tape: &mut Tape<'_>, call: Call<'_>) -> Step<Given> {
+        let admitted = (protecting::now().admits)(self, tape, call);
+        self.beyond_the_rust = beyond_the_rust(&admitted);
+        admitted?;
+        match call {
+            Call::Initialise { frequency } => self.initialise(tape, frequency),
+            Call::Read { index, blocks } => self.read(tape, index, blocks),
+            Call::Status => self.status(tape),
+            Call::Write { index, data } => self.write(tape, index, data),
+        }
+    }
+
+    pub(crate) fn bench<'t, 'a>(&self, tape: &'t mut Tape<'a>) -> Bench<'t, 'a> {
         Bench {
             tape,
             set: self.settings,
@@ -124,7 +148,7 @@ impl Host {
         }
         let old = self.state.record;
         let within = self.initialise_within(tape, frequency);
-        self.beyond_the_rust = within.is_err_and(|stop| stop.beyond_the_rust());
+        self.beyond_the_rust = beyond_the_rust(&within);
         // Only wrong models slip.
         if slips(Slip::OldRecord, &within) {
             self.state.record = old;
@@ -138,6 +162,7 @@ impl Host {
     fn initialise_within(&mut self, tape: &mut Tape<'_>, frequency: u32) -> Step<()> {
         let source = self.settings.source;
         self.state.record = None;
+        self.stale.refused = Protection::default();
         self.state.gated = false;
         self.state.sdr25 = false;
         self.state.clock = clock(source, 400_000, false)?.frequency;
@@ -151,6 +176,8 @@ impl Host {
         let version2 = card_version(&mut bench)?;
         let ocr = power_up(&mut bench, version2)?;
         let mut record = identify(&mut bench, ocr)?;
+        record.protection = (protecting::now().flags)(record.csd, self.stale.taken);
+        self.stale.refused = record.protection;
         bench.ready(record.rca)?;
         if !record.high_capacity {
             bench.command(16, 512, Kind::R1)?;
@@ -171,6 +198,10 @@ impl Host {
             self.high_speed(tape, frequency, record.rca)?;
         }
         self.state.record = Some(record);
+        self.stale = Stale {
+            taken: Some(record.protection),
+            refused: Protection::default(),
+        };
         Ok(())
     }
 
@@ -193,8 +224,13 @@ impl Host {
         Ok(())
     }
 
-    fn record(&self) -> Step<Record> {
+    pub(crate) fn record(&self) -> Step<Record> {
         self.state.record.map_or(refuse(16), Ok)
+    }
+
+    /// Those of the record.
+    pub(crate) fn flags(&self) -> Option<Protection> {
+        self.state.record.map(|record| record.protection)
     }
 
     /// A data phase that is refused takes the record with it; at 22 the caller
@@ -326,5 +362,6 @@ fn identify(bench: &mut Bench<'_, '_>, ocr: u32) -> Step<Record> {
         scr: 0,
         status: [0; 16],
         blocks: blocks?,
+        protection: Protection::default(),
     })
 }

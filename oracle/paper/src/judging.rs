@@ -4,7 +4,7 @@
 use std::cell::Cell;
 
 use crate::switch;
-use crate::tape::Step;
+use crate::tape::{beyond_the_rust, Beyond, Step};
 
 #[derive(Clone, Copy)]
 pub struct Judging {
@@ -46,7 +46,7 @@ pub(crate) fn allows(version: u64, length: u64) -> bool {
 
 /// Whether this model slips like that where a step came to this.
 pub(crate) fn slips<T>(slip: Slip, step: &Step<T>) -> bool {
-    JUDGING.get().slip == Some(slip) && step.as_ref().is_err_and(|stop| stop.beyond_the_rust())
+    JUDGING.get().slip == Some(slip) && beyond_the_rust(step) == Some(Beyond::BlockLength)
 }
 
 /// Acts with another way of judging, and goes back whatever happens.

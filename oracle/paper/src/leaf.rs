@@ -1,9 +1,9 @@
 //! "Leaf rules", by bit positions and plain arithmetic.
 
-use oracle_driver::host;
+use oracle_driver::host::{self, Protection};
 
 use crate::judging::{allows, slips, Slip};
-use crate::tape::{refuse, unsupported, Step, Stop};
+use crate::tape::{beyond_the_rust, refuse, unsupported, Step, Stop};
 use crate::unsupported::Cause;
 
 pub struct Clock {
@@ -75,6 +75,14 @@ pub fn block_length(csd: u128) -> u64 {
     bits(csd, 83, 80)
 }
 
+/// Request P8.
+pub fn protection(csd: u128) -> Protection {
+    Protection {
+        permanent: bits(csd, 13, 13) == 1,
+        temporary: bits(csd, 12, 12) == 1,
+    }
+}
+
 pub fn rate(byte: u8) -> Step<u32> {
     let (unit, value) = (byte % 8, byte / 8 % 16);
     if byte >= 128 || unit > 3 || value == 0 {
@@ -127,7 +135,7 @@ impl Leaves {
 
     /// Whether the Rust counts blocks where the documents refuse.
     pub fn beyond_the_rust(high: u64, low: u64) -> bool {
-        capacity(joined(high, low)).is_err_and(|stop| stop.beyond_the_rust())
+        beyond_the_rust(&capacity(joined(high, low))).is_some()
     }
 }
 

@@ -1,7 +1,7 @@
 //! The script and the row list ("Script and rows").
 
 use oracle_driver::bench::{Event, Reading};
-use oracle_driver::host::{SCRIPT_ENDED, UNSUPPORTED};
+use oracle_driver::host::{SCRIPT_ENDED, UNSUPPORTED, WRITE_PROTECTED};
 
 use crate::telling::told;
 use crate::unsupported::{Cause, Field};
@@ -9,17 +9,28 @@ use crate::unsupported::{Cause, Field};
 /// Why a call stops.
 #[derive(Clone, Copy, Debug, Eq, PartialEq)]
 pub enum Stop {
-    /// Number 1 to 21. A script that ends is a refusal at its place like the
+    /// Any number but 22. A script that ends is a refusal at its place like the
     /// others.
     Refused(Refusal),
     /// Final: nothing more is written, and the host is as before.
     TraceFull,
 }
 
-impl Stop {
-    /// Whether the call stops where the Rust goes on.
-    pub fn beyond_the_rust(&self) -> bool {
-        matches!(self, Stop::Refused(Refusal::Unsupported(cause)) if cause.beyond_the_rust())
+/// Why a call stops where the Rust goes on.
+#[derive(Clone, Copy, Debug, Eq, PartialEq)]
+pub enum Beyond {
+    /// Request P6: a CSD of version 1 with a strange block length.
+    BlockLength,
+    /// Request P8: a write to a protected card.
+    WriteProtected,
+}
+
+/// None: the Rust stops there too, or the step was taken.
+pub fn beyond_the_rust<T>(step: &Step<T>) -> Option<Beyond> {
+    match step {
+        Err(Stop::Refused(Refusal::Unsupported(cause))) if cause.beyond_the_rust() => Some(Beyond::BlockLength),
+        Err(Stop::Refused(Refusal::Plain(WRITE_PROTECTED))) => Some(Beyond::WriteProtected),
+        _ => None,
     }
 }
 

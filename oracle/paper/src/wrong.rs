@@ -3,8 +3,10 @@
 
 mod fields;
 mod lengths;
+mod protection;
 
 use crate::judging::{self, Judging};
+use crate::protecting::{self, Protecting};
 use crate::telling::{self, Tell};
 
 pub struct Wrong {
@@ -16,6 +18,7 @@ pub struct Wrong {
 enum How {
     Tells(Tell),
     Judges(Judging),
+    Protects(Protecting),
 }
 
 const fn tells(name: &'static str, what: &'static str, tell: Tell) -> Wrong {
@@ -28,8 +31,13 @@ const fn judges(name: &'static str, what: &'static str, judging: Judging) -> Wro
     Wrong { name, what, how }
 }
 
+const fn protects(name: &'static str, what: &'static str, protecting: Protecting) -> Wrong {
+    let how = How::Protects(protecting);
+    Wrong { name, what, how }
+}
+
 pub fn all() -> impl Iterator<Item = &'static Wrong> {
-    fields::ALL.iter().chain(lengths::ALL)
+    fields::ALL.iter().chain(lengths::ALL).chain(protection::ALL)
 }
 
 impl Wrong {
@@ -38,6 +46,7 @@ impl Wrong {
         match self.how {
             How::Tells(tell) => telling::with(tell, act),
             How::Judges(judging) => judging::with(judging, act),
+            How::Protects(protecting) => protecting::with(protecting, act),
         }
     }
 }

@@ -6,10 +6,11 @@ use std::cell::Cell;
 
 use oracle_bench_book::{trace, Book, Entry, MOST_ROOM};
 use oracle_driver::bench::{Feed, Live, Reading};
-use oracle_driver::host::{Leaves as _, TRACE_FULL, UNSUPPORTED};
-use oracle_driver::script::{short, RESET};
+use oracle_driver::host::{Leaves as _, TRACE_FULL, UNSUPPORTED, WRITE_PROTECTED};
+use oracle_driver::script::{data, short, RESET};
 use oracle_driver::{right, Call, Host, Outcome, Settings, State};
-use oracle_model::{aside, generate};
+use oracle_model::aside::{self, Aside};
+use oracle_model::generate;
 use oracle_paper as paper;
 use oracle_paper::asked;
 use oracle_paper::telling::without_fields;
@@ -69,13 +70,18 @@ fn made<H: Host>() -> H {
     H::make(&SETTINGS).ok().unwrap()
 }
 
-/// A host that has taken a card.
-fn taken() -> asked::Host {
-    let mut host: asked::Host = made();
-    assert_eq!(host.call(CALL, Feed::Script(&GOOD.script()), ROOM, false).answer, 0);
+/// A host that has taken this card.
+fn with<H: Host>(card: Card) -> H {
+    let mut host: H = made();
+    assert_eq!(host.call(CALL, Feed::Script(&card.script()), ROOM, false).answer, 0);
     let state = host.state();
     assert!(state.record.is_some() && state.gated && state.clkcr != 0);
     host
+}
+
+/// A host that has taken a good one.
+fn taken() -> asked::Host {
+    with(GOOD)
 }
 
 #[test]
@@ -186,20 +192,84 @@ fn not_asked_where_a_length_of_version_1_is_judged_and_nowhere_else() {
     }
 }
 
+/// A write of one block, and a script that serves it whole.
+const WRITE: Call = Call::Write {
+    index: 3,
+    data: &[[7; 128]],
+};
+
+fn write_script() -> Vec<u32> {
+    [short(13, 0x900), data(24, &[]), short(13, 0x900)].concat()
+}
+
+fn protected(protect: u32) -> Card {
+    Card { protect, ..GOOD }
+}
+
+#[test]
+fn not_asked_at_a_write_to_a_protected_card_and_nowhere_else() {
+    let script = write_script();
+    let none = Call::Write { index: 3, data: &[] };
+    let past = Call::Write {
+        index: u32::MAX,
+        data: &[[7; 128]],
+    };
+    let read = Call::Read { index: 3, blocks: 1 };
+    for protect in 0..=3 {
+        let asked = |call, script: &[u32], room| {
+            let mut host = with::<asked::Host<Counted>>(protected(protect));
+            counted(|| host.call(call, Feed::Script(script), room, false)).1 == 1
+        };
+        for (script, room) in [(&script[..], ROOM), (&script[..9], ROOM), (&[], 0)] {
+            for call in [WRITE, none, past] {
+                assert_eq!(
+                    asked(call, script, room),
+                    protect == 0,
+                    "{protect}, {call:?}, room {room}"
+                );
+            }
+            for call in [read, Call::Status, CALL] {
+                assert!(asked(call, script, room), "{protect}, {call:?}, room {room}");
+            }
+        }
+    }
+    let mut host: asked::Host<Counted> = made();
+    let (outcome, calls) = counted(|| host.call(WRITE, Feed::Script(&script), ROOM, false));
+    assert_eq!((outcome.answer, calls), (16, 1));
+}
+
+#[test]
+fn a_stopped_write_leaves_the_rust_as_it_was_and_it_goes_on() {
+    let read = [short(13, 0x900), data(17, &[9; 128]), short(13, 0x900)].concat();
+    for protect in 1..=3 {
+        let mut host = with::<asked::Host<Counted>>(protected(protect));
+        let stood = host.state();
+        let outcome = host.call(WRITE, Feed::Script(&write_script()), ROOM, true);
+        assert_eq!(
+            (outcome.answer, outcome.words_used, outcome.rows.len()),
+            (WRITE_PROTECTED, 0, 0)
+        );
+        assert_eq!((host.state(), outcome.events.len()), (stood, 0));
+        let call = Call::Read { index: 3, blocks: 1 };
+        let (outcome, calls) = counted(|| host.call(call, Feed::Script(&read), ROOM, false));
+        assert_eq!((outcome.answer, calls, host.state()), (0, 1, stood));
+    }
+}
+
 #[test]
 fn not_asked_as_often_as_the_count_says() {
-    let mut total = 0;
+    let mut total = Aside::default();
     for k in 1..=300 {
         let book = generate::book(96, k);
         for room in [MOST_ROOM, 40 + k as usize % 60] {
             let (lines, calls) = counted(|| printed::<asked::Host<Counted>>(&book, room));
             let served = lines.iter().skip(1).filter(|line| line.contains(" answer ")).count() as u64;
-            let aside = aside::calls(&book, room);
-            assert_eq!(calls + aside, served, "book {k} of seed 96 with room {room}");
+            let aside = aside::of_book(&book, room);
+            assert_eq!(calls + aside.calls(), served, "book {k} of seed 96 with room {room}");
             total += aside;
         }
     }
-    assert!(total > 10, "{total}");
+    assert!(total.block_length > 10 && total.write_protected > 10, "{total}");
 }
 
 /// A live card that gives these words.
@@ -227,6 +297,19 @@ fn a_live_card_gives_its_words_to_a_host_that_goes_on() {
         assert_eq!(other.call(CALL, Feed::Script(&whole[..given]), room, true), outcome);
         assert_eq!(other.state(), host.state());
     }
+}
+
+#[test]
+fn a_live_card_gives_its_words_to_a_write_that_is_made() {
+    let whole = write_script();
+    let mut host: asked::Host = with(protected(2));
+    let stood = host.state();
+    let card = Words(whole.clone().into_iter());
+    let outcome = host.call(WRITE, Feed::Live(Box::new(card)), ROOM, true);
+    assert_eq!((outcome.answer, &outcome.script), (WRITE_PROTECTED, &whole));
+    assert_eq!(host.state(), stood);
+    let mut other: asked::Host = with(protected(2));
+    assert_eq!(other.call(WRITE, Feed::Script(&whole), ROOM, true), outcome);
 }
 
 #[test]

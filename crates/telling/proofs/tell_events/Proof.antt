@@ -9,6 +9,9 @@ use borrow.Author.Needs.{needs}
 use Rattle.telling.proofs.tell_events.Statement.{statement}
 use Rattle.telling.proofs.tell_events.Tie as tie
 
+take-turns-requires : tie.Need-take-turns-requires
+take-turns-requires c κs = c .before .before .before .before .before .before .before .before .before .before .before .before .before .before .pre
+
 returns : tie.Need-returns
 returns c =
     let told = c .before .before .before .before in
@@ -23,4 +26,4 @@ returns c =
     )
 
 pub tell-events-spec : {M : Type 1} → statement M
-tell-events-spec = tie.close (tie.spec (λ c κs. search needs) (λ c κs. search needs) (λ c κs. search needs) (λ c κs. search needs) (λ c κs. search needs) (λ c. search needs) (λ c. search needs) (λ c. search needs) returns)
+tell-events-spec = tie.close (tie.spec (λ c κs. search needs) (λ c κs. search needs) (λ c κs. search needs) (λ c κs. search needs) take-turns-requires (λ c. search needs) (λ c. search needs) (λ c. search needs) returns)

@@ -1,4 +1,4 @@
-//! A card as it answers where an answer 13 can be its fault, and the call that takes it.
+//! A card as it answers where an answer 13 can be its fault, protected or not, and the call that takes it.
 
 use oracle_driver::bench::Feed;
 use oracle_driver::script::{data, long, short};
@@ -22,12 +22,15 @@ pub struct Card {
     pub taken: [u32; 3],
     pub ocr: u32,
     pub csd: [u32; 2],
+    /// 2 if permanent plus 1 if temporary.
+    pub protect: u32,
 }
 
 pub const GOOD: Card = Card {
     taken: [0x20; 3],
     ocr: 0xc030_0000,
     csd: [0x4000_0032, 0x0009_0000],
+    protect: 0,
 };
 
 impl Card {
@@ -54,7 +57,7 @@ impl Card {
             long([self.ocr, 0, 0, 0]),
             long([1, 2, 3, 4]),
             short(3, 0x1234_0000),
-            long([self.csd[0], self.csd[1], 0, 0]),
+            long([self.csd[0], self.csd[1], 0, self.protect << 12]),
             short(7, 0),
             short(13, 0x900),
             blocks,

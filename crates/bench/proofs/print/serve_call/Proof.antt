@@ -1,12 +1,14 @@
 use Prim.Native.Nat.{_+_, _*_, _≤_}
 use mathlib.Core.Path.{_≡_, ap}
 use native.Mathlib.Omega.{arith}
-use lib.ListN.{getD}
+use lib.ListN.{getD, replicate}
 use Rattle.text.specs.Ink.{Laid}
 use Rattle.host.specs.Calls.{calledOf}
 use Rattle.host.specs.declared.host.Called.{Called}
 use Rattle.book.specs.declared.layout.Asked.{Asked}
+use Rattle.book.specs.Readers.{askedAt, callAsked}
 use Rattle.bench.specs.Bench.{cameOf, lineOf}
+use Rattle.bench.proofs.Gives.{its-line}
 use Rattle.bench.proofs.Zeros.{part-of-zeros}
 use borrow.Author.Needs.{needs}
 use Rattle.bench.proofs.print.serve_call.Statement.{statement}
@@ -26,14 +28,15 @@ ask-in-requires c κs =
 
 returns : tie.Need-returns
 returns c =
-    let args = c .before .before .before .before .before .before .before .before .before .before .before .before .before .before .args in
-    let asked = c .before .before .before .before .before .before .before .before .before .before .before .call-at .ensures in
+    let args = c .before .before .before .before .before .before .before .before .before .before .before .before .before .before .before .before .args in
+    let asked = c .before .before .before .before .before .before .before .before .before .before .before .before .before .call-at .ensures in
     let b = getD (args .words .now) (7 + 4 * args .k + 2) 0 in
-    let few : b ≤ 16 = c .before .before .before .before .before .before .before .before .before .before .before .before .before .before .pre .1 in
-    let called : c .before .before .before .before .before .before .before .ask-in .result ≡ calledOf (cameOf (args .host) (args .words .now) (args .k) (args .place)) =
-    rw (asked, part-of-zeros (512 * b) 8192 (omega (arith, few))) at (c .before .before .before .before .before .before .before .ask-in .ensures .0) in
+    let few : b ≤ 16 = c .before .before .before .before .before .before .before .before .before .before .before .before .before .before .before .before .pre .1 in
+    let called : c .before .before .before .before .before .before .before .before .before .ask-in .result ≡ calledOf (cameOf (args .host) (args .words .now) (args .k) (args .place)) =
+    rw (asked, part-of-zeros (512 * b) 8192 (omega (arith, few))) at (c .before .before .before .before .before .before .before .before .before .ask-in .ensures .0) in
     let line : Laid (args .at) (lineOf (args .host) (args .words .now) (args .k) (args .place)) (args .out .now) (c .before .before .put-call .result) (c .before .before .put-call .last .0) =
-    rw called at (c .before .before .put-call .ensures) in
+    its-line (args .k + 1) _ (replicate (512 * b) 0) (callAsked (args .words .now) (askedAt (args .words .now) (args .k) (args .place))) (cameOf (args .host) (args .words .now) (args .k) (args .place)) called
+    (rw asked at (c .before .before .put-call .ensures)) in
     let at = ap (λ (x : Asked). x .«body_at») asked in
     let len = ap (λ (x : Asked). x .«body_len») asked in (
       ap (λ (x : Called). x .host) called,

@@ -1,4 +1,4 @@
-use Rattle.report.proofs.Lines.{nothing}
+use Rattle.text.proofs.Ink.{nothing}
 use Rattle.bench.specs.Bench.{whereAccepted}
 use borrow.Author.Needs.{needs}
 use Rattle.bench.proofs.trace.put_given.Statement.{statement}

@@ -1,5 +1,5 @@
 use borrow.Author.Tests.{eq-eqb, ne-eqb}
-use Rattle.report.proofs.Lines.{nothing}
+use Rattle.text.proofs.Ink.{nothing}
 use borrow.Author.Needs.{needs}
 use Rattle.bench.proofs.trace.put_kind.Statement.{statement}
 use Rattle.bench.proofs.trace.put_kind.Tie as tie

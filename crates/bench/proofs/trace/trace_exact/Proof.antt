@@ -8,8 +8,8 @@ use Rattle.bench.proofs.trace.trace_exact.Tie as tie
 
 returns : tie.Need-returns
 returns c =
-    let args = c .before .before .before .before .before .before .before .before .before .before .before .before .before .before .before .before .before .before .before .before .before .before .before .before .before .before .args in
-    let done = c .before .before .before .before .before .before .before .before .before .before .before .before .before .before .before .before .before .before .before .ask .ensures in (
+    let args = c .before .before .before .before .before .before .before .before .before .before .before .before .before .before .before .before .before .before .before .before .before .before .before .before .before .before .before .before .args in
+    let done = c .before .before .before .before .before .before .before .before .before .before .before .before .before .before .before .before .before .before .before .before .before .ask .ensures in (
       ap (λ (x : Called). x .host) (done .0),
       traced (args .number) (args .host) (rowsIn (args .list .now)) (args .buffer .now) (args .words .now) (args .asked) (done .0) (done .1 .0) (done .1 .1)
           (c .before .before .before .before .before .before .before .before .before .before .before .before .put-call .ensures) (c .before .before .before .before .before .before .before .put-happened .ensures) (c .before .before .put-given .ensures),

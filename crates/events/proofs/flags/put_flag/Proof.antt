@@ -1,5 +1,5 @@
 use Rattle.events.specs.Meaning.{flags, flagAt}
-use Rattle.report.proofs.Lines.{nothing}
+use Rattle.text.proofs.Ink.{nothing}
 use Rattle.events.proofs.Lines.{past}
 use borrow.Author.Needs.{needs}
 use Rattle.events.proofs.flags.put_flag.Statement.{statement}

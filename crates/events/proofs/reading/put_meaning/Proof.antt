@@ -1,4 +1,4 @@
-use Rattle.report.proofs.Lines.{nothing}
+use Rattle.text.proofs.Ink.{nothing}
 use Rattle.events.specs.Meaning.{readingMeaning}
 use borrow.Author.Needs.{needs}
 use Rattle.events.proofs.reading.put_meaning.Statement.{statement}

@@ -1,5 +1,5 @@
 use borrow.Author.Tests.{ne-eqb}
-use Rattle.report.proofs.Lines.{nothing}
+use Rattle.text.proofs.Ink.{nothing}
 use borrow.Author.Needs.{needs}
 use Rattle.events.proofs.row.put_wait.Statement.{statement}
 use Rattle.events.proofs.row.put_wait.Tie as tie

@@ -1,5 +1,5 @@
 use borrow.Author.Tests.{eq-eqb, ne-eqb}
-use Rattle.report.proofs.Lines.{nothing}
+use Rattle.text.proofs.Ink.{nothing}
 use borrow.Author.Needs.{needs}
 use Rattle.events.proofs.said.put_plural.Statement.{statement}
 use Rattle.events.proofs.said.put_plural.Tie as tie

@@ -14,7 +14,7 @@ use Rattle.init.proofs.begin.timed_out.Tie as tie
 
 -- every variant but Timeout
 abbrev others : List ℕ
-others = 1 ∷ 2 ∷ 3 ∷ 4 ∷ 5 ∷ 6 ∷ 7 ∷ 8 ∷ 9 ∷ 10 ∷ 11 ∷ 12 ∷ 13 ∷ 14 ∷ 15 ∷ 16 ∷ 17 ∷ 18 ∷ 19 ∷ []
+others = 1 ∷ 2 ∷ 3 ∷ 4 ∷ 5 ∷ 6 ∷ 7 ∷ 8 ∷ 9 ∷ 10 ∷ 11 ∷ 12 ∷ 13 ∷ 14 ∷ 15 ∷ 16 ∷ 17 ∷ 18 ∷ 19 ∷ 20 ∷ []
 
 other : (e : Error) → OneOf others (Declared.tagOf Error-row.the-type e) → false ≡ timedOut e
 unfolding timedOut
@@ -38,6 +38,7 @@ other E.BadClock h = refl
 other E.InvalidConfig h = refl
 other E.InvalidBufferLength h = refl
 other E.AddressOutOfRange h = refl
+other E.WriteProtected h = refl
 
 pub timed-out-spec : {M : Type 1} → statement M
 unfolding timedOut

@@ -1,8 +1,7 @@
 use mathlib.Core.Path.{_≡_, sym, _∙_}
 use borrow.Author.Tests.{eq-eqb, ne-eqb}
 use Rattle.types.specs.Answer.{answerTold}
-use Rattle.text.proofs.Ink.{and-then}
-use Rattle.report.proofs.Lines.{nothing}
+use Rattle.text.proofs.Ink.{and-then, nothing}
 use borrow.Author.Needs.{needs}
 use Rattle.report.proofs.rows.put_carried.Statement.{statement}
 use Rattle.report.proofs.rows.put_carried.Tie as tie

@@ -2,10 +2,10 @@ use mathlib.Core.Path.{_≡_}
 use Prim.Native.Nat.{_-_, _≤_}
 use native.Mathlib.Omega.{arith}
 use Rattle.text.specs.Ink.{Laid}
-use Rattle.text.proofs.Ink.{ink-length}
+use Rattle.text.proofs.Ink.{ink-length, nothing}
 use Rattle.tape.specs.Layout.{rowsIn}
 use Rattle.report.specs.Report.{rowsText}
-use Rattle.report.proofs.Lines.{nothing, rows-none, row-more}
+use Rattle.report.proofs.Lines.{rows-none, row-more}
 use borrow.Author.Needs.{needs}
 use Rattle.report.proofs.rows.put_rows.Statement.{statement}
 use Rattle.report.proofs.rows.put_rows.Tie as tie

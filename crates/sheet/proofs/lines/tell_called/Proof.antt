@@ -7,7 +7,7 @@ returns : tie.Need-returns
 returns c =
     let laid = c .before .before .before in
     let turned = laid .before .before in
-    told (turned .before .before .before .pre) (turned .turned .ensures .0) (turned .turned .ensures .1) (laid .put-call .ensures) (c .filled .ensures)
+    told (turned .before .before .before .before .before .before .pre) (turned .turned .ensures .0) (turned .turned .ensures .1) (laid .put-call .ensures) (c .filled .ensures)
 
 pub tell-called-spec : {M : Type 1} → statement M
 tell-called-spec =

@@ -13,7 +13,7 @@ use Rattle.types.proofs.error.Error.word.Tie as tie
 
 -- every variant but CardStatus and UnsupportedCardType
 abbrev others : List ℕ
-others = 0 ∷ 1 ∷ 2 ∷ 3 ∷ 4 ∷ 5 ∷ 6 ∷ 7 ∷ 8 ∷ 10 ∷ 11 ∷ 13 ∷ 14 ∷ 15 ∷ 16 ∷ 17 ∷ 18 ∷ 19 ∷ []
+others = 0 ∷ 1 ∷ 2 ∷ 3 ∷ 4 ∷ 5 ∷ 6 ∷ 7 ∷ 8 ∷ 10 ∷ 11 ∷ 13 ∷ 14 ∷ 15 ∷ 16 ∷ 17 ∷ 18 ∷ 19 ∷ 20 ∷ []
 
 bare : (e : Error) → OneOf others (Declared.tagOf Error-row.the-type e) → 0 ≡ carried (errorTold e)
 unfolding errorTold
@@ -37,6 +37,7 @@ bare E.BadClock h = refl
 bare E.InvalidConfig h = refl
 bare E.InvalidBufferLength h = refl
 bare E.AddressOutOfRange h = refl
+bare E.WriteProtected h = refl
 
 pub word-spec : {M : Type 1} → statement M
 unfolding errorTold
