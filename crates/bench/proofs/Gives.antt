@@ -12,19 +12,19 @@ use Rattle.text.specs.Ink.{Laid}
 use Rattle.text.proofs.Ink.{and_then}
 use Rattle.host.specs.declared.host.Called.{Called}
 use Rattle.host.specs.declared.host.Sdmmc.{Sdmmc}
-use Rattle.host.specs.Calls.{Came, calledOf, blocksFilled}
+use Rattle.host.specs.Calls.{Came, called_of, blocks_filled}
 use Rattle.calls.specs.Serve as S
 use Rattle.calls.specs.Serve.{comes}
 use Rattle.book.specs.Layout as L
-use Rattle.book.specs.Lines.{callLine}
+use Rattle.book.specs.Lines.{call_line}
 use Rattle.book.specs.declared.layout.Asked.{Asked}
-use Rattle.book.specs.Readers.{callAsked}
-use Rattle.report.specs.Report.{rowsText, carriedText, stateText, statusText, blocksText}
-use Rattle.bench.specs.Bench.{callWith, asking, bufferAfter, kind_of, cameLine, whereAccepted}
-use Rattle.bench.specs.Trace.{kindText, givenText, tracedText}
+use Rattle.book.specs.Readers.{call_asked}
+use Rattle.report.specs.Report.{rows_text, carried_text, state_text, status_text, blocks_text}
+use Rattle.bench.specs.Bench.{call_with, asking, buffer_after, kind_of, came_line, where_accepted}
+use Rattle.bench.specs.Trace.{kind_text, given_text, traced_text}
 
-none : (a : Answer) → whereAccepted a [] ≡ []
-unfolding whereAccepted
+none : (a : Answer) → where_accepted a [] ≡ []
+unfolding where_accepted
 none Answered.Accepted = refl
 none (Answered.Refused e) = refl
 none Answered.ScriptEnded = refl
@@ -33,35 +33,35 @@ none Answered.BadBook = refl
 
 -- with one buffer before the call, and one after it
 pub gave : (l : List Row) (lent : List ℕ) (c : L.Call) (x : Came) (buffer : List ℕ)
-    → whereAccepted x.answer (kindText c.kind x.host (length lent / 512) buffer) ≡ givenText (callWith l lent c) x buffer
-unfolding givenText
+    → where_accepted x.answer (kind_text c.kind x.host (length lent / 512) buffer) ≡ given_text (call_with l lent c) x buffer
+unfolding given_text
 gave l lent c x buffer = by (eqb c.kind 1) (eqb c.kind 2) (eqb c.kind 4)
   where
     by : (one two four : Bool)
-        → whereAccepted x.answer (cond one [] (cond two (blocksText (length lent / 512) buffer) (cond four [] (statusText x.host.card.status))))
-        ≡ givenText (cond one (S.initialise c.a c.script l) (cond two (S.read c.a (length lent) c.script l) (cond four (S.write c.a (blocksFilled c.«data» lent) c.script l) (S.status c.script l)))) x buffer
+        → where_accepted x.answer (cond one [] (cond two (blocks_text (length lent / 512) buffer) (cond four [] (status_text x.host.card.status))))
+        ≡ given_text (cond one (S.initialise c.a c.script l) (cond two (S.read c.a (length lent) c.script l) (cond four (S.write c.a (blocks_filled c.«data» lent) c.script l) (S.status c.script l)))) x buffer
     by true two four = none x.answer
     by false true four = refl
     by false false true = none x.answer
     by false false false = refl
 
 -- the line of a call that came to this: of its kind only whether that is 1 is told
-of-kind : (l : List Row) (lent : List ℕ) (c : L.Call) → eqb c.kind 1 ≡ eqb (kind_of (callWith l lent c)) 1
+of-kind : (l : List Row) (lent : List ℕ) (c : L.Call) → eqb c.kind 1 ≡ eqb (kind_of (call_with l lent c)) 1
 unfolding kind_of
 of-kind l lent c = by (eqb c.kind 1) (eqb c.kind 2) (eqb c.kind 4)
   where
     by : (one two four : Bool)
-        → one ≡ eqb (kind_of (cond one (S.initialise c.a c.script l) (cond two (S.read c.a (length lent) c.script l) (cond four (S.write c.a (blocksFilled c.«data» lent) c.script l) (S.status c.script l))))) 1
+        → one ≡ eqb (kind_of (cond one (S.initialise c.a c.script l) (cond two (S.read c.a (length lent) c.script l) (cond four (S.write c.a (blocks_filled c.«data» lent) c.script l) (S.status c.script l))))) 1
     by true two four = refl
     by false true four = refl
     by false false true = refl
     by false false false = refl
 
-pub its-line : (number : ℕ) (l : List Row) (lent : List ℕ) (c : L.Call) (x : Came) {called : Called} {from : ℕ} {out : List ℕ} {at : ℕ} {out' : List ℕ}
-    → called ≡ calledOf x
-    → Laid from (callLine number c.kind called.answer called.words called.rows called.host.card.protection) out at out'
-    → Laid from (cameLine number (callWith l lent c) x) out at out'
-its-line number l lent c x e line = rw (e, of-kind l lent c) at line
+pub its_line : (number : ℕ) (l : List Row) (lent : List ℕ) (c : L.Call) (x : Came) {called : Called} {from : ℕ} {out : List ℕ} {at : ℕ} {out' : List ℕ}
+    → called ≡ called_of x
+    → Laid from (call_line number c.kind called.answer called.words called.rows called.host.card.protection) out at out'
+    → Laid from (came_line number (call_with l lent c) x) out at out'
+its_line number l lent c x e line = rw (e, of-kind l lent c) at line
 
 -- what is printed of a call, put together from what it came to
 module _ (number : ℕ) (host : Sdmmc) (l : List Row) (buffer ws : List ℕ) (asked : Asked) where
@@ -69,13 +69,13 @@ module _ (number : ℕ) (host : Sdmmc) (l : List Row) (buffer ws : List ℕ) (as
   call = asking l buffer ws asked
 
   pub traced : {called : Called} {l' : List Row} {buffer' out : List ℕ} {at₁ : ℕ} {out₁ : List ℕ} {at₂ : ℕ} {out₂ : List ℕ} {at₃ : ℕ} {out₃ : List ℕ}
-      → called ≡ calledOf (comes host call) → l' ≡ (comes host call).list → buffer' ≡ bufferAfter call (comes host call) buffer
-      → Laid 0 (callLine number asked.kind called.answer called.words called.rows called.host.card.protection) out at₁ out₁
-      → Laid at₁ (rowsText called.rows l' ++ carriedText called.answer ++ stateText called.host) out₁ at₂ out₂
-      → Laid at₂ (whereAccepted called.answer (kindText asked.kind called.host (length buffer / 512) buffer')) out₂ at₃ out₃
-      → Laid 0 (tracedText number host l buffer ws asked) out at₃ out₃
+      → called ≡ called_of (comes host call) → l' ≡ (comes host call).list → buffer' ≡ buffer_after call (comes host call) buffer
+      → Laid 0 (call_line number asked.kind called.answer called.words called.rows called.host.card.protection) out at₁ out₁
+      → Laid at₁ (rows_text called.rows l' ++ carried_text called.answer ++ state_text called.host) out₁ at₂ out₂
+      → Laid at₂ (where_accepted called.answer (kind_text asked.kind called.host (length buffer / 512) buffer')) out₂ at₃ out₃
+      → Laid 0 (traced_text number host l buffer ws asked) out at₃ out₃
   traced {at₂ = at₂} {out₂ = out₂} {at₃ = at₃} {out₃ = out₃} ec el eb line happened given =
       let given' = rw (ec, eb) at given in
       let last = subst (λ (t : List ℕ). Laid at₂ t out₂ at₃ out₃)
-      (gave l buffer (callAsked ws asked) (comes host call) (bufferAfter call (comes host call) buffer)) given' in
-      and_then (and_then (its-line number l buffer (callAsked ws asked) (comes host call) ec line) (rw (ec, el) at happened)) last
+      (gave l buffer (call_asked ws asked) (comes host call) (buffer_after call (comes host call) buffer)) given' in
+      and_then (and_then (its_line number l buffer (call_asked ws asked) (comes host call) ec line) (rw (ec, el) at happened)) last

@@ -9,27 +9,27 @@ use Rattle.text.proofs.Ink.{and_then}
 use Rattle.host.specs.declared.host.Made.{Made}
 use Rattle.host.specs.Calls.{made}
 use Rattle.book.specs.Layout.{Book}
-use Rattle.book.specs.Lines.{hostLine}
-use Rattle.bench.specs.Bench.{settingsOf, call_of, number_of, linesServed, whereAccepted, bookLines}
+use Rattle.book.specs.Lines.{host_line}
+use Rattle.bench.specs.Bench.{settings_of, call_of, number_of, lines_served, where_accepted, book_lines}
 
 module _ (a : Answer) (first second : List ℕ) {out : List ℕ} {at : ℕ} {out' : List ℕ} (line : Laid 0 first out at out') where
-  pub and-accepted : {p : ℕ} {out'' : List ℕ} → a ≡ Answered.Accepted → Laid at second out' p out'' → Laid 0 (first ++ whereAccepted a second) out p out''
-  unfolding whereAccepted
-  and-accepted {p} {out''} e rest = rw e (and_then line rest)
+  pub and_accepted : {p : ℕ} {out'' : List ℕ} → a ≡ Answered.Accepted → Laid at second out' p out'' → Laid 0 (first ++ where_accepted a second) out p out''
+  unfolding where_accepted
+  and_accepted {p} {out''} e rest = rw e (and_then line rest)
 
-  pub and-refused : whereAccepted a second ≡ [] → Laid 0 (first ++ whereAccepted a second) out at out'
-  and-refused none =
+  pub and_refused : where_accepted a second ≡ [] → Laid 0 (first ++ where_accepted a second) out at out'
+  and_refused none =
       subst (λ (l : List ℕ). Laid 0 l out at out') (sym (ap (λ (l : List ℕ). first ++ l) none ∙ append-nil first)) line
 
 -- of a book's host
-module _ (book : Book) (m : Made) (e : made (settingsOf book) ≡ m) {out : List ℕ} {at : ℕ} {out' : List ℕ} (line : Laid 0 (hostLine (number_of m.answer)) out at out') where
+module _ (book : Book) (m : Made) (e : made (settings_of book) ≡ m) {out : List ℕ} {at : ℕ} {out' : List ℕ} (line : Laid 0 (host_line (number_of m.answer)) out at out') where
   abbrev calls : List ℕ
-  calls = linesServed 1 m.host (map (call_of 4096) book.calls)
+  calls = lines_served 1 m.host (map (call_of 4096) book.calls)
 
-  pub with-host : {p : ℕ} {out'' : List ℕ} → m.answer ≡ Answered.Accepted → Laid at calls out' p out'' → Laid 0 (bookLines book) out p out''
-  unfolding bookLines
-  with-host a rest = rw e (and-accepted m.answer _ calls line a rest)
+  pub with-host : {p : ℕ} {out'' : List ℕ} → m.answer ≡ Answered.Accepted → Laid at calls out' p out'' → Laid 0 (book_lines book) out p out''
+  unfolding book_lines
+  with-host a rest = rw e (and_accepted m.answer _ calls line a rest)
 
-  pub without-host : whereAccepted m.answer calls ≡ [] → Laid 0 (bookLines book) out at out'
-  unfolding bookLines
-  without-host none = rw e (and-refused m.answer _ calls line none)
+  pub without_host : where_accepted m.answer calls ≡ [] → Laid 0 (book_lines book) out at out'
+  unfolding book_lines
+  without_host none = rw e (and_refused m.answer _ calls line none)

@@ -8,11 +8,11 @@ use borrow.Author.Tests.{ltb-false}
 use lib.Dec.{ltb}
 use lib.ListN.{length, take}
 use Rattle.text.specs.Ink.{inked}
-use Rattle.text.proofs.Ink.{ink-length}
+use Rattle.text.proofs.Ink.{ink_length}
 use Rattle.book.specs.declared.layout.Opened.{Opened}
 use Rattle.book.specs.declared.layout.Opened.TheVariants as Opened'
 use Rattle.types.specs.Words.{words_of}
-use Rattle.book.specs.Layout.{badWords, badBook}
+use Rattle.book.specs.Layout.{bad_words, bad_book}
 use Rattle.book.specs.Readers.{opened_of}
 use Rattle.types.proofs.Back.{length-words}
 use Rattle.book.proofs.Load.{loaded}
@@ -28,19 +28,19 @@ not-over false false m n e = refl
 module _ (bytes words last : List ℕ) (n : ℕ) (o : opened_of bytes (length words) ≡ Opened'.Words n) (f : last ≡ inked 0 (words_of bytes) words) where
   room : length bytes / 4 ≤ length words
   unfolding opened_of
-  room = ltb-false (length words) (length bytes / 4) (not-over (badBook bytes) (ltb (length words) (length bytes / 4)) (length bytes / 4) n o)
+  room = ltb-false (length words) (length bytes / 4) (not-over (bad_book bytes) (ltb (length words) (length bytes / 4)) (length bytes / 4) n o)
 
   all_words : n ≡ length (words_of bytes)
   all_words = (opened_some bytes (length words) n o).2 ∙ sym (length-words bytes)
 
-  pub words-lie : take n last ≡ words_of bytes
-  words-lie = rw (all_words, f) (loaded (words_of bytes) words (omega (arith, room, length-words bytes)))
+  pub words_lie : take n last ≡ words_of bytes
+  words_lie = rw (all_words, f) (loaded (words_of bytes) words (omega (arith, room, length-words bytes)))
 
-  pub words-good : badWords (take n last) ≡ false
-  words-good = ap badWords words-lie ∙ (opened_some bytes (length words) n o).1
+  pub words-good : bad_words (take n last) ≡ false
+  words-good = ap bad_words words_lie ∙ (opened_some bytes (length words) n o).1
 
   pub words-fit : n ≤ length last
-  words-fit = rw (f, ink-length) (omega (arith, room, all_words, length-words bytes))
+  words-fit = rw (f, ink_length) (omega (arith, room, all_words, length-words bytes))
 
 -- however it was opened, its words lie within the list
 pub opening-fits : (bytes words last : List ℕ) (r : Opening) → OpensAs (opened_of bytes (length words)) (words_of bytes) r → last ≡ inked 0 (words_of bytes) words

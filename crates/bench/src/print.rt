@@ -1,8 +1,8 @@
 // What is printed of a book: a line for its host, and one for each call.
 ghost use Rattle.std.specs.Prelude.{false, map, ◌≡◌, ◌+◌, ◌*◌, ◌≤◌, ◌<◌, length, get_or};
 ghost use Rattle.text.specs.Ink.{Laid};
-ghost use Rattle.book.specs.Layout.{badWords, bookIn};
-ghost use Rattle.bench.specs.Bench.{call_of, linesServed, line_of, hostAfter, bookLines, printed};
+ghost use Rattle.book.specs.Layout.{bad_words, book_in};
+ghost use Rattle.bench.specs.Bench.{call_of, lines_served, line_of, host_after, book_lines, printed};
 
 use crate::serve;
 use book::layout::Opened;
@@ -21,7 +21,7 @@ pub struct Turn {
 // Serves call k, counted from 0, and prints its line.
 fn serve_call(host: Sdmmc, words: &[u32], k: u32, place: usize, out: &mut [u8], at: usize) -> Turn
     requires { (k < 64) × (get_or words.now (7 + 4 * k + 2) 0 ≤ 16) × (place + get_or words.now (7 + 4 * k + 3) 0 ≤ length words.now) }
-    ensures served { result.host ≡ hostAfter host words.now k place }
+    ensures served { result.host ≡ host_after host words.now k place }
     ensures passed { result.body_at ≡ place + get_or words.now (7 + 4 * k + 3) 0 }
     ensures printed { Laid at (line_of host words.now k place) out.old result.at out.new }
 {
@@ -53,8 +53,8 @@ fn serve_call(host: Sdmmc, words: &[u32], k: u32, place: usize, out: &mut [u8], 
 
 // Serves the calls of a good book, and prints their lines.
 fn serve_calls(words: &[u32], host: Sdmmc, out: &mut [u8], at: usize) -> usize
-    requires { (badWords words.now ≡ false) × (at ≤ length out.old) }
-    ensures { Laid at (linesServed 1 host (map (call_of 4096) (bookIn words.now).calls)) out.old result out.new }
+    requires { (bad_words words.now ≡ false) × (at ≤ length out.old) }
+    ensures { Laid at (lines_served 1 host (map (call_of 4096) (book_in words.now).calls)) out.old result out.new }
 {
     let calls = layout::word(words, 6);
     let mut turn = Turn {
@@ -73,8 +73,8 @@ fn serve_calls(words: &[u32], host: Sdmmc, out: &mut [u8], at: usize) -> usize
 
 // Makes the host of a good book, prints its line, and serves the calls where there is one.
 fn serve_book(words: &[u32], out: &mut [u8]) -> usize
-    requires { badWords words.now ≡ false }
-    ensures { Laid 0 (bookLines (bookIn words.now)) out.old result out.new }
+    requires { bad_words words.now ≡ false }
+    ensures { Laid 0 (book_lines (book_in words.now)) out.old result out.new }
 {
     let made = Sdmmc::new(serve::settings(layout::head(words)));
     let answer = made.answer;

@@ -1,10 +1,10 @@
 // A book's settings, and a call of it on a host.
 ghost use Rattle.std.specs.Prelude.{◌≡◌, ◌++◌, ◌*◌, ◌≤◌, length, take, drop};
-ghost use Rattle.tape.specs.Layout.{rowsIn};
-ghost use Rattle.host.specs.Calls.{calledOf, statusCame, blocksFilled, writeCame};
+ghost use Rattle.tape.specs.Layout.{rows_in};
+ghost use Rattle.host.specs.Calls.{called_of, status_came, blocks_filled, write_came};
 ghost use Rattle.calls.specs.Serve.{comes};
-ghost use Rattle.book.specs.Readers.{callAsked};
-ghost use Rattle.bench.specs.Bench.{settingsIn, asking, bufferAfter};
+ghost use Rattle.book.specs.Readers.{call_asked};
+ghost use Rattle.bench.specs.Bench.{settings_in, asking, buffer_after};
 
 use book::layout;
 use book::layout::{Asked, Heading};
@@ -16,7 +16,7 @@ use types::config::Config;
 
 // The data words of a call, the first words of its body: none but of a write.
 pub fn data_of(words: &[u32], asked: Asked) -> &[u32]
-    ensures { result.now ≡ (callAsked words.now asked).«data» }
+    ensures { result.now ≡ (call_asked words.now asked).«data» }
 {
     let at = asked.body_at;
     let len = asked.body_len;
@@ -27,7 +27,7 @@ pub fn data_of(words: &[u32], asked: Asked) -> &[u32]
 
 // The script of a call: the words of its body behind its data.
 pub fn script_of(words: &[u32], asked: Asked) -> &[u32]
-    ensures { result.now ≡ (callAsked words.now asked).script }
+    ensures { result.now ≡ (call_asked words.now asked).script }
 {
     let at = asked.body_at;
     let len = asked.body_len;
@@ -45,9 +45,9 @@ fn ask_write(
     index: u32,
     buffer: &mut [u8],
 ) -> Called
-    ensures answered { result ≡ calledOf (writeCame host index (blocksFilled «data».now buffer.old) script.now (rowsIn rows.old)) }
-    ensures listed { rowsIn rows.new ≡ (writeCame host index (blocksFilled «data».now buffer.old) script.now (rowsIn rows.old)).list }
-    ensures filled { buffer.new ≡ blocksFilled «data».now buffer.old }
+    ensures answered { result ≡ called_of (write_came host index (blocks_filled «data».now buffer.old) script.now (rows_in rows.old)) }
+    ensures listed { rows_in rows.new ≡ (write_came host index (blocks_filled «data».now buffer.old) script.now (rows_in rows.old)).list }
+    ensures filled { buffer.new ≡ blocks_filled «data».now buffer.old }
 {
     blocks::fill_blocks(buffer, data);
     host.blocking_write_blocks(script, rows, index, buffer)
@@ -55,8 +55,8 @@ fn ask_write(
 
 // A status call, told as any other: the status that it gives is in the next host's record too, where a book's trace has it.
 fn ask_status(host: Sdmmc, script: &[u32], rows: &mut [u64]) -> Called
-    ensures answered { result ≡ calledOf (statusCame host script.now (rowsIn rows.old)) }
-    ensures listed { rowsIn rows.new ≡ (statusCame host script.now (rowsIn rows.old)).list }
+    ensures answered { result ≡ called_of (status_came host script.now (rows_in rows.old)) }
+    ensures listed { rows_in rows.new ≡ (status_came host script.now (rows_in rows.old)).list }
 {
     let read = host.blocking_read_sd_status(script, rows);
     let answer = read.answer;
@@ -71,9 +71,9 @@ fn ask_status(host: Sdmmc, script: &[u32], rows: &mut [u64]) -> Called
 
 // One call, with a buffer of its blocks' bytes.
 pub fn ask(host: Sdmmc, words: &[u32], asked: Asked, rows: &mut [u64], buffer: &mut [u8]) -> Called
-    ensures answered { result ≡ calledOf (comes host (asking (rowsIn rows.old) buffer.old words.now asked)) }
-    ensures listed { rowsIn rows.new ≡ (comes host (asking (rowsIn rows.old) buffer.old words.now asked)).list }
-    ensures filled { buffer.new ≡ bufferAfter (asking (rowsIn rows.old) buffer.old words.now asked) (comes host (asking (rowsIn rows.old) buffer.old words.now asked)) buffer.old }
+    ensures answered { result ≡ called_of (comes host (asking (rows_in rows.old) buffer.old words.now asked)) }
+    ensures listed { rows_in rows.new ≡ (comes host (asking (rows_in rows.old) buffer.old words.now asked)).list }
+    ensures filled { buffer.new ≡ buffer_after (asking (rows_in rows.old) buffer.old words.now asked) (comes host (asking (rows_in rows.old) buffer.old words.now asked)) buffer.old }
 {
     let kind = asked.kind;
     let a = asked.a;
@@ -99,9 +99,9 @@ pub fn ask_in(
     buffer: &mut [u8],
 ) -> Called
     requires { 512 * asked.b ≤ length buffer.old }
-    ensures answered { result ≡ calledOf (comes host (asking (rowsIn rows.old) (take (512 * asked.b) buffer.old) words.now asked)) }
-    ensures listed { rowsIn rows.new ≡ (comes host (asking (rowsIn rows.old) (take (512 * asked.b) buffer.old) words.now asked)).list }
-    ensures filled { buffer.new ≡ bufferAfter (asking (rowsIn rows.old) (take (512 * asked.b) buffer.old) words.now asked) (comes host (asking (rowsIn rows.old) (take (512 * asked.b) buffer.old) words.now asked)) (take (512 * asked.b) buffer.old) ++ drop (512 * asked.b) buffer.old }
+    ensures answered { result ≡ called_of (comes host (asking (rows_in rows.old) (take (512 * asked.b) buffer.old) words.now asked)) }
+    ensures listed { rows_in rows.new ≡ (comes host (asking (rows_in rows.old) (take (512 * asked.b) buffer.old) words.now asked)).list }
+    ensures filled { buffer.new ≡ buffer_after (asking (rows_in rows.old) (take (512 * asked.b) buffer.old) words.now asked) (comes host (asking (rows_in rows.old) (take (512 * asked.b) buffer.old) words.now asked)) (take (512 * asked.b) buffer.old) ++ drop (512 * asked.b) buffer.old }
 {
     let bytes = 512 * asked.b as usize;
     ask(host, words, asked, rows, &mut buffer[..bytes])
@@ -110,7 +110,7 @@ pub fn ask_in(
 // The settings of a book.
 pub fn settings(heading: Heading) -> Settings
     requires { heading.ready_attempts ≤ 65535 }
-    ensures { result ≡ settingsIn heading }
+    ensures { result ≡ settings_in heading }
 {
     let flags = heading.flags;
     Settings {

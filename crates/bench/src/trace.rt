@@ -1,18 +1,18 @@
 // What is printed of a book with what happened in each call, one call at a time: a call's text is bounded by its room, a
 // book's is not.
 ghost use Rattle.std.specs.Prelude.{false, ◌++◌, ◌≡◌, ◌+◌, ◌*◌, ◌≤◌, min, length, take};
-ghost use Rattle.tape.specs.Layout.{rowsIn};
-ghost use Rattle.book.specs.Readers.{askedAt, opened_of};
+ghost use Rattle.tape.specs.Layout.{rows_in};
+ghost use Rattle.book.specs.Readers.{asked_at, opened_of};
 ghost use Rattle.text.specs.Ink.{inked, Laid};
 ghost use Rattle.types.specs.declared.error.Answer.TheVariants.{BadBook};
-ghost use Rattle.report.specs.Report.{rowsText, carriedText, stateText};
+ghost use Rattle.report.specs.Report.{rows_text, carried_text, state_text};
 ghost use Rattle.host.specs.Calls.{made};
 ghost use Rattle.calls.specs.Serve.{comes};
 ghost use Rattle.types.specs.Words.{words_of};
-ghost use Rattle.book.specs.Layout.{badWords, bookIn};
-ghost use Rattle.book.specs.Lines.{hostLine};
-ghost use Rattle.bench.specs.Bench.{settingsOf, asking, number_of, whereAccepted};
-ghost use Rattle.bench.specs.Trace.{kindText, tracedText, bytes_at, placeAfter, call_at, callText, headText, callsServed};
+ghost use Rattle.book.specs.Layout.{bad_words, book_in};
+ghost use Rattle.book.specs.Lines.{host_line};
+ghost use Rattle.bench.specs.Bench.{settings_of, asking, number_of, where_accepted};
+ghost use Rattle.bench.specs.Trace.{kind_text, traced_text, bytes_at, place_after, call_at, call_text, head_text, calls_served};
 ghost use Rattle.bench.specs.Opens.{Opens, OpensNone, OpensAs, head_of};
 
 use crate::print::Turn;
@@ -36,7 +36,7 @@ struct Traced {
 
 // The rows, the word that the answer carries, and the host's state.
 fn put_happened(out: &mut [u8], at: usize, list: &[u64], called: Called) -> usize
-    ensures { Laid at (rowsText called.rows (rowsIn list.now) ++ carriedText called.answer ++ stateText called.host) out.old result out.new }
+    ensures { Laid at (rows_text called.rows (rows_in list.now) ++ carried_text called.answer ++ state_text called.host) out.old result out.new }
 {
     let answer = called.answer;
     let next = called.host;
@@ -47,7 +47,7 @@ fn put_happened(out: &mut [u8], at: usize, list: &[u64], called: Called) -> usiz
 
 // What an accepted call of this kind gave: a read its blocks, a status call the sixteen words.
 fn put_kind(out: &mut [u8], at: usize, kind: u32, host: Sdmmc, buffer: &[u8], count: usize) -> usize
-    ensures { Laid at (kindText kind host count buffer.now) out.old result out.new }
+    ensures { Laid at (kind_text kind host count buffer.now) out.old result out.new }
 {
     let card = host.card;
     let words = card.status;
@@ -73,7 +73,7 @@ fn put_given(
     buffer: &[u8],
     count: usize,
 ) -> usize
-    ensures { Laid at (whereAccepted answer (kindText kind host count buffer.now)) out.old result out.new }
+    ensures { Laid at (where_accepted answer (kind_text kind host count buffer.now)) out.old result out.new }
 {
     match answer {
         Answer::Accepted => put_kind(out, at, kind, host, buffer, count),
@@ -94,8 +94,8 @@ fn trace_exact(
     buffer: &mut [u8],
     out: &mut [u8],
 ) -> Traced
-    ensures served { result.host ≡ (comes host (asking (rowsIn list.old) buffer.old words.now asked)).host }
-    ensures traced { Laid 0 (tracedText number host (rowsIn list.old) buffer.old words.now asked) out.old result.at out.new }
+    ensures served { result.host ≡ (comes host (asking (rows_in list.old) buffer.old words.now asked)).host }
+    ensures traced { Laid 0 (traced_text number host (rows_in list.old) buffer.old words.now asked) out.old result.at out.new }
 {
     let kind = asked.kind;
     let count = buffer.len() / 512;
@@ -147,9 +147,9 @@ fn trace_in(
     out: &mut [u8],
 ) -> Turn
     requires { (4096 ≤ length list.old) × (8192 ≤ length buffer.old) }
-    ensures served { result.host ≡ (comes host (asking (rowsIn (take (min room 4096) list.old)) (take (bytes_at words.now k body_at) buffer.old) words.now (askedAt words.now k body_at))).host }
-    ensures passed { result.body_at ≡ placeAfter words.now k body_at }
-    ensures traced { Laid 0 (tracedText (k + 1) host (rowsIn (take (min room 4096) list.old)) (take (bytes_at words.now k body_at) buffer.old) words.now (askedAt words.now k body_at)) out.old result.at out.new }
+    ensures served { result.host ≡ (comes host (asking (rows_in (take (min room 4096) list.old)) (take (bytes_at words.now k body_at) buffer.old) words.now (asked_at words.now k body_at))).host }
+    ensures passed { result.body_at ≡ place_after words.now k body_at }
+    ensures traced { Laid 0 (traced_text (k + 1) host (rows_in (take (min room 4096) list.old)) (take (bytes_at words.now k body_at) buffer.old) words.now (asked_at words.now k body_at)) out.old result.at out.new }
 {
     let asked = layout::call_at(words, k as u32, body_at);
     let end = behind(words, asked.body_at, asked.body_len);
@@ -182,8 +182,8 @@ pub fn trace_call(
     out: &mut [u8],
 ) -> Turn
     ensures served { result.host ≡ (comes host (call_at words.now k body_at room)).host }
-    ensures passed { result.body_at ≡ placeAfter words.now k body_at }
-    ensures traced { Laid 0 (callText (k + 1) host (bytes_at words.now k body_at) (call_at words.now k body_at room)) out.old result.at out.new }
+    ensures passed { result.body_at ≡ place_after words.now k body_at }
+    ensures traced { Laid 0 (call_text (k + 1) host (bytes_at words.now k body_at) (call_at words.now k body_at room)) out.old result.at out.new }
 {
     let mut list = [0u64; 4096];
     let mut buffer = [0u8; 8192];
@@ -203,7 +203,7 @@ pub struct Opening {
 
 // The host's line, and its state where there is one.
 fn put_head(out: &mut [u8], made: Made) -> usize
-    ensures { Laid 0 (headText made) out.old result out.new }
+    ensures { Laid 0 (head_text made) out.old result out.new }
 {
     let answer = made.answer;
     let host = made.host;
@@ -219,7 +219,7 @@ fn put_head(out: &mut [u8], made: Made) -> usize
 
 // So many calls, none where there is no host.
 pub fn served(answer: Answer, calls: u32) -> u32
-    ensures { result ≡ callsServed answer calls }
+    ensures { result ≡ calls_served answer calls }
 {
     match answer {
         Answer::Accepted => calls,
@@ -232,9 +232,9 @@ pub fn served(answer: Answer, calls: u32) -> u32
 
 // Makes the host of a good book.
 fn open_good(words: &[u32], out: &mut [u8]) -> Opening
-    requires { badWords words.now ≡ false }
+    requires { bad_words words.now ≡ false }
     ensures opened { Opens words.now result }
-    ensures printed { Laid 0 (headText (made (settingsOf (bookIn words.now)))) out.old result.at out.new }
+    ensures printed { Laid 0 (head_text (made (settings_of (book_in words.now)))) out.old result.at out.new }
 {
     let made = Sdmmc::new(serve::settings(layout::head(words)));
     let answer = made.answer;
@@ -254,7 +254,7 @@ fn open_good(words: &[u32], out: &mut [u8]) -> Opening
 // What is no book: no host, and the line that says so.
 fn open_bad(out: &mut [u8]) -> Opening
     ensures opened { OpensNone result }
-    ensures printed { Laid 0 (hostLine (number_of BadBook)) out.old result.at out.new }
+    ensures printed { Laid 0 (host_line (number_of BadBook)) out.old result.at out.new }
 {
     let none = Sdmmc::new(Settings {
         source: Hertz(0),

@@ -8,7 +8,7 @@ use native.Mathlib.Omega.{arith}
 use lib.ListN.{length, get_or, set, take, drop, length-take}
 use lib.Seq.{take_all, take-append_seam}
 use Rattle.text.specs.Ink.{inked, next}
-use Rattle.text.proofs.Ink.{ink-sets, ink-length, ink-more, ink-cut}
+use Rattle.text.proofs.Ink.{ink_sets, ink_length, ink_more, ink_cut}
 use Rattle.text.proofs.Orders.{either}
 use Rattle.types.specs.Words.{words_of}
 use Rattle.types.proofs.Back.{length-words}
@@ -19,7 +19,7 @@ module _ (text buffer : List ℕ) where
   unfolding next
   store i h k =
       let place : min (0 + length (take i text)) (length buffer) ≡ i = rw length-take (omega arith) in
-      sym (ink-sets i (get_or text i 0 ∷ []) (inked 0 (take i text) buffer)) ∙ rw place at (ink-more 0 text buffer i h)
+      sym (ink_sets i (get_or text i 0 ∷ []) (inked 0 (take i text) buffer)) ∙ rw place at (ink_more 0 text buffer i h)
 
   -- as many as fit are all
   pub stored : (n : ℕ) → n ≡ min (length text) (length buffer) → inked 0 (take n text) buffer ≡ inked 0 text buffer
@@ -27,7 +27,7 @@ module _ (text buffer : List ℕ) where
       ⊎_elim (λ (h : length text ≤ length buffer). rw (take_all n text (omega arith)))
       (λ (h : length buffer < length text).
       let all : n ≡ length buffer - 0 = omega arith in
-      rw all (ink-cut 0 text buffer))
+      rw all (ink_cut 0 text buffer))
       (either (length text) (length buffer))
 
   -- and where all fit, they are the first of the list
@@ -42,7 +42,7 @@ module _ (bytes words last : List ℕ) (n : ℕ) (e : n ≡ next 0 (words_of byt
   counted = e ∙ rw (zero-add, length-words)
 
   pub kept : length last ≡ length words
-  kept = rw f (ink-length 0 (words_of bytes) words)
+  kept = rw f (ink_length 0 (words_of bytes) words)
 
   pub book-words : length bytes / 4 ≤ n → take n last ≡ words_of bytes
   book-words h =

@@ -1,13 +1,13 @@
 -- The words of a book as the readers hand them out.
 use Rattle.std.specs.Prelude.{ℕ, ◌+◌, ◌*◌, ◌/◌, cond, ◌||◌, List, ltb, length, get_or, take, drop}
-use Rattle.book.specs.Layout.{Call, call_in, calls_of, badBook}
+use Rattle.book.specs.Layout.{Call, call_in, calls_of, bad_book}
 use Rattle.book.specs.declared.layout.Asked.{Asked}
 use Rattle.book.specs.declared.layout.Heading.{Heading}
 use Rattle.book.specs.declared.layout.Opened.{Opened}
 use Rattle.book.specs.declared.layout.Opened.TheVariants as Opening
 
-abbrev pub headingOf : List ℕ → Heading
-headingOf ws =
+abbrev pub heading_of : List ℕ → Heading
+heading_of ws =
     record {
       source = get_or ws 0 0;
       poll_limit = get_or ws 1 0;
@@ -19,8 +19,8 @@ headingOf ws =
     }
 
 -- row k, counted from 0, with its body from a place on
-abbrev pub askedAt : List ℕ → ℕ → ℕ → Asked
-askedAt ws k place =
+abbrev pub asked_at : List ℕ → ℕ → ℕ → Asked
+asked_at ws k place =
     record {
       kind = get_or ws (7 + 4 * k) 0;
       a = get_or ws (7 + 4 * k + 1) 0;
@@ -30,14 +30,14 @@ askedAt ws k place =
     }
 
 -- the call that it is
-abbrev pub callAsked : List ℕ → Asked → Call
-callAsked ws x = call_in x.kind x.a x.b (take x.body_len (drop x.body_at ws))
+abbrev pub call_asked : List ℕ → Asked → Call
+call_asked ws x = call_in x.kind x.a x.b (take x.body_len (drop x.body_at ws))
 
 -- the m calls from row k on, with their bodies from a place on
-unfoldable pub callsFrom : List ℕ → ℕ → ℕ → ℕ → List Call
-callsFrom ws k place m = calls_of m (drop (7 + 4 * k) ws) (drop place ws)
+unfoldable pub calls_from : List ℕ → ℕ → ℕ → ℕ → List Call
+calls_from ws k place m = calls_of m (drop (7 + 4 * k) ws) (drop place ws)
 
 -- what opening a file's bytes comes to, in a list of so many words
 unfoldable pub opened_of : List ℕ → ℕ → Opened
 opened_of bytes room =
-    cond (badBook bytes || ltb room (length bytes / 4)) Opening.Bad (Opening.Words (length bytes / 4))
+    cond (bad_book bytes || ltb room (length bytes / 4)) Opening.Bad (Opening.Words (length bytes / 4))

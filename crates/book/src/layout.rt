@@ -3,8 +3,8 @@
 ghost use Rattle.std.specs.Prelude.{◌||◌, ◌≡◌, ◌*◌, ltb, length, get_or, drop};
 ghost use Rattle.text.specs.Ink.{inked, Laid};
 ghost use Rattle.types.specs.Words.{words_of};
-ghost use Rattle.book.specs.Layout.{dataCount, contentsOf, badRow, badRows, bodyWords, badWords};
-ghost use Rattle.book.specs.Readers.{headingOf, askedAt, opened_of};
+ghost use Rattle.book.specs.Layout.{data_count, contents_of, bad_row, bad_rows, body_words, bad_words};
+ghost use Rattle.book.specs.Readers.{heading_of, asked_at, opened_of};
 
 use text::pen;
 use types::words;
@@ -62,7 +62,7 @@ pub fn word(words: &[u32], i: usize) -> u32
 }
 
 pub fn head(words: &[u32]) -> Heading
-    ensures { result ≡ headingOf words.now }
+    ensures { result ≡ heading_of words.now }
 {
     Heading {
         source: word(words, 0),
@@ -77,7 +77,7 @@ pub fn head(words: &[u32]) -> Heading
 
 // The call of row k, counted from 0, whose body starts at a place.
 pub fn call_at(words: &[u32], k: u32, place: usize) -> Asked
-    ensures { result ≡ askedAt words.now k place }
+    ensures { result ≡ asked_at words.now k place }
 {
     let row = 7 + 4 * k as usize;
     Asked {
@@ -91,7 +91,7 @@ pub fn call_at(words: &[u32], k: u32, place: usize) -> Asked
 
 // Where the bodies begin: behind the contents.
 pub fn contents(words: &[u32]) -> usize
-    ensures { result ≡ contentsOf words.now }
+    ensures { result ≡ contents_of words.now }
 {
     let calls = word(words, 6);
     7 + 4 * calls as usize
@@ -99,7 +99,7 @@ pub fn contents(words: &[u32]) -> usize
 
 // How many of a body's words are data: 128 a block of a write.
 pub fn data_count(kind: u32, b: u32) -> usize
-    ensures { result ≡ dataCount kind b }
+    ensures { result ≡ data_count kind b }
 {
     if kind == 4 {
         return 128 * b as usize;
@@ -119,7 +119,7 @@ fn write_is_bad(b: u32, len: usize) -> bool
 
 // An unknown kind, a or b nonzero where 0 is due, over 16 blocks, or a write's body shorter than its data.
 fn row_is_bad(kind: u32, a: u32, b: u32, len: usize) -> bool
-    ensures { result ≡ badRow kind a b len }
+    ensures { result ≡ bad_row kind a b len }
 {
     if kind == 1 {
         return b != 0;
@@ -141,7 +141,7 @@ fn row_is_bad(kind: u32, a: u32, b: u32, len: usize) -> bool
 
 // Whether one of the first n rows is bad.
 fn rows_are_bad(words: &[u32], n: u32) -> bool
-    ensures { result ≡ badRows n (drop 7 words.now) }
+    ensures { result ≡ bad_rows n (drop 7 words.now) }
 {
     let mut k = 0;
     while k < n {
@@ -156,7 +156,7 @@ fn rows_are_bad(words: &[u32], n: u32) -> bool
 
 // The words of the bodies of the first n rows.
 fn body_words(words: &[u32], n: u32) -> usize
-    ensures { result ≡ bodyWords n (drop 7 words.now) }
+    ensures { result ≡ body_words n (drop 7 words.now) }
 {
     let mut sum = 0;
     let mut k = 0;
@@ -170,7 +170,7 @@ fn body_words(words: &[u32], n: u32) -> usize
 
 // Whether the words are no book: document 01's causes for answer 23, in its order.
 pub fn is_bad(words: &[u32]) -> bool
-    ensures { result ≡ badWords words.now }
+    ensures { result ≡ bad_words words.now }
 {
     let rest_at = contents(words);
     let attempts = word(words, 2);

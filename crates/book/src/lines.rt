@@ -1,15 +1,15 @@
 // The lines that the program prints of a book.
 ghost use Rattle.std.specs.Prelude.{◌++◌};
-ghost use Rattle.text.specs.Digits.{decimalOf};
+ghost use Rattle.text.specs.Digits.{decimal_of};
 ghost use Rattle.text.specs.Ink.{Laid};
-ghost use Rattle.book.specs.Lines.{hostLine, answerText, protectText, callLine};
+ghost use Rattle.book.specs.Lines.{host_line, answer_text, protect_text, call_line};
 
 use text::pen;
 use types::error::Answer;
 use types::register::Protection;
 
 fn put_named(buffer: &mut [u8], at: usize, name: &[u8], n: u64) -> usize
-    ensures { Laid at (name.now ++ decimalOf n) buffer.old result buffer.new }
+    ensures { Laid at (name.now ++ decimal_of n) buffer.old result buffer.new }
 {
     let place = pen::put(buffer, at, name);
     pen::put_decimal(buffer, place, n)
@@ -17,7 +17,7 @@ fn put_named(buffer: &mut [u8], at: usize, name: &[u8], n: u64) -> usize
 
 // The first line: the answer at making the host, or of a book that is none.
 pub fn put_host(buffer: &mut [u8], at: usize, answer: u8) -> usize
-    ensures { Laid at (hostLine answer) buffer.old result buffer.new }
+    ensures { Laid at (host_line answer) buffer.old result buffer.new }
 {
     let place = put_named(buffer, at, b"host answer ", answer as u64);
     pen::put_byte(buffer, place, b'\n')
@@ -25,7 +25,7 @@ pub fn put_host(buffer: &mut [u8], at: usize, answer: u8) -> usize
 
 // An answer's number, and at 13 the field that made the card unsupported.
 fn put_answer(buffer: &mut [u8], at: usize, answer: Answer) -> usize
-    ensures { Laid at (answerText answer) buffer.old result buffer.new }
+    ensures { Laid at (answer_text answer) buffer.old result buffer.new }
 {
     let number = answer.number();
     let told = put_named(buffer, at, b" answer ", number as u64);
@@ -43,7 +43,7 @@ fn put_protect(
     answer: Answer,
     protection: Protection,
 ) -> usize
-    ensures { Laid at (protectText kind answer protection) buffer.old result buffer.new }
+    ensures { Laid at (protect_text kind answer protection) buffer.old result buffer.new }
 {
     if kind != 1 {
         return pen::least(at, buffer.len());
@@ -66,7 +66,7 @@ pub fn put_call(
     rows: usize,
     protection: Protection,
 ) -> usize
-    ensures { Laid at (callLine call kind answer words rows protection) buffer.old result buffer.new }
+    ensures { Laid at (call_line call kind answer words rows protection) buffer.old result buffer.new }
 {
     let number = pen::put_decimal(buffer, at, call as u64);
     let answered = put_answer(buffer, number, answer);

@@ -4,7 +4,7 @@
 
 ghost use Rattle.std.specs.Prelude.{◌≤◌, length};
 ghost use Rattle.text.specs.Ink.{Laid};
-ghost use Rattle.bookwords.specs.Said.{causeText, refusalText};
+ghost use Rattle.bookwords.specs.Said.{cause_text, refusal_text};
 
 use desk::input;
 use desk::input::Input;
@@ -17,7 +17,7 @@ use wordtext::token::Cause;
 
 // Names the cause of a refusal.
 fn put_cause(out: &mut [u8], at: usize, cause: Cause) -> usize
-    ensures { Laid at (causeText cause) out.old result out.new }
+    ensures { Laid at (cause_text cause) out.old result out.new }
 {
     match cause {
         Cause::NotANumber => pen::put(
@@ -32,7 +32,7 @@ fn put_cause(out: &mut [u8], at: usize, cause: Cause) -> usize
 
 // One line: where, and what is wrong.
 fn put_refusal(out: &mut [u8], cause: Cause, place: Place) -> usize
-    ensures { Laid 0 (refusalText cause place) out.old result out.new }
+    ensures { Laid 0 (refusal_text cause place) out.old result out.new }
 {
     let named = pen::put(out, 0, b"bookwords: line ");
     let line = pen::put_decimal(out, named, place.line as u64);

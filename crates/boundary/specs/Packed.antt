@@ -15,42 +15,42 @@ use Rattle.types.specs.declared.register.CountAnswer.{CountAnswer}
 use Rattle.types.specs.declared.register.CountAnswer.TheVariants as Count
 use Rattle.types.specs.declared.register.RateAnswer.{RateAnswer}
 use Rattle.types.specs.declared.register.RateAnswer.TheVariants as Rate
-use Rattle.types.specs.Answer.{flag, errorTold, carried}
-use Rattle.types.specs.Leaf.{rateOf}
+use Rattle.types.specs.Answer.{flag, error_told, carried}
+use Rattle.types.specs.Leaf.{rate_of}
 
 abbrev pub packed : ℕ → ℕ → ℕ
 packed number value = number * 2 ^ 56 + value
 
 -- a refusal, with what it carries: of the errors that come up here only UnsupportedCardType carries anything, its field
-abbrev pub refusedWord : Error → ℕ
-refusedWord e = packed (errorTold e).number (carried (errorTold e))
+abbrev pub refused_word : Error → ℕ
+refused_word e = packed (error_told e).number (carried (error_told e))
 
 -- bypass in bit 40, the divisor field in bits 39:32, the frequency in bits 31:0
-abbrev pub clockValue : Clock → ℕ
-clockValue c = flag c.bypass * 2 ^ 40 + (c.divisor * 2 ^ 32 + c.frequency.0)
+abbrev pub clock_value : Clock → ℕ
+clock_value c = flag c.bypass * 2 ^ 40 + (c.divisor * 2 ^ 32 + c.frequency.0)
 
-unfoldable pub clockWord : ClockAnswer → ℕ
-clockWord (Set.Set c) = packed 0 (clockValue c)
-clockWord (Set.Refused e) = refusedWord e
+unfoldable pub clock_word : ClockAnswer → ℕ
+clock_word (Set.Set c) = packed 0 (clock_value c)
+clock_word (Set.Refused e) = refused_word e
 
 -- blocks of 512 bytes
-unfoldable pub countWord : CountAnswer → ℕ
-countWord (Count.Blocks n) = packed 0 n.0
-countWord (Count.Refused e) = refusedWord e
+unfoldable pub count_word : CountAnswer → ℕ
+count_word (Count.Blocks n) = packed 0 n.0
+count_word (Count.Refused e) = refused_word e
 
 -- bits a second
-unfoldable pub rateWord : RateAnswer → ℕ
-rateWord (Rate.Rate n) = packed 0 n
-rateWord (Rate.Refused e) = refusedWord e
+unfoldable pub rate_word : RateAnswer → ℕ
+rate_word (Rate.Rate n) = packed 0 n
+rate_word (Rate.Refused e) = refused_word e
 
 -- what is no byte is refused like a byte with its reserved bit set
-unfoldable pub rateAt : ℕ → RateAnswer
-rateAt encoded = cond (ltb 255 encoded) (Rate.Refused (UnsupportedCardType RateReservedBit)) (rateOf encoded)
+unfoldable pub rate_at : ℕ → RateAnswer
+rate_at encoded = cond (ltb 255 encoded) (Rate.Refused (UnsupportedCardType RateReservedBit)) (rate_of encoded)
 
 -- the argument of the read command
-unfoldable pub addressWord : AddressAnswer → ℕ
-addressWord (Address.Address a) = packed 0 a
-addressWord (Address.Refused e) = refusedWord e
+unfoldable pub address_word : AddressAnswer → ℕ
+address_word (Address.Address a) = packed 0 a
+address_word (Address.Refused e) = refused_word e
 
 -- 0 is standard capacity, anything else is high capacity
 abbrev pub class_of : ℕ → CardCapacity

@@ -2,8 +2,8 @@
 // number: the answer's number in the top byte, the value in the other seven; of a refusal the field at 13, 0 at any other
 // (include/boresacu.h).
 ghost use Rattle.std.specs.Prelude.{◌≡◌, not, ◌+◌, ◌*◌, ◌^◌, eqb};
-ghost use Rattle.types.specs.Leaf.{clockOf, count_of, address_of};
-ghost use Rattle.boundary.specs.Packed.{refusedWord, clockWord, clockValue, countWord, rateWord, rateAt, addressWord, class_of};
+ghost use Rattle.types.specs.Leaf.{clock_of, count_of, address_of};
+ghost use Rattle.boundary.specs.Packed.{refused_word, clock_word, clock_value, count_word, rate_word, rate_at, address_word, class_of};
 
 use types::card::{AddressAnswer, CardCapacity, block_address};
 use types::clock::{Clock, ClockAnswer, Hertz, clock_setting};
@@ -11,13 +11,13 @@ use types::error::{Error, Field};
 use types::register::{BlockCount, CountAnswer, RateAnswer, Wide, block_count, transfer_rate};
 
 fn refused(error: Error) -> u64
-    ensures { result ≡ refusedWord error }
+    ensures { result ≡ refused_word error }
 {
     error.number() as u64 * 0x100_0000_0000_0000 + error.word() as u64
 }
 
 fn clock_value(clock: Clock) -> u64
-    ensures { result ≡ clockValue clock }
+    ensures { result ≡ clock_value clock }
 {
     let rest = clock.divisor as u64 * 0x1_0000_0000 + clock.frequency.0 as u64;
     if clock.bypass {
@@ -39,7 +39,7 @@ fn class(high_capacity: u32) -> CardCapacity
 
 #[unsafe(no_mangle)]
 pub extern "C" fn boresacu_clock_setting(source: u32, requested: u32, allow_bypass: u32) -> u64
-    ensures { result ≡ clockWord (clockOf source requested (not (eqb allow_bypass 0))) }
+    ensures { result ≡ clock_word (clock_of source requested (not (eqb allow_bypass 0))) }
 {
     let answer = clock_setting(Hertz(source), Hertz(requested), allow_bypass != 0);
     match answer {
@@ -50,7 +50,7 @@ pub extern "C" fn boresacu_clock_setting(source: u32, requested: u32, allow_bypa
 
 #[unsafe(no_mangle)]
 pub extern "C" fn boresacu_block_count(csd_high: u64, csd_low: u64) -> u64
-    ensures { result ≡ countWord (count_of (csd_high * 2 ^ 64 + csd_low)) }
+    ensures { result ≡ count_word (count_of (csd_high * 2 ^ 64 + csd_low)) }
 {
     let answer = block_count(Wide {
         high: csd_high,
@@ -65,7 +65,7 @@ pub extern "C" fn boresacu_block_count(csd_high: u64, csd_low: u64) -> u64
 // A number over 255 is no byte: it is refused like the byte's reserved bit.
 #[unsafe(no_mangle)]
 pub extern "C" fn boresacu_transfer_rate(encoded: u32) -> u64
-    ensures { result ≡ rateWord (rateAt encoded) }
+    ensures { result ≡ rate_word (rate_at encoded) }
 {
     if encoded > 255 {
         return refused(Error::UnsupportedCardType(Field::RateReservedBit));
@@ -84,7 +84,7 @@ pub extern "C" fn boresacu_block_address(
     index: u32,
     count: u64,
 ) -> u64
-    ensures { result ≡ addressWord (address_of (class_of high_capacity) block_count index count) }
+    ensures { result ≡ address_word (address_of (class_of high_capacity) block_count index count) }
 {
     let answer = block_address(
         class(high_capacity),

@@ -13,13 +13,13 @@ use Rattle.types.specs.declared.clock.ClockAnswer.{ClockAnswer}
 use Rattle.types.specs.declared.clock.ClockAnswer.TheVariants as C
 use Rattle.types.specs.declared.error.Error.{Error}
 use Rattle.types.specs.declared.error.Error.TheVariants.{BadClock}
-use Rattle.types.specs.Leaf.{roundedUp, divisor_of, clockOf}
+use Rattle.types.specs.Leaf.{rounded_up, divisor_of, clock_of}
 use Rattle.tape.specs.Rows.{DELAY}
 use Rattle.tape.specs.Steps.{row}
-use Rattle.bus.specs.Clock.{spinsOf, clockDelay}
+use Rattle.bus.specs.Clock.{spins_of, clock_delay}
 
 -- a quotient of s by d, rounded down, goes into s at most 2 * d times, rounded up
-few : (s d q : ℕ) → 1 ≤ d → s / d ≡ q → 1 ≤ q → roundedUp s q ≤ 2 * d
+few : (s d q : ℕ) → 1 ≤ d → s / d ≡ q → 1 ≤ q → rounded_up s q ≤ 2 * d
 few s d q hd e hq =
     let below : s < (q + 1) * d = (div-lt_iff_lt-mul {k = d} {x = s} {y = q + 1} hd).0 (omega (arith, e)) in
     let above : s + (q - 1) < (2 * d + 1) * q =
@@ -38,34 +38,34 @@ some-clock s d hd h = by (dec_le 1 (s / d))
         absurd (omega arith)
 
 -- a source goes into itself divided by a request, rounded up, no more often than it is large
-divisor-most : (s r : ℕ) → 1 ≤ r → 2 ≤ s → divisor_of s r ≤ s
+divisor_most : (s r : ℕ) → 1 ≤ r → 2 ≤ s → divisor_of s r ≤ s
 unfolding divisor_of
-divisor-most s r hr hs =
+divisor_most s r hr hs =
     let enough : s + (r - 1) < (s + 1) * r = omega (arith, add-mul s 1 r, mul-le-mul_left s hr) in
     let up : (s + (r - 1)) / r < s + 1 = (div-lt_iff_lt-mul {k = r} {x = s + (r - 1)} {y = s + 1} hr).1 enough in
     omega arith
 
-divisor-least : (s r : ℕ) → 2 ≤ divisor_of s r
+divisor_least : (s r : ℕ) → 2 ≤ divisor_of s r
 unfolding divisor_of
-divisor-least s r = omega arith
+divisor_least s r = omega arith
 
 -- a clock of this source: above 0, and not much slower
 pub record Fair (source clock : ℕ) : Type 0 where
   pub runs : 1 ≤ clock
-  pub near : roundedUp source clock ≤ 514
+  pub near : rounded_up source clock ≤ 514
 
 -- an answer that is no refusal
 unrefused : (b : Bool) (e : Error) (x : ClockAnswer) (k : Clock) → cond b (C.Refused e) x ≡ C.Set k → (b ≡ false) × (x ≡ C.Set k)
 unrefused true e x k h = absurd (let z : ◌≡◌ {A = ℕ} 0 1 = cc in omega arith)
 unrefused false e x k h = (refl, h)
 
-frequencyOf : ClockAnswer → ℕ
-frequencyOf (C.Set k) = k.frequency.0
-frequencyOf (C.Refused e) = 0
+frequency_of : ClockAnswer → ℕ
+frequency_of (C.Set k) = k.frequency.0
+frequency_of (C.Refused e) = 0
 
-pub fair : (source requested : ℕ) (bypass : Bool) (k : Clock) → 2 ≤ source → clockOf source requested bypass ≡ C.Set k
+pub fair : (source requested : ℕ) (bypass : Bool) (k : Clock) → 2 ≤ source → clock_of source requested bypass ≡ C.Set k
     → Fair source k.frequency.0
-unfolding clockOf frequencyOf
+unfolding clock_of frequency_of
 fair source requested bypass k h e =
     let source-set = unrefused (eqb source 0) _ _ k e in
     let requested-set = unrefused (eqb requested 0) _ _ k source-set.1 in
@@ -84,19 +84,19 @@ fair source requested bypass k h e =
         ≡ C.Set k
         → Fair source k.frequency.0
     by true hr e =
-        rw (← ap frequencyOf e) (record { runs = omega arith; near = le_trans (few source 1 source (omega arith) (div-one source) (omega arith)) (omega arith) })
+        rw (← ap frequency_of e) (record { runs = omega arith; near = le_trans (few source 1 source (omega arith) (div-one source) (omega arith)) (omega arith) })
     by false hr e =
         let in-range = unrefused (ltb 257 d) _ _ k e in
         let most : d ≤ 257 = ltb-false 257 d in-range.0 in
-        let least : 2 ≤ d = divisor-least source requested in
-        let clock : 1 ≤ source / d = some-clock source d (omega arith) (divisor-most source requested hr h) in
-        rw (← ap frequencyOf in-range.1)
+        let least : 2 ≤ d = divisor_least source requested in
+        let clock : 1 ≤ source / d = some-clock source d (omega arith) (divisor_most source requested hr h) in
+        rw (← ap frequency_of in-range.1)
         (record { runs = clock; near = le_trans (few source d (source / d) (omega arith) refl clock) (omega arith) })
 
 -- So at most 80 cycles of it are one row.
 pub delay-is-a-row : (source cycles clock : ℕ) → Fair source clock → cycles ≤ 80
-    → clockDelay source clock cycles ≡ row DELAY (spinsOf source clock cycles)
-unfolding clockDelay
+    → clock_delay source clock cycles ≡ row DELAY (spins_of source clock cycles)
+unfolding clock_delay
 delay-is-a-row source cycles clock f h =
-    let count : spinsOf source clock cycles ≤ 514 * 80 = mul-le-mul f.near h in
-    rw (ne_eqb clock 0 (λ e. omega (arith, f.runs)), lt-ltb (spinsOf source clock cycles) (2 ^ 32) (omega arith))
+    let count : spins_of source clock cycles ≤ 514 * 80 = mul-le-mul f.near h in
+    rw (ne_eqb clock 0 (λ e. omega (arith, f.runs)), lt-ltb (spins_of source clock cycles) (2 ^ 32) (omega arith))

@@ -3,21 +3,21 @@ use Rattle.std.specs.Prelude.{ℕ, Bool, true, false, List, [], ◌∷◌, ◌++
 use Rattle.types.specs.declared.card.Signalling.TheVariants.{SDR12}
 use Rattle.types.specs.declared.config.Config.{Config}
 use Rattle.types.specs.declared.error.Error.TheVariants as E
-use Rattle.types.specs.Leaf.{data_of, firstMatch}
+use Rattle.types.specs.Leaf.{data_of, first_match}
 use Rattle.tape.specs.declared.progress.Halt.TheVariants.{Refused, ScriptEnded, TraceFull}
 use Rattle.tape.specs.declared.progress.Line.{Line}
 use Rattle.tape.specs.declared.progress.Pace.TheVariants.{Going, Stopped}
-use Rattle.tape.specs.Layout.{row_of, rowsOfPairs}
+use Rattle.tape.specs.Layout.{row_of, rows_of_pairs}
 use Rattle.tape.specs.Plan.{Plan, handle, ensure, until}
 use Rattle.tape.specs.Run.{After, after, noted, run}
-use Rattle.tape.specs.Steps.{word, row, waitIdle, setClken, resetController, stopData, dataFrom, sendFrom}
+use Rattle.tape.specs.Steps.{word, row, wait_idle, set_clken, reset_controller, stop_data, data_from, send_from}
 use Rattle.bus.specs.declared.response.Response.TheVariants.{R1}
 use Rattle.bus.specs.declared.transfer.Transfer.{Transfer}
-use Rattle.bus.specs.Command.{form_of, zeros, issue, pollCompletion, waitCompletion, echo, responseWords, judge, answer}
-use Rattle.bus.specs.Command.{complete, commandInner, command}
-use Rattle.bus.specs.Ready.{retryDelay, readStatus, tryReady, waitReady}
-use Rattle.bus.specs.Transfer.{incoming, outgoing, arm, readyData, orderData, beforeCommand, afterCommand, landed, startData, clean, pollTransfer, drained, settle, dataComplete, waitData, receive}
-use Rattle.bus.specs.Transfer.{closeGate, stopTransmission, endData, transferData, blockingData}
+use Rattle.bus.specs.Command.{form_of, zeros, issue, poll_completion, wait_completion, echo, response_words, judge, answer}
+use Rattle.bus.specs.Command.{complete, command_inner, command}
+use Rattle.bus.specs.Ready.{retry_delay, read_status, try_ready, wait_ready}
+use Rattle.bus.specs.Transfer.{incoming, outgoing, arm, ready_data, order_data, before_command, after_command, landed, start_data, clean, poll_transfer, drained, settle, data_complete, wait_data, receive}
+use Rattle.bus.specs.Transfer.{close_gate, stop_transmission, end_data, transfer_data, blocking_data}
 
 -- a host whose CLKCR is this, gated or not
 abbrev host : Bool → ℕ → Line
@@ -54,25 +54,25 @@ pub commands :
     ∷ cmd13 4 (0 ∷ 0x4 ∷ [])
     ∷ cmd13 4 (0 ∷ [])
     ∷ []
-    ≡ after (0x900 ∷ 1 ∷ 2 ∷ 3 ∷ []) Going 8 5 (host true 4) (rowsOfPairs (issued ++ 2 ∷ 4 ∷ []))
-    ∷ after zeros (Stopped (Refused E.Timeout)) 2 5 (host true 4) (rowsOfPairs (issued ++ 2 ∷ 4 ∷ []))
-    ∷ after zeros (Stopped ScriptEnded) 1 5 (host true 4) (rowsOfPairs (issued ++ 2 ∷ 4 ∷ []))
-    ∷ after zeros (Stopped TraceFull) 2 4 (host true 260) (rowsOfPairs issued)
-    ∷ after zeros (Stopped TraceFull) 1 4 (host true 260) (rowsOfPairs issued)
+    ≡ after (0x900 ∷ 1 ∷ 2 ∷ 3 ∷ []) Going 8 5 (host true 4) (rows_of_pairs (issued ++ 2 ∷ 4 ∷ []))
+    ∷ after zeros (Stopped (Refused E.Timeout)) 2 5 (host true 4) (rows_of_pairs (issued ++ 2 ∷ 4 ∷ []))
+    ∷ after zeros (Stopped ScriptEnded) 1 5 (host true 4) (rows_of_pairs (issued ++ 2 ∷ 4 ∷ []))
+    ∷ after zeros (Stopped TraceFull) 2 4 (host true 260) (rows_of_pairs issued)
+    ∷ after zeros (Stopped TraceFull) 1 4 (host true 260) (rows_of_pairs issued)
     ∷ []
-unfolding run rowsOfPairs handle ensure until noted word row waitIdle setClken form_of issue pollCompletion waitCompletion echo
-    responseWords judge answer complete commandInner command
+unfolding run rows_of_pairs handle ensure until noted word row wait_idle set_clken form_of issue poll_completion wait_completion echo
+    response_words judge answer complete command_inner command
 commands = refl
 
 -- a card that is busy, and then in the programming state (7): the delay after each attempt, the last too
-abbrev cmd13Rows : List ℕ
-cmd13Rows = 8 ∷ 0xc5 ∷ 3 ∷ 0x1234_0000 ∷ 4 ∷ 1101 ∷ []
+abbrev cmd13_rows : List ℕ
+cmd13_rows = 8 ∷ 0xc5 ∷ 3 ∷ 0x1234_0000 ∷ 4 ∷ 1101 ∷ []
 
 pub ready :
-    on tt (waitReady 8_000_500 config 0x1234) (host false 260) 8 (0 ∷ 0x40 ∷ 13 ∷ 0x800 ∷ 0 ∷ 0 ∷ 0 ∷ 0 ∷ 0x40 ∷ 13 ∷ 0xf00 ∷ 0 ∷ 0 ∷ 0 ∷ [])
-    ≡ after tt (Stopped (Refused E.SoftwareTimeout)) 14 8 (host false 260) (rowsOfPairs (cmd13Rows ++ 11 ∷ 8_001 ∷ cmd13Rows ++ 11 ∷ 8_001 ∷ []))
-unfolding run rowsOfPairs handle ensure until noted word row waitIdle setClken form_of issue pollCompletion waitCompletion echo
-    responseWords judge answer complete commandInner command retryDelay readStatus tryReady waitReady
+    on tt (wait_ready 8_000_500 config 0x1234) (host false 260) 8 (0 ∷ 0x40 ∷ 13 ∷ 0x800 ∷ 0 ∷ 0 ∷ 0 ∷ 0 ∷ 0x40 ∷ 13 ∷ 0xf00 ∷ 0 ∷ 0 ∷ 0 ∷ [])
+    ≡ after tt (Stopped (Refused E.SoftwareTimeout)) 14 8 (host false 260) (rows_of_pairs (cmd13_rows ++ 11 ∷ 8_001 ∷ cmd13_rows ++ 11 ∷ 8_001 ∷ []))
+unfolding run rows_of_pairs handle ensure until noted word row wait_idle set_clken form_of issue poll_completion wait_completion echo
+    response_words judge answer complete command_inner command retry_delay read_status try_ready wait_ready
 ready = refl
 
 -- CMD51: two words of a block of eight bytes
@@ -80,17 +80,17 @@ abbrev scr : Transfer
 scr = record { index = 51; argument = 0; block_size = 3; words = 2 }
 
 abbrev cmd51 : Line → ℕ → List ℕ → After (List ℕ)
-cmd51 = on [] (blockingData 8_000_000 config incoming scr 0x1234)
+cmd51 = on [] (blocking_data 8_000_000 config incoming scr 0x1234)
 
 -- idle, the command's idle wait, its response
 abbrev begun : List ℕ
 begun = 0 ∷ 0 ∷ 0x40 ∷ 51 ∷ 0x920 ∷ 0 ∷ 0 ∷ 0 ∷ []
 
-abbrev begunRows : List ℕ
-begunRows = 10 ∷ 0 ∷ 9 ∷ 0 ∷ 7 ∷ 0 ∷ 8 ∷ 0x73a ∷ 5 ∷ 5_000_000 ∷ 6 ∷ 8 ∷ 7 ∷ 59 ∷ 2 ∷ 260 ∷ 8 ∷ 0xc5 ∷ 3 ∷ 0 ∷ 4 ∷ 1139 ∷ []
+abbrev begun_rows : List ℕ
+begun_rows = 10 ∷ 0 ∷ 9 ∷ 0 ∷ 7 ∷ 0 ∷ 8 ∷ 0x73a ∷ 5 ∷ 5_000_000 ∷ 6 ∷ 8 ∷ 7 ∷ 59 ∷ 2 ∷ 260 ∷ 8 ∷ 0xc5 ∷ 3 ∷ 0 ∷ 4 ∷ 1139 ∷ []
 
-abbrev resetRows : List ℕ
-resetRows = 9 ∷ 0 ∷ 10 ∷ 0 ∷ 7 ∷ 0 ∷ 4 ∷ 0 ∷ 1 ∷ 0 ∷ 2 ∷ 0 ∷ 3 ∷ 0 ∷ 5 ∷ 0 ∷ 6 ∷ 0 ∷ 8 ∷ 0x00c0_07ff ∷ []
+abbrev reset_rows : List ℕ
+reset_rows = 9 ∷ 0 ∷ 10 ∷ 0 ∷ 7 ∷ 0 ∷ 4 ∷ 0 ∷ 1 ∷ 0 ∷ 2 ∷ 0 ∷ 3 ∷ 0 ∷ 5 ∷ 0 ∷ 6 ∷ 0 ∷ 8 ∷ 0x00c0_07ff ∷ []
 
 -- accepted, after one poll at which the DMA ran; refused with words that remain: DCOUNT is not read, and the reset rows
 -- follow; the script ends among the data words, and they follow too, or find no room
@@ -100,16 +100,16 @@ pub transfers :
     ∷ cmd51 (host true 4) 21 (begun ++ 0x100 ∷ 0 ∷ 0x100 ∷ 0 ∷ 0 ∷ 0xaa ∷ [])
     ∷ cmd51 (host true 4) 12 (begun ++ 0x100 ∷ 0 ∷ 0x100 ∷ 0 ∷ 0 ∷ 0xaa ∷ [])
     ∷ []
-    ≡ after (0xaa ∷ 0xbb ∷ []) Going 24 17 (host false 260) (rowsOfPairs (begunRows ++ 9 ∷ 0 ∷ 7 ∷ 0 ∷ 8 ∷ 0x73a ∷ cmd13Rows ++ 0 ∷ 0 ∷ []))
+    ≡ after (0xaa ∷ 0xbb ∷ []) Going 24 17 (host false 260) (rows_of_pairs (begun_rows ++ 9 ∷ 0 ∷ 7 ∷ 0 ∷ 8 ∷ 0x73a ∷ cmd13_rows ++ 0 ∷ 0 ∷ []))
     ∷ after [] (Stopped (Refused E.IncompleteTransfer)) 12 21 (host true 0)
-    (rowsOfPairs (begunRows ++ resetRows))
-    ∷ after [] (Stopped ScriptEnded) 14 21 (host true 0) (rowsOfPairs (begunRows ++ resetRows))
-    ∷ after [] (Stopped TraceFull) 14 12 (host true 260) (rowsOfPairs (begunRows ++ 9 ∷ 0 ∷ []))
+    (rows_of_pairs (begun_rows ++ reset_rows))
+    ∷ after [] (Stopped ScriptEnded) 14 21 (host true 0) (rows_of_pairs (begun_rows ++ reset_rows))
+    ∷ after [] (Stopped TraceFull) 14 12 (host true 260) (rows_of_pairs (begun_rows ++ 9 ∷ 0 ∷ []))
     ∷ []
-unfolding run rowsOfPairs handle ensure until noted word row waitIdle setClken form_of issue pollCompletion waitCompletion echo
-    responseWords judge answer complete commandInner command retryDelay readStatus tryReady waitReady resetController
-    stopData dataFrom data_of firstMatch arm readyData orderData beforeCommand afterCommand landed startData clean pollTransfer drained settle dataComplete waitData receive
-    closeGate stopTransmission endData transferData blockingData
+unfolding run rows_of_pairs handle ensure until noted word row wait_idle set_clken form_of issue poll_completion wait_completion echo
+    response_words judge answer complete command_inner command retry_delay read_status try_ready wait_ready reset_controller
+    stop_data data_from data_of first_match arm ready_data order_data before_command after_command landed start_data clean poll_transfer drained settle data_complete wait_data receive
+    close_gate stop_transmission end_data transfer_data blocking_data
 transfers = refl
 
 -- CMD25 with two words to send: DCTRL comes behind the command, and then a row for each word
@@ -117,10 +117,10 @@ abbrev two : Transfer
 two = record { index = 25; argument = 7; block_size = 9; words = 2 }
 
 abbrev cmd25 : Line → ℕ → List ℕ → After (List ℕ)
-cmd25 = on [] (blockingData 8_000_000 config (outgoing (0xaa ∷ 0xbb ∷ [])) two 0x1234)
+cmd25 = on [] (blocking_data 8_000_000 config (outgoing (0xaa ∷ 0xbb ∷ [])) two 0x1234)
 
-abbrev orderedRows : List ℕ
-orderedRows = 10 ∷ 0 ∷ 9 ∷ 0 ∷ 7 ∷ 0 ∷ 8 ∷ 0x73a ∷ 5 ∷ 5_000_000 ∷ 6 ∷ 8 ∷ 2 ∷ 260 ∷ 8 ∷ 0xc5 ∷ 3 ∷ 7 ∷ 4 ∷ 1113 ∷ []
+abbrev ordered_rows : List ℕ
+ordered_rows = 10 ∷ 0 ∷ 9 ∷ 0 ∷ 7 ∷ 0 ∷ 8 ∷ 0x73a ∷ 5 ∷ 5_000_000 ∷ 6 ∷ 8 ∷ 2 ∷ 260 ∷ 8 ∷ 0xc5 ∷ 3 ∷ 7 ∷ 4 ∷ 1113 ∷ []
 
 abbrev ordered : List ℕ
 ordered = 0 ∷ 0 ∷ 0x40 ∷ 25 ∷ 0x900 ∷ 0 ∷ 0 ∷ 0 ∷ []
@@ -134,13 +134,13 @@ pub sends :
     ∷ cmd25 (host true 4) 23 (ordered ++ 0x100 ∷ 0 ∷ 0x100 ∷ 1 ∷ [])
     ∷ []
     ≡ after [] Going 27 22 (host false 260)
-    (rowsOfPairs (orderedRows ++ 7 ∷ 153 ∷ 12 ∷ 0xaa ∷ 12 ∷ 0xbb ∷ 9 ∷ 0 ∷ 7 ∷ 0 ∷ 8 ∷ 0x73a ∷ 8 ∷ 0xc5 ∷ 3 ∷ 0 ∷ 4 ∷ 1100 ∷ cmd13Rows))
-    ∷ after [] (Stopped (Refused E.Timeout)) 3 20 (host true 0) (rowsOfPairs (orderedRows ++ resetRows))
-    ∷ after [] (Stopped TraceFull) 8 12 (host true 260) (rowsOfPairs (orderedRows ++ 7 ∷ 153 ∷ 12 ∷ 0xaa ∷ []))
-    ∷ after [] (Stopped (Refused E.IncompleteTransfer)) 12 23 (host true 0) (rowsOfPairs (orderedRows ++ 7 ∷ 153 ∷ 12 ∷ 0xaa ∷ 12 ∷ 0xbb ∷ resetRows))
+    (rows_of_pairs (ordered_rows ++ 7 ∷ 153 ∷ 12 ∷ 0xaa ∷ 12 ∷ 0xbb ∷ 9 ∷ 0 ∷ 7 ∷ 0 ∷ 8 ∷ 0x73a ∷ 8 ∷ 0xc5 ∷ 3 ∷ 0 ∷ 4 ∷ 1100 ∷ cmd13_rows))
+    ∷ after [] (Stopped (Refused E.Timeout)) 3 20 (host true 0) (rows_of_pairs (ordered_rows ++ reset_rows))
+    ∷ after [] (Stopped TraceFull) 8 12 (host true 260) (rows_of_pairs (ordered_rows ++ 7 ∷ 153 ∷ 12 ∷ 0xaa ∷ []))
+    ∷ after [] (Stopped (Refused E.IncompleteTransfer)) 12 23 (host true 0) (rows_of_pairs (ordered_rows ++ 7 ∷ 153 ∷ 12 ∷ 0xaa ∷ 12 ∷ 0xbb ∷ reset_rows))
     ∷ []
-unfolding run rowsOfPairs handle ensure until noted word row waitIdle setClken form_of issue pollCompletion waitCompletion echo
-    responseWords judge answer complete commandInner command retryDelay readStatus tryReady waitReady resetController
-    stopData sendFrom data_of firstMatch arm readyData orderData beforeCommand afterCommand landed startData clean pollTransfer drained settle dataComplete waitData receive
-    closeGate stopTransmission endData transferData blockingData
+unfolding run rows_of_pairs handle ensure until noted word row wait_idle set_clken form_of issue poll_completion wait_completion echo
+    response_words judge answer complete command_inner command retry_delay read_status try_ready wait_ready reset_controller
+    stop_data send_from data_of first_match arm ready_data order_data before_command after_command landed start_data clean poll_transfer drained settle data_complete wait_data receive
+    close_gate stop_transmission end_data transfer_data blocking_data
 sends = refl

@@ -5,8 +5,8 @@ use Rattle.types.specs.declared.error.Field.TheVariants.{AppCommand}
 use Rattle.types.specs.Bits.{clear}
 use Rattle.tape.specs.declared.script.Reading.TheVariants as Reading
 use Rattle.tape.specs.Plan.{Nothing, Plan, give, look, ◌then◌, ensure, finally, until}
-use Rattle.tape.specs.Rows.{ARG, CMD, ICR, cmdOf}
-use Rattle.tape.specs.Steps.{word, row, waitIdle, setClken}
+use Rattle.tape.specs.Rows.{ARG, CMD, ICR, cmd_of}
+use Rattle.tape.specs.Steps.{word, row, wait_idle, set_clken}
 use Rattle.bus.specs.declared.response.Form.{Form}
 use Rattle.bus.specs.declared.response.Response.{Response}
 use Rattle.bus.specs.declared.response.Response.TheVariants.{None, R1, R2, R3, R6, R7}
@@ -33,15 +33,15 @@ unfoldable pub issue : ℕ → ℕ → Form → Plan Nothing
 issue index argument form =
     row ICR 0xc5
     then λ _. row ARG argument
-    then λ _. row CMD (cmdOf index form.wait)
+    then λ _. row CMD (cmd_of index form.wait)
 
 -- one status word: 0x4 gives 1
-unfoldable pub pollCompletion : Plan ℕ
-pollCompletion = word Reading.Status then λ w. ensure (clear 0x4 w) E.Timeout then λ _. give w
+unfoldable pub poll_completion : Plan ℕ
+poll_completion = word Reading.Status then λ w. ensure (clear 0x4 w) E.Timeout then λ _. give w
 
 -- at most `limit` of them, until one has a completion bit
-unfoldable pub waitCompletion : ℕ → Form → Plan ℕ
-waitCompletion limit form = until limit (λ w. not (clear form.completion w)) pollCompletion
+unfoldable pub wait_completion : ℕ → Form → Plan ℕ
+wait_completion limit form = until limit (λ w. not (clear form.completion w)) poll_completion
 
 -- RESPCMD, where it is read, other than the index gives 9
 unfoldable pub echo : ℕ → Form → Plan Nothing
@@ -49,8 +49,8 @@ echo index form =
     cond form.echoes (word Reading.RespCmd then λ w. ensure (eqb (w % 64) index) E.ResponseMismatch) (give tt)
 
 -- all four words are read
-unfoldable pub responseWords : Plan (List ℕ)
-responseWords =
+unfoldable pub response_words : Plan (List ℕ)
+response_words =
     word (Reading.Response 0)
     then λ a. word (Reading.Response 1)
     then λ b. word (Reading.Response 2)
@@ -70,15 +70,15 @@ answer index form status =
     cond form.silent (give zeros)
     (ensure (clear form.crc status) E.Crc
     then λ _. echo index form
-    then λ _. responseWords
+    then λ _. response_words
     then λ ws. judge form ws)
 
 unfoldable pub complete : ℕ → ℕ → Form → Plan (List ℕ)
-complete limit index form = waitCompletion limit form then λ status. answer index form status
+complete limit index form = wait_completion limit form then λ status. answer index form status
 
-unfoldable pub commandInner : ℕ → ℕ → ℕ → Response → Plan (List ℕ)
-commandInner limit index argument response =
-    waitIdle limit false
+unfoldable pub command_inner : ℕ → ℕ → ℕ → Response → Plan (List ℕ)
+command_inner limit index argument response =
+    wait_idle limit false
     then λ _. issue index argument (form_of response)
     then λ _. complete limit index (form_of response)
 
@@ -86,11 +86,11 @@ commandInner limit index argument response =
 unfoldable pub command : ℕ → ℕ → ℕ → Response → Plan (List ℕ)
 command limit index argument response =
     look (λ line. cond line.gated
-    (setClken true then λ _. finally (setClken false) (commandInner limit index argument response))
-    (commandInner limit index argument response))
+    (set_clken true then λ _. finally (set_clken false) (command_inner limit index argument response))
+    (command_inner limit index argument response))
 
 -- CMD55, after which the card takes an application command
-unfoldable pub appCommand : ℕ → ℕ → Plan Nothing
-appCommand limit rca =
+unfoldable pub app_command : ℕ → ℕ → Plan Nothing
+app_command limit rca =
     command limit 55 (rca * 2 ^ 16) R1
     then λ ws. ensure (not (clear 0x20 (first_of ws))) (E.UnsupportedCardType AppCommand)

@@ -7,14 +7,14 @@ use Rattle.tape.specs.Layout.{row_of}
 use Rattle.tape.specs.Rows.{CMD}
 
 -- the command sent last, after a row: CMD = index + 64 * wait kind + 1024 sends one; the reset row of CMD, 0, sends none
-unfoldable pub sentAfter : Row → ℕ → ℕ
-sentAfter r index = cond (eqb r.register CMD && bit r.value 10) (r.value % 64) index
+unfoldable pub sent_after : Row → ℕ → ℕ
+sent_after r index = cond (eqb r.register CMD && bit r.value 10) (r.value % 64) index
 
 -- the index of the last command that the first n rows of a list send; 0 before the first
-unfoldable pub lastSent : ℕ → List Row → ℕ
-lastSent zero rows = 0
-lastSent (suc n) rows = sentAfter (get_or rows n (row_of 0)) (lastSent n rows)
+unfoldable pub last_sent : ℕ → List Row → ℕ
+last_sent zero rows = 0
+last_sent (suc n) rows = sent_after (get_or rows n (row_of 0)) (last_sent n rows)
 
 -- an answer: the four words from place k of the script on
-abbrev pub answerAt : List ℕ → ℕ → List ℕ
-answerAt s k = map (λ i. get_or s i 0) (counted k 4)
+abbrev pub answer_at : List ℕ → ℕ → List ℕ
+answer_at s k = map (λ i. get_or s i 0) (counted k 4)

@@ -1,8 +1,8 @@
 // The clock change, and the delay by the card clock.
 ghost use Rattle.std.specs.Prelude.{◌≡◌, List, ℕ, ◌≤◌};
-ghost use Rattle.tape.specs.Layout.{rowsIn};
+ghost use Rattle.tape.specs.Layout.{rows_in};
 ghost use Rattle.tape.specs.Run.{at, Did};
-ghost use Rattle.bus.specs.Clock.{configureClock, spinsOf, clockDelay, delayed};
+ghost use Rattle.bus.specs.Clock.{configure_clock, spins_of, clock_delay, delayed};
 
 use tape::progress::Progress;
 use tape::rows::Row;
@@ -20,7 +20,7 @@ pub fn configure_clock(
     wide: bool,
     clken: bool,
 ) -> Progress
-    ensures { Did script.now (configureClock limit clock wide clken) (at p (rowsIn rows.old)) (at result (rowsIn rows.new)) }
+    ensures { Did script.now (configure_clock limit clock wide clken) (at p (rows_in rows.old)) (at result (rows_in rows.new)) }
 {
     let value = rows::clkcr(clock, wide, clken);
     let rest = script::rest(script, p.used);
@@ -31,7 +31,7 @@ pub fn configure_clock(
 // So many cycles of the card clock, in spins of the source clock.
 fn spins(source: Hertz, clock: Hertz, cycles: u32) -> u64
     requires { 1 ≤ clock.0 }
-    ensures { result ≡ spinsOf source.0 clock.0 cycles }
+    ensures { result ≡ spins_of source.0 clock.0 cycles }
 {
     (source.0 as u64 + (clock.0 as u64 - 1)) / clock.0 as u64 * cycles as u64
 }
@@ -45,7 +45,7 @@ pub enum DelayAnswer {
 
 // The spins of so many cycles of the card clock.
 pub fn delay(source: Hertz, clock: Hertz, cycles: u32) -> DelayAnswer
-    ensures { delayed result ≡ clockDelay source.0 clock.0 cycles }
+    ensures { delayed result ≡ clock_delay source.0 clock.0 cycles }
 {
     if clock.0 == 0 {
         return DelayAnswer::Refused(Error::BadClock);
@@ -66,7 +66,7 @@ pub fn clock_delay(
     clock: Hertz,
     cycles: u32,
 ) -> Progress
-    ensures { (s : List ℕ) → Did s (clockDelay source.0 clock.0 cycles) (at p (rowsIn rows.old)) (at result (rowsIn rows.new)) }
+    ensures { (s : List ℕ) → Did s (clock_delay source.0 clock.0 cycles) (at p (rows_in rows.old)) (at result (rows_in rows.new)) }
 {
     let answer = delay(source, clock, cycles);
     match answer {

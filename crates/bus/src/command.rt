@@ -1,10 +1,10 @@
 // One command to the card.
 ghost use Rattle.std.specs.Prelude.{◌≡◌, List, [], ◌∷◌, false, cond, ℕ, ◌+◌, ◌^◌, ◌<◌, ◌≤◌, ltb, length, get_or};
-ghost use Rattle.tape.specs.Layout.{rowsIn};
+ghost use Rattle.tape.specs.Layout.{rows_in};
 ghost use Rattle.tape.specs.Plan.{finally, giving, refusing};
 ghost use Rattle.tape.specs.Run.{at, Behind, Did, Gave, Settled};
-ghost use Rattle.tape.specs.Steps.{setClken};
-ghost use Rattle.bus.specs.Command.{zeros, issue, pollCompletion, waitCompletion, echo, responseWords, judge, answer, complete, commandInner, command, appCommand};
+ghost use Rattle.tape.specs.Steps.{set_clken};
+ghost use Rattle.bus.specs.Command.{zeros, issue, poll_completion, wait_completion, echo, response_words, judge, answer, complete, command_inner, command, app_command};
 
 use crate::response;
 use crate::response::{Form, Response, Words};
@@ -17,7 +17,7 @@ use types::status::CardStatus;
 
 // The three rows of a command.
 fn issue(p: Progress, rows: &mut [u64], index: u8, argument: u32, form: Form) -> Progress
-    ensures { (s : List ℕ) → Did s (issue index argument form) (at p (rowsIn rows.old)) (at result (rowsIn rows.new)) }
+    ensures { (s : List ℕ) → Did s (issue index argument form) (at p (rows_in rows.old)) (at result (rows_in rows.new)) }
 {
     let order = rows::cmd(index, form.wait);
     let icr = rows::write_row(p, rows, Row::ICR, Icr::COMMAND);
@@ -28,7 +28,7 @@ fn issue(p: Progress, rows: &mut [u64], index: u8, argument: u32, form: Form) ->
 // One status word, of a script of which `rest` lies behind its first `start` words; refuses where the card is late.
 fn poll_completion(p: Progress, rest: &[u32], start: usize) -> Word
     requires { (start ≤ p.used) × (start + length rest.now < 2 ^ 64) }
-    ensures { (s : List ℕ) (l : List Row) → Behind start rest.now s → Gave s ℕ 0 pollCompletion (at p l) result.word (at result.progress l) }
+    ensures { (s : List ℕ) (l : List Row) → Behind start rest.now s → Gave s ℕ 0 poll_completion (at p l) result.word (at result.progress l) }
 {
     let status = script::read_word(p, rest, start);
     let sta = status.word;
@@ -39,7 +39,7 @@ fn poll_completion(p: Progress, rest: &[u32], start: usize) -> Word
 // Polls the status, at most `limit` times, until it has a bit that completes the command.
 fn wait_completion(p: Progress, rest: &[u32], start: usize, limit: u32, form: Form) -> Word
     requires { (start ≤ p.used) × (start + length rest.now < 2 ^ 64) }
-    ensures { (s : List ℕ) (l : List Row) → Behind start rest.now s → Gave s ℕ 0 (waitCompletion limit form) (at p l) result.word (at result.progress l) }
+    ensures { (s : List ℕ) (l : List Row) → Behind start rest.now s → Gave s ℕ 0 (wait_completion limit form) (at p l) result.word (at result.progress l) }
 {
     let pace = p.pace;
     let Pace::Going = pace else {
@@ -98,7 +98,7 @@ fn four_at(words: &[u32], place: usize) -> [u32; 4]
 // The four response words, taken in one go.
 fn take_words(p: Progress, rest: &[u32], start: usize) -> Words
     requires { (start ≤ p.used) × (start + length rest.now < 2 ^ 64) }
-    ensures { (s : List ℕ) (l : List Row) → Behind start rest.now s → Gave s (List ℕ) zeros responseWords (at p l) result.words (at result.progress l) }
+    ensures { (s : List ℕ) (l : List Row) → Behind start rest.now s → Gave s (List ℕ) zeros response_words (at p l) result.words (at result.progress l) }
 {
     let words = four_at(rest, p.used - start);
     let taken = script::take_data(p, rest, start, 4);
@@ -150,7 +150,7 @@ pub fn command_inner(
     response: Response,
 ) -> Words
     requires { p.used + length rest.now < 2 ^ 64 }
-    ensures { (s : List ℕ) → Behind p.used rest.now s → Gave s (List ℕ) zeros (commandInner limit index argument response) (at p (rowsIn rows.old)) result.words (at result.progress (rowsIn rows.new)) }
+    ensures { (s : List ℕ) → Behind p.used rest.now s → Gave s (List ℕ) zeros (command_inner limit index argument response) (at p (rows_in rows.old)) result.words (at result.progress (rows_in rows.new)) }
 {
     let pace = p.pace;
     let Pace::Going = pace else {
@@ -169,7 +169,7 @@ pub fn command_inner(
 
 // What the gate makes of a command: the clock off, after an answer and after a stop alike, unless there is no room.
 fn close_clock(a: Words, rows: &mut [u64]) -> Words
-    ensures { (s : List ℕ) → Settled s (List ℕ) (List ℕ) zeros (giving (setClken false)) (refusing (setClken false)) a.words (at a.progress (rowsIn rows.old)) result.words (at result.progress (rowsIn rows.new)) }
+    ensures { (s : List ℕ) → Settled s (List ℕ) (List ℕ) zeros (giving (set_clken false)) (refusing (set_clken false)) a.words (at a.progress (rows_in rows.old)) result.words (at result.progress (rows_in rows.new)) }
 {
     let p = a.progress;
     let words = a.words;
@@ -206,7 +206,7 @@ fn command_closing(
     response: Response,
 ) -> Words
     requires { p.used + length rest.now < 2 ^ 64 }
-    ensures { (s : List ℕ) → Behind p.used rest.now s → Gave s (List ℕ) zeros (finally (setClken false) (commandInner limit index argument response)) (at p (rowsIn rows.old)) result.words (at result.progress (rowsIn rows.new)) }
+    ensures { (s : List ℕ) → Behind p.used rest.now s → Gave s (List ℕ) zeros (finally (set_clken false) (command_inner limit index argument response)) (at p (rows_in rows.old)) result.words (at result.progress (rows_in rows.new)) }
 {
     let pace = p.pace;
     match pace {
@@ -232,7 +232,7 @@ pub fn command(
     response: Response,
 ) -> Words
     requires { p.used + length rest.now < 2 ^ 64 }
-    ensures { (s : List ℕ) → Behind p.used rest.now s → Gave s (List ℕ) zeros (command limit index argument response) (at p (rowsIn rows.old)) result.words (at result.progress (rowsIn rows.new)) }
+    ensures { (s : List ℕ) → Behind p.used rest.now s → Gave s (List ℕ) zeros (command limit index argument response) (at p (rows_in rows.old)) result.words (at result.progress (rows_in rows.new)) }
 {
     if p.line.gated {
         let open = steps::set_clken(p, rows, true);
@@ -252,7 +252,7 @@ pub fn send(
     argument: u32,
     response: Response,
 ) -> Words
-    ensures { Gave script.now (List ℕ) zeros (command limit index argument response) (at p (rowsIn rows.old)) result.words (at result.progress (rowsIn rows.new)) }
+    ensures { Gave script.now (List ℕ) zeros (command limit index argument response) (at p (rows_in rows.old)) result.words (at result.progress (rows_in rows.new)) }
 {
     let rest = script::rest(script, p.used);
     command(p, rest, rows, limit, index, argument, response)
@@ -260,7 +260,7 @@ pub fn send(
 
 // Tells the card that an application command follows.
 pub fn app_command(p: Progress, script: &[u32], rows: &mut [u64], limit: u32, rca: u16) -> Progress
-    ensures { Did script.now (appCommand limit rca) (at p (rowsIn rows.old)) (at result (rowsIn rows.new)) }
+    ensures { Did script.now (app_command limit rca) (at p (rows_in rows.old)) (at result (rows_in rows.new)) }
 {
     let told = send(
         p,

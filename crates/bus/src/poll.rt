@@ -3,7 +3,7 @@ ghost use Rattle.std.specs.Prelude.{◌≡◌, List, Bool, false, not, ◌||◌,
 ghost use Rattle.types.specs.Bits.{clear};
 ghost use Rattle.tape.specs.Plan.{give};
 ghost use Rattle.tape.specs.Run.{at, Behind, Did, Gave};
-ghost use Rattle.bus.specs.Transfer.{Polled, nothingPolled, clean, pollTransfer, drained, settle, dataComplete, waitData};
+ghost use Rattle.bus.specs.Transfer.{Polled, nothing_polled, clean, poll_transfer, drained, settle, data_complete, wait_data};
 
 use tape::progress::{Flag, Pace, Progress};
 use tape::rows::Row;
@@ -34,7 +34,7 @@ fn clean(p: Progress, word: u32) -> Progress
 
 // Gives both words, unless the call has stopped.
 fn give_poll(p: Progress, status: u32, dma: u32) -> Poll
-    ensures { (s : List ℕ) (l : List Row) → Gave s Polled nothingPolled (give (record { status = status; dma = dma })) (at p l) (record { status = result.status; dma = result.dma }) (at result.progress l) }
+    ensures { (s : List ℕ) (l : List Row) → Gave s Polled nothing_polled (give (record { status = status; dma = dma })) (at p l) (record { status = result.status; dma = result.dma }) (at result.progress l) }
 {
     let pace = p.pace;
     match pace {
@@ -54,7 +54,7 @@ fn give_poll(p: Progress, status: u32, dma: u32) -> Poll
 // One status word and one DMA word, neither of which says that the transfer failed.
 fn poll_transfer(p: Progress, rest: &[u32], start: usize) -> Poll
     requires { (start ≤ p.used) × (start + length rest.now < 2 ^ 64) }
-    ensures { (s : List ℕ) (l : List Row) → Behind start rest.now s → Gave s Polled nothingPolled pollTransfer (at p l) (record { status = result.status; dma = result.dma }) (at result.progress l) }
+    ensures { (s : List ℕ) (l : List Row) → Behind start rest.now s → Gave s Polled nothing_polled poll_transfer (at p l) (record { status = result.status; dma = result.dma }) (at result.progress l) }
 {
     let status = script::read_word(p, rest, start);
     let sound = clean(status.progress, status.word);
@@ -101,7 +101,7 @@ fn settle(p: Progress, rest: &[u32], start: usize) -> Flag
 // One poll: whether the transfer is complete. `rest` is what is left of the script.
 pub fn data_complete(p: Progress, rest: &[u32]) -> Flag
     requires { p.used + length rest.now < 2 ^ 64 }
-    ensures { (s : List ℕ) (l : List Row) → Behind p.used rest.now s → Gave s Bool false dataComplete (at p l) result.flag (at result.progress l) }
+    ensures { (s : List ℕ) (l : List Row) → Behind p.used rest.now s → Gave s Bool false data_complete (at p l) result.flag (at result.progress l) }
 {
     let start = p.used;
     let first = poll_transfer(p, rest, start);
@@ -115,7 +115,7 @@ pub fn data_complete(p: Progress, rest: &[u32]) -> Flag
 // Polls, at most `limit` times, until the transfer is complete. `rest` is what is left of the script.
 pub fn wait_data(p: Progress, rest: &[u32], limit: u32) -> Progress
     requires { p.used + length rest.now < 2 ^ 64 }
-    ensures { (s : List ℕ) (l : List Row) → Behind p.used rest.now s → Did s (waitData limit) (at p l) (at result l) }
+    ensures { (s : List ℕ) (l : List Row) → Behind p.used rest.now s → Did s (wait_data limit) (at p l) (at result l) }
 {
     let start = p.used;
     let mut q = p;

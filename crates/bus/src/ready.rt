@@ -1,9 +1,9 @@
 // The card's status, and the wait until the card is ready.
 ghost use Rattle.std.specs.Prelude.{◌≡◌, List, Bool, false, ℕ};
-ghost use Rattle.types.specs.Leaf.{roundedUp};
-ghost use Rattle.tape.specs.Layout.{rowsIn};
+ghost use Rattle.types.specs.Leaf.{rounded_up};
+ghost use Rattle.tape.specs.Layout.{rows_in};
 ghost use Rattle.tape.specs.Run.{at, Did, Gave};
-ghost use Rattle.bus.specs.Ready.{retryDelay, readStatus, tryReady, waitReady};
+ghost use Rattle.bus.specs.Ready.{retry_delay, read_status, try_ready, wait_ready};
 
 use crate::command;
 use crate::response::Response;
@@ -17,14 +17,14 @@ use types::status::CardStatus;
 
 // A thousandth of a second, in spins of the source clock, rounded up.
 pub fn millisecond(source: Hertz) -> u32
-    ensures { result ≡ roundedUp source.0 1000 }
+    ensures { result ≡ rounded_up source.0 1000 }
 {
     ((source.0 as u64 + 999) / 1000) as u32
 }
 
 // The delay before the next attempt.
 pub fn retry_delay(p: Progress, rows: &mut [u64], source: Hertz) -> Progress
-    ensures { (s : List ℕ) → Did s (retryDelay source.0) (at p (rowsIn rows.old)) (at result (rowsIn rows.new)) }
+    ensures { (s : List ℕ) → Did s (retry_delay source.0) (at p (rows_in rows.old)) (at result (rows_in rows.new)) }
 {
     let spins = millisecond(source);
     rows::write_row(p, rows, Row::DELAY, spins)
@@ -32,7 +32,7 @@ pub fn retry_delay(p: Progress, rows: &mut [u64], source: Hertz) -> Progress
 
 // The card's status.
 pub fn read_status(p: Progress, script: &[u32], rows: &mut [u64], limit: u32, rca: u16) -> Word
-    ensures { Gave script.now ℕ 0 (readStatus limit rca) (at p (rowsIn rows.old)) result.word (at result.progress (rowsIn rows.new)) }
+    ensures { Gave script.now ℕ 0 (read_status limit rca) (at p (rows_in rows.old)) result.word (at result.progress (rows_in rows.new)) }
 {
     let answer = command::send(
         p,
@@ -59,7 +59,7 @@ fn try_ready(
     limit: u32,
     rca: u16,
 ) -> Flag
-    ensures { Gave script.now Bool false (tryReady source.0 limit rca) (at p (rowsIn rows.old)) result.flag (at result.progress (rowsIn rows.new)) }
+    ensures { Gave script.now Bool false (try_ready source.0 limit rca) (at p (rows_in rows.old)) result.flag (at result.progress (rows_in rows.new)) }
 {
     let answer = read_status(p, script, rows, limit, rca);
     let status = CardStatus(answer.word);
@@ -82,7 +82,7 @@ pub fn wait_ready(
     config: Config,
     rca: u16,
 ) -> Progress
-    ensures { Did script.now (waitReady source.0 config rca) (at p (rowsIn rows.old)) (at result (rowsIn rows.new)) }
+    ensures { Did script.now (wait_ready source.0 config rca) (at p (rows_in rows.old)) (at result (rows_in rows.new)) }
 {
     let attempts = config.card_ready_attempts;
     let limit = config.poll_limit;

@@ -1,11 +1,11 @@
 // The data phase.
 ghost use Rattle.std.specs.Prelude.{◌≡◌, List, [], ℕ, ◌*◌, ◌/◌, length, take, drop};
 ghost use Rattle.types.specs.Words.{words_of};
-ghost use Rattle.tape.specs.Layout.{rowsIn};
-ghost use Rattle.tape.specs.Rows.{DCTRL, dctrlOf};
+ghost use Rattle.tape.specs.Layout.{rows_in};
+ghost use Rattle.tape.specs.Rows.{DCTRL, dctrl_of};
 ghost use Rattle.tape.specs.Run.{at, Did, Gave, Lies};
 ghost use Rattle.tape.specs.Steps.{row};
-ghost use Rattle.bus.specs.Transfer.{incoming, outgoing, placeAfter, dataPlace, arm, readyData, orderData, startData, waitData, receive, closeGate, ofMany, stopTransmission, endData, transferData, blockingData};
+ghost use Rattle.bus.specs.Transfer.{incoming, outgoing, place_after, data_place, arm, ready_data, order_data, start_data, wait_data, receive, close_gate, of_many, stop_transmission, end_data, transfer_data, blocking_data};
 
 use crate::response::Response;
 use crate::{command, poll, ready};
@@ -27,7 +27,7 @@ pub struct Transfer {
 
 // Readies the data path.
 fn arm(p: Progress, rows: &mut [u64], timeout: u32, transfer: Transfer) -> Progress
-    ensures { (s : List ℕ) → Did s (arm timeout transfer) (at p (rowsIn rows.old)) (at result (rowsIn rows.new)) }
+    ensures { (s : List ℕ) → Did s (arm timeout transfer) (at p (rows_in rows.old)) (at result (rows_in rows.new)) }
 {
     let bytes = 4 * transfer.words as u32;
     let dctrl2 = rows::write_row(p, rows, Row::DCTRL2, 0);
@@ -44,7 +44,7 @@ fn ready_data(
     config: Config,
     transfer: Transfer,
 ) -> Progress
-    ensures { Did script.now (readyData config transfer) (at p (rowsIn rows.old)) (at result (rowsIn rows.new)) }
+    ensures { Did script.now (ready_data config transfer) (at p (rows_in rows.old)) (at result (rows_in rows.new)) }
 {
     let rest = script::rest(script, p.used);
     let idle = steps::wait_idle(p, rest, config.poll_limit, true);
@@ -53,7 +53,7 @@ fn ready_data(
 
 // The data path on, with its direction.
 fn control(p: Progress, rows: &mut [u64], reading: bool, transfer: Transfer) -> Progress
-    ensures { (s : List ℕ) → Did s (row DCTRL (dctrlOf reading transfer.block_size)) (at p (rowsIn rows.old)) (at result (rowsIn rows.new)) }
+    ensures { (s : List ℕ) → Did s (row DCTRL (dctrl_of reading transfer.block_size)) (at p (rows_in rows.old)) (at result (rows_in rows.new)) }
 {
     let value = rows::dctrl(reading, transfer.block_size);
     rows::write_row(p, rows, Row::DCTRL, value)
@@ -67,7 +67,7 @@ fn order_data(
     config: Config,
     transfer: Transfer,
 ) -> Progress
-    ensures { Did script.now (orderData config transfer) (at p (rowsIn rows.old)) (at result (rowsIn rows.new)) }
+    ensures { Did script.now (order_data config transfer) (at p (rows_in rows.old)) (at result (rows_in rows.new)) }
 {
     let open = steps::set_clken(p, rows, true);
     let left = script::rest(script, open.used);
@@ -91,7 +91,7 @@ fn start_data(
     config: Config,
     transfer: Transfer,
 ) -> Progress
-    ensures { Did script.now (startData config incoming transfer) (at p (rowsIn rows.old)) (at result (rowsIn rows.new)) }
+    ensures { Did script.now (start_data config incoming transfer) (at p (rows_in rows.old)) (at result (rows_in rows.new)) }
 {
     let ready = ready_data(p, script, rows, config, transfer);
     let armed = control(ready, rows, true, transfer);
@@ -108,7 +108,7 @@ fn start_sending(
     data: &[u8],
 ) -> Progress
     requires { transfer.words ≡ 128 * (length «data».now / 512) }
-    ensures { Did script.now (startData config (outgoing (words_of «data».now)) transfer) (at p (rowsIn rows.old)) (at result (rowsIn rows.new)) }
+    ensures { Did script.now (start_data config (outgoing (words_of «data».now)) transfer) (at p (rows_in rows.old)) (at result (rows_in rows.new)) }
 {
     let ready = ready_data(p, script, rows, config, transfer);
     let told = order_data(ready, script, rows, config, transfer);
@@ -119,7 +119,7 @@ fn start_sending(
 // Waits until the transfer is complete, and takes its words.
 fn receive(p: Progress, script: &[u32], limit: u32, count: u16) -> Data
     ensures took { (l : List Row) → Gave script.now (List ℕ) [] (receive limit incoming count) (at p l) (take result.count (drop result.place script.now)) (at result.progress l) }
-    ensures lie { (l : List Row) → Lies (placeAfter script.now (waitData limit) (at p l)) count result }
+    ensures lie { (l : List Row) → Lies (place_after script.now (wait_data limit) (at p l)) count result }
 {
     let start = p.used;
     let rest = script::rest(script, start);
@@ -129,7 +129,7 @@ fn receive(p: Progress, script: &[u32], limit: u32, count: u16) -> Data
 
 // Closes the card clock of a gated host.
 fn close_gate(p: Progress, rows: &mut [u64]) -> Progress
-    ensures { (s : List ℕ) → Did s closeGate (at p (rowsIn rows.old)) (at result (rowsIn rows.new)) }
+    ensures { (s : List ℕ) → Did s close_gate (at p (rows_in rows.old)) (at result (rows_in rows.new)) }
 {
     if p.line.gated {
         steps::set_clken(p, rows, false)
@@ -140,7 +140,7 @@ fn close_gate(p: Progress, rows: &mut [u64]) -> Progress
 
 // Whether a command moves many blocks, until it is told to stop.
 pub fn of_many(index: u8) -> bool
-    ensures { result ≡ ofMany index }
+    ensures { result ≡ of_many index }
 {
     if index == 18 { true } else { index == 25 }
 }
@@ -153,7 +153,7 @@ fn stop_transmission(
     limit: u32,
     index: u8,
 ) -> Progress
-    ensures { Did script.now (stopTransmission limit index) (at p (rowsIn rows.old)) (at result (rowsIn rows.new)) }
+    ensures { Did script.now (stop_transmission limit index) (at p (rows_in rows.old)) (at result (rows_in rows.new)) }
 {
     if of_many(index) {
         let told = command::send(p, script, rows, limit, 12, 0, Response::R1);
@@ -173,7 +173,7 @@ fn end_data(
     index: u8,
     rca: u16,
 ) -> Progress
-    ensures { Did script.now (endData source.0 config index rca) (at p (rowsIn rows.old)) (at result (rowsIn rows.new)) }
+    ensures { Did script.now (end_data source.0 config index rca) (at p (rows_in rows.old)) (at result (rows_in rows.new)) }
 {
     let stopped = steps::stop_data(p, rows);
     let closed = close_gate(stopped, rows);
@@ -191,8 +191,8 @@ fn transfer_data(
     transfer: Transfer,
     rca: u16,
 ) -> Data
-    ensures gave { Gave script.now (List ℕ) [] (transferData source.0 config incoming transfer rca) (at p (rowsIn rows.old)) (take result.count (drop result.place script.now)) (at result.progress (rowsIn rows.new)) }
-    ensures lie { Lies (dataPlace script.now config transfer (at p (rowsIn rows.old))) transfer.words result }
+    ensures gave { Gave script.now (List ℕ) [] (transfer_data source.0 config incoming transfer rca) (at p (rows_in rows.old)) (take result.count (drop result.place script.now)) (at result.progress (rows_in rows.new)) }
+    ensures lie { Lies (data_place script.now config transfer (at p (rows_in rows.old))) transfer.words result }
 {
     let started = start_data(p, script, rows, config, transfer);
     let taken = receive(started, script, config.poll_limit, transfer.words);
@@ -218,8 +218,8 @@ pub fn blocking_data(
     transfer: Transfer,
     rca: u16,
 ) -> Data
-    ensures gave { Gave script.now (List ℕ) [] (blockingData source.0 config incoming transfer rca) (at p (rowsIn rows.old)) (take result.count (drop result.place script.now)) (at result.progress (rowsIn rows.new)) }
-    ensures lie { Lies (dataPlace script.now config transfer (at p (rowsIn rows.old))) transfer.words result }
+    ensures gave { Gave script.now (List ℕ) [] (blocking_data source.0 config incoming transfer rca) (at p (rows_in rows.old)) (take result.count (drop result.place script.now)) (at result.progress (rows_in rows.new)) }
+    ensures lie { Lies (data_place script.now config transfer (at p (rows_in rows.old))) transfer.words result }
 {
     let pace = p.pace;
     match pace {
@@ -260,7 +260,7 @@ fn send_data(
     data: &[u8],
 ) -> Progress
     requires { transfer.words ≡ 128 * (length «data».now / 512) }
-    ensures { Gave script.now (List ℕ) [] (transferData source.0 config (outgoing (words_of «data».now)) transfer rca) (at p (rowsIn rows.old)) [] (at result (rowsIn rows.new)) }
+    ensures { Gave script.now (List ℕ) [] (transfer_data source.0 config (outgoing (words_of «data».now)) transfer rca) (at p (rows_in rows.old)) [] (at result (rows_in rows.new)) }
 {
     let limit = config.poll_limit;
     let sent = start_sending(p, script, rows, config, transfer, data);
@@ -281,7 +281,7 @@ pub fn blocking_send(
     data: &[u8],
 ) -> Progress
     requires { transfer.words ≡ 128 * (length «data».now / 512) }
-    ensures { Gave script.now (List ℕ) [] (blockingData source.0 config (outgoing (words_of «data».now)) transfer rca) (at p (rowsIn rows.old)) [] (at result (rowsIn rows.new)) }
+    ensures { Gave script.now (List ℕ) [] (blocking_data source.0 config (outgoing (words_of «data».now)) transfer rca) (at p (rows_in rows.old)) [] (at result (rows_in rows.new)) }
 {
     let pace = p.pace;
     match pace {

@@ -15,7 +15,7 @@ use Rattle.types.specs.declared.clock.ClockAnswer.{ClockAnswer}
 use Rattle.types.specs.declared.clock.ClockAnswer.TheVariants as Clocked
 use Rattle.types.specs.declared.error.Answer.TheVariants as Answered
 use Rattle.types.specs.declared.error.Error.TheVariants as E
-use Rattle.types.specs.Leaf.{clockOf}
+use Rattle.types.specs.Leaf.{clock_of}
 use Rattle.types.specs.Sd.{Counts, Protects}
 use Rattle.types.specs.Words.{words_of}
 use Rattle.tape.specs.declared.progress.Halt.TheVariants.{Refused, ScriptEnded, TraceFull}
@@ -29,26 +29,26 @@ use Rattle.tape.proofs.Laws.{by_cases}
 use Rattle.bus.specs.Transfer.{Buffer, incoming, outgoing}
 use Rattle.init.specs.declared.settings.Settings.{Settings}
 use Rattle.init.specs.Initialise as I
-use Rattle.init.specs.Initialise.{source_of, noCard}
+use Rattle.init.specs.Initialise.{source_of, no_card}
 use Rattle.init.proofs.Found.{Found}
 use Rattle.refusals.proofs.InitRefusals.{found}
 use Rattle.host.specs.declared.host.Sdmmc.{Sdmmc}
-use Rattle.host.specs.Calls.{Came, freshLine, hostOf, held_of, holding, dropped, kept, ends, untouched, initFrom, initialised, made}
-use Rattle.host.specs.Calls.{transferred, approached, served, blocks_from, blocksJudged, sends, blocksCame, blocksNext, blocksPlan, withStatus, statusNext, statusPlan, statusFrom, statusCame}
-use Rattle.calls.specs.Serve.{Call, initialise, read, write, status, comes, serve, holds, holdsNone}
+use Rattle.host.specs.Calls.{Came, fresh_line, host_of, held_of, holding, dropped, kept, ends, untouched, init_from, initialised, made}
+use Rattle.host.specs.Calls.{transferred, approached, served, blocks_from, blocks_judged, sends, blocks_came, blocks_next, blocks_plan, with_status, status_next, status_plan, status_from, status_came}
+use Rattle.calls.specs.Serve.{Call, initialise, read, write, status, comes, serve, holds, holds_none}
 use Rattle.calls.proofs.AnyList.{made-host}
 
 -- a status changes no flag
-same_flags : (card : Card) (st : List ℕ) → Protects card → Protects (withStatus card st)
+same_flags : (card : Card) (st : List ℕ) → Protects card → Protects (with_status card st)
 same_flags card st p = record { permanent = p.permanent; temporary = p.temporary }
 
-module _ (P : Card → Type 0) (finds : (card : Card) → Found card → P card) (stays : (card : Card) (st : List ℕ) → P card → P (withStatus card st)) where
+module _ (P : Card → Type 0) (finds : (card : Card) → Found card → P card) (stays : (card : Card) (st : List ℕ) → P card → P (with_status card st)) where
   -- of the record that a host holds, and that it is no card's where it holds none
   record Has (host : Sdmmc) : Type 0 where
     pub holds : host.known ≡ true → P host.card
-    pub blank : host.known ≡ false → host.card ≡ noCard
+    pub blank : host.known ≡ false → host.card ≡ no_card
 
-  has-none : (set : Settings) (line : Line) → Has (hostOf set line false noCard)
+  has-none : (set : Settings) (line : Line) → Has (host_of set line false no_card)
   has-none set line = record { holds = λ e. let z : ◌≡◌ {A = ℕ} 0 1 = cc in absurd (omega arith); blank = λ e. refl }
 
   has_one : (host : Sdmmc) (w : State) {card : Card} → P card → Has (holding host w card)
@@ -63,16 +63,16 @@ module _ (P : Card → Type 0) (finds : (card : Card) → Found card → P card)
   has-at host refused accepted words (Stopped TraceFull) w h r a = h
 
   module _ (host : Sdmmc) (h : Has host) (s : List ℕ) (l : List Row) where
-    init-has : (frequency : ℕ) → Has (initialised host frequency s l).host
-    unfolding initialised initFrom
-    init-has frequency =
+    init_has : (frequency : ℕ) → Has (initialised host frequency s l).host
+    unfolding initialised init_from
+    init_has frequency =
         by_cases (λ (x : Came). Has x.host) (eqb frequency 0 || ltb 50_000_000 frequency) _ _ h
-        (by (clockOf (source_of host.settings) 400_000 false))
+        (by (clock_of (source_of host.settings) 400_000 false))
       where
-        by : (a : ClockAnswer) → Has (initFrom host frequency a s l).host
+        by : (a : ClockAnswer) → Has (init_from host frequency a s l).host
         by (Clocked.Refused e) = h
         by (Clocked.Set c) =
-            let x = run s noCard (I.initialise host.settings c frequency) 0 0 (freshLine c.frequency) l in
+            let x = run s no_card (I.initialise host.settings c frequency) 0 0 (fresh_line c.frequency) l in
             has-at host (dropped host x.state) (holding host x.state x.value) [] x.state.progress.pace x.state h (has-none _ _)
             (λ g. has_one host x.state (finds x.value (found s host.settings c frequency l g)))
 
@@ -94,25 +94,25 @@ module _ (P : Card → Type 0) (finds : (card : Card) → Found card → P card)
             (λ _. n x.state x.value)
         by (Stopped e) = has-at host (kept host w) host [] (Stopped e) w h (has_kept w) (λ _. h)
 
-    status-has : Has (statusCame host s l).host
-    unfolding statusCame
+    status-has : Has (status_came host s l).host
+    unfolding status_came
     status-has = by host.known refl
       where
-        by : (b : Bool) → host.known ≡ b → Has (cond b (statusFrom host s l) (untouched host E.NoCard l)).host
-        by true k = served-has _ (statusPlan host) (statusNext host) (λ w ws. has_one host w (stays host.card _ (h.holds k)))
+        by : (b : Bool) → host.known ≡ b → Has (cond b (status_from host s l) (untouched host E.NoCard l)).host
+        by true k = served-has _ (status_plan host) (status_next host) (λ w ws. has_one host w (stays host.card _ (h.holds k)))
         by false k = h
 
-    blocks-has : (buffer : Buffer) (index bytes : ℕ) → Has (blocksCame host buffer index bytes s l).host
-    unfolding blocksCame blocks_from
-    blocks-has buffer index bytes = by (blocksJudged host (sends buffer) index bytes)
+    blocks-has : (buffer : Buffer) (index bytes : ℕ) → Has (blocks_came host buffer index bytes s l).host
+    unfolding blocks_came blocks_from
+    blocks-has buffer index bytes = by (blocks_judged host (sends buffer) index bytes)
       where
         by : (a : AddressAnswer) → Has (blocks_from host buffer (bytes / 512) a s l).host
         by (Address.Refused e) = h
-        by (Address.Address a) = served-has _ (blocksPlan host buffer a (bytes / 512)) (blocksNext host) (λ w ws. has_kept w)
+        by (Address.Address a) = served-has _ (blocks_plan host buffer a (bytes / 512)) (blocks_next host) (λ w ws. has_kept w)
 
   comes-has : (host : Sdmmc) → Has host → (c : Call) → Has (comes host c).host
   unfolding comes
-  comes-has host h (initialise frequency s l) = init-has host h s l frequency
+  comes-has host h (initialise frequency s l) = init_has host h s l frequency
   comes-has host h (read index bytes s l) = blocks-has host h s l incoming index bytes
   comes-has host h (write index bytes s l) = blocks-has host h s l (outgoing (words_of bytes)) index (length bytes)
   comes-has host h (status s l) = status-has host h s l
@@ -134,7 +134,7 @@ module _ (P : Card → Type 0) (finds : (card : Card) → Found card → P card)
       end : Sdmmc
       end = (serve (made set).host cs).host
 
-      by : (b : Bool) → end.known ≡ b → (cond b (holds end.card) holdsNone).answer ≡ Answered.Accepted → P (cond b (holds end.card) holdsNone).card
+      by : (b : Bool) → end.known ≡ b → (cond b (holds end.card) holds_none).answer ≡ Answered.Accepted → P (cond b (holds end.card) holds_none).card
       by true k r = (after set ok cs).holds k
       by false k r = let z : ◌≡◌ {A = ℕ} 0 1 = cc in absurd (omega arith)
 
@@ -158,5 +158,5 @@ module _ (set : Settings) (ok : (made set).answer ≡ Answered.Accepted) (cs : L
       by false k = rw (flagged.blank k) (record { permanent = refl; temporary = refl })
 
   -- and where none is held they are zeros, as all of the record is.
-  pub none-held : end.known ≡ false → end.card ≡ noCard
+  pub none-held : end.known ≡ false → end.card ≡ no_card
   none-held = (after Protects (λ card f. f.protects) same_flags set ok cs).blank

@@ -6,10 +6,10 @@ use Rattle.std.proofs.Math.Option.{Option, none, some}
 use Rattle.types.specs.declared.card.Card.{Card}
 use Rattle.types.specs.declared.error.Answer.{Answer}
 use Rattle.types.specs.declared.error.Answer.TheVariants as Answered
-use Rattle.types.specs.Words.{sdStatusOf}
+use Rattle.types.specs.Words.{sd_status_of}
 use Rattle.host.specs.declared.host.Held.{Held}
-use Rattle.host.specs.Calls.{withStatus}
-use Rattle.calls.specs.Serve.{Call, initialise, read, write, status, Told, holds, holdsNone, allowed}
+use Rattle.host.specs.Calls.{with_status}
+use Rattle.calls.specs.Serve.{Call, initialise, read, write, status, Told, holds, holds_none, allowed}
 
 unfoldable pub accepted : Answer → Bool
 accepted Answered.Accepted = true
@@ -34,11 +34,11 @@ initialises (write index bytes s l) answer = false
 initialises (status s l) answer = false
 
 -- an accepted status read
-unfoldable pub readsStatus : Call → Answer → Bool
-readsStatus (initialise frequency s l) answer = false
-readsStatus (read index bytes s l) answer = false
-readsStatus (write index bytes s l) answer = false
-readsStatus (status s l) answer = accepted answer
+unfoldable pub reads_status : Call → Answer → Bool
+reads_status (initialise frequency s l) answer = false
+reads_status (read index bytes s l) answer = false
+reads_status (write index bytes s l) answer = false
+reads_status (status s l) answer = accepted answer
 
 -- 'an initialisation of allowed frequency, or a call whose data phase had begun, was refused'
 unfoldable pub loses : Call → Answer → Bool → Bool
@@ -48,18 +48,18 @@ loses (write index bytes s l) answer begun = refused answer && begun
 loses (status s l) answer begun = refused answer && begun
 
 -- the record of the last accepted initialisation, and the calls since it
-unfoldable pub lastRecord : List Told → Option Card
-lastRecord [] = none
-lastRecord (t ∷ earlier) = cond (initialises t.call t.answer) (some t.found) (lastRecord earlier)
+unfoldable pub last_record : List Told → Option Card
+last_record [] = none
+last_record (t ∷ earlier) = cond (initialises t.call t.answer) (some t.found) (last_record earlier)
 
 unfoldable pub since : List Told → List Told
 since [] = []
 since (t ∷ earlier) = cond (initialises t.call t.answer) [] (t ∷ since earlier)
 
 -- among these: the status of the last accepted status read, or zero; and whether the record was lost
-unfoldable pub lastStatus : List Told → List ℕ
-lastStatus [] = replicate 16 0
-lastStatus (t ∷ earlier) = cond (readsStatus t.call t.answer) (sdStatusOf t.taken) (lastStatus earlier)
+unfoldable pub last_status : List Told → List ℕ
+last_status [] = replicate 16 0
+last_status (t ∷ earlier) = cond (reads_status t.call t.answer) (sd_status_of t.taken) (last_status earlier)
 
 unfoldable pub lost : List Told → Bool
 lost [] = false
@@ -67,15 +67,15 @@ lost (t ∷ earlier) = loses t.call t.answer t.begun || lost earlier
 
 -- 'The record held is that of the last accepted initialisation, its status that of the last accepted status read since, or
 -- zero. There is none before the first, nor once ..'
-unfoldable pub dueOf : Option Card → List Told → Held
-dueOf none ts = holdsNone
-dueOf (some card) ts = cond (lost ts) holdsNone (holds (withStatus card (lastStatus ts)))
+unfoldable pub due_of : Option Card → List Told → Held
+due_of none ts = holds_none
+due_of (some card) ts = cond (lost ts) holds_none (holds (with_status card (last_status ts)))
 
 -- THE RECORD DUE
 abbrev pub due : List Told → Held
-due ts = dueOf (lastRecord ts) (since ts)
+due ts = due_of (last_record ts) (since ts)
 
 -- what the calls of a host have come to, and not every list of outcomes: no status read is accepted where no record is held
 unfoldable pub Possible : List Told → Type 0
 Possible [] = Unit {0}
-Possible (t ∷ earlier) = (readsStatus t.call t.answer ≡ true → (due earlier).answer ≡ Answered.Accepted) × Possible earlier
+Possible (t ∷ earlier) = (reads_status t.call t.answer ≡ true → (due earlier).answer ≡ Answered.Accepted) × Possible earlier

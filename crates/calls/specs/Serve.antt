@@ -11,22 +11,22 @@ use Rattle.types.specs.declared.clock.ClockAnswer.TheVariants as Clocked
 use Rattle.types.specs.declared.error.Answer.{Answer}
 use Rattle.types.specs.declared.error.Answer.TheVariants as Answered
 use Rattle.types.specs.declared.error.Error.TheVariants as E
-use Rattle.types.specs.Leaf.{clockOf}
-use Rattle.types.specs.Words.{sdStatusOf}
+use Rattle.types.specs.Leaf.{clock_of}
+use Rattle.types.specs.Words.{sd_status_of}
 use Rattle.tape.specs.declared.progress.Line.{Line}
 use Rattle.tape.specs.declared.progress.Pace.{Pace}
 use Rattle.tape.specs.declared.progress.Pace.TheVariants.{Going, Stopped}
 use Rattle.tape.specs.declared.rows.Row.{Row}
 use Rattle.tape.specs.Plan.{Nothing, Plan}
 use Rattle.tape.specs.Run.{run}
-use Rattle.bus.specs.Command.{appCommand}
-use Rattle.bus.specs.Ready.{waitReady}
+use Rattle.bus.specs.Command.{app_command}
+use Rattle.bus.specs.Ready.{wait_ready}
 use Rattle.init.specs.declared.settings.Settings.{Settings}
 use Rattle.init.specs.Initialise as I
-use Rattle.init.specs.Initialise.{source_of, limitOf, noCard}
+use Rattle.init.specs.Initialise.{source_of, limit_of, no_card}
 use Rattle.host.specs.declared.host.Held.{Held}
 use Rattle.host.specs.declared.host.Sdmmc.{Sdmmc}
-use Rattle.host.specs.Calls.{Came, freshLine, initialised, blocksJudged, readCame, writeCame, statusCame, withStatus}
+use Rattle.host.specs.Calls.{Came, fresh_line, initialised, blocks_judged, read_came, write_came, status_came, with_status}
 
 -- a call: what is asked, its script, and its row list
 pub data Call : Type 0 where
@@ -38,9 +38,9 @@ pub data Call : Type 0 where
 -- what it comes to on a host: what the contract of its method says
 unfoldable pub comes : Sdmmc → Call → Came
 comes host (initialise frequency s l) = initialised host frequency s l
-comes host (read index bytes s l) = readCame host index bytes s l
-comes host (write index bytes s l) = writeCame host index bytes s l
-comes host (status s l) = statusCame host s l
+comes host (read index bytes s l) = read_came host index bytes s l
+comes host (write index bytes s l) = write_came host index bytes s l
+comes host (status s l) = status_came host s l
 
 -- a list of calls, each on the host that the one before it left: what each came to, and the last host
 pub record Served : Type 0 where
@@ -58,14 +58,14 @@ serve host (c ∷ cs) =
 
 -- the record that an initialisation gave: its plan takes the settings and the asked frequency alone
 unfoldable pub found_from : Settings → ℕ → ClockAnswer → List ℕ → List Row → Card
-found_from set frequency (Clocked.Refused e) s l = noCard
-found_from set frequency (Clocked.Set c) s l = (run s noCard (I.initialise set c frequency) 0 0 (freshLine c.frequency) l).value
+found_from set frequency (Clocked.Refused e) s l = no_card
+found_from set frequency (Clocked.Set c) s l = (run s no_card (I.initialise set c frequency) 0 0 (fresh_line c.frequency) l).value
 
-unfoldable pub foundBy : Settings → Call → Card
-foundBy set (initialise frequency s l) = found_from set frequency (clockOf (source_of set) 400_000 false) s l
-foundBy set (read index bytes s l) = noCard
-foundBy set (write index bytes s l) = noCard
-foundBy set (status s l) = noCard
+unfoldable pub found_by : Settings → Call → Card
+found_by set (initialise frequency s l) = found_from set frequency (clock_of (source_of set) 400_000 false) s l
+found_by set (read index bytes s l) = no_card
+found_by set (write index bytes s l) = no_card
+found_by set (status s l) = no_card
 
 -- the place before a data phase: the ready wait of a read or a write, and CMD55 of a status call, end there
 pub data Approach : Type 0 where
@@ -74,17 +74,17 @@ pub data Approach : Type 0 where
 
 abbrev pub addressed : Sdmmc → AddressAnswer → Approach
 addressed host (Address.Refused e) = none
-addressed host (Address.Address a) = approach (waitReady (source_of host.settings) host.settings.config host.card.rca)
+addressed host (Address.Address a) = approach (wait_ready (source_of host.settings) host.settings.config host.card.rca)
 
 -- of so many bytes from a block on, sent or not
-unfoldable pub blocksApproach : Sdmmc → Bool → ℕ → ℕ → Approach
-blocksApproach host sends index bytes = addressed host (blocksJudged host sends index bytes)
+unfoldable pub blocks_approach : Sdmmc → Bool → ℕ → ℕ → Approach
+blocks_approach host sends index bytes = addressed host (blocks_judged host sends index bytes)
 
-unfoldable pub approachOf : Sdmmc → Call → Approach
-approachOf host (initialise frequency s l) = none
-approachOf host (read index bytes s l) = blocksApproach host false index bytes
-approachOf host (write index bytes s l) = blocksApproach host true index (length bytes)
-approachOf host (status s l) = cond host.known (approach (appCommand (limitOf host.settings) host.card.rca)) none
+unfoldable pub approach_of : Sdmmc → Call → Approach
+approach_of host (initialise frequency s l) = none
+approach_of host (read index bytes s l) = blocks_approach host false index bytes
+approach_of host (write index bytes s l) = blocks_approach host true index (length bytes)
+approach_of host (status s l) = cond host.known (approach (app_command (limit_of host.settings) host.card.rca)) none
 
 unfoldable pub going : Pace → Bool
 going Going = true
@@ -96,10 +96,10 @@ passed (approach p) line s l = going (run s (tt {0}) p 0 0 line l).state.progres
 
 -- whether a call's data phase had begun: its plan was run past that place
 unfoldable pub begun : Sdmmc → Call → Bool
-begun host (initialise frequency s l) = passed (approachOf host (initialise frequency s l)) host.line s l
-begun host (read index bytes s l) = passed (approachOf host (read index bytes s l)) host.line s l
-begun host (write index bytes s l) = passed (approachOf host (write index bytes s l)) host.line s l
-begun host (status s l) = passed (approachOf host (status s l)) host.line s l
+begun host (initialise frequency s l) = passed (approach_of host (initialise frequency s l)) host.line s l
+begun host (read index bytes s l) = passed (approach_of host (read index bytes s l)) host.line s l
+begun host (write index bytes s l) = passed (approach_of host (write index bytes s l)) host.line s l
+begun host (status s l) = passed (approach_of host (status s l)) host.line s l
 
 -- a call's outcome: its answer, whether its data phase had begun, the record it found, the data words it took
 pub record Told : Type 0 where
@@ -109,34 +109,34 @@ pub record Told : Type 0 where
   pub found : Card
   pub taken : List ℕ
 
-abbrev pub toldOf : Sdmmc → Call → Told
-toldOf host c =
+abbrev pub told_of : Sdmmc → Call → Told
+told_of host c =
     record {
       call = c;
       answer = (comes host c).answer;
       begun = begun host c;
-      found = foundBy host.settings c;
+      found = found_by host.settings c;
       taken = (comes host c).taken;
     }
 
 -- the answer that is left out
-unfoldable pub leftOut : Answer → Bool
-leftOut Answered.Accepted = false
-leftOut (Answered.Refused e) = false
-leftOut Answered.ScriptEnded = false
-leftOut Answered.TraceFull = true
-leftOut Answered.BadBook = false
+unfoldable pub left_out : Answer → Bool
+left_out Answered.Accepted = false
+left_out (Answered.Refused e) = false
+left_out Answered.ScriptEnded = false
+left_out Answered.TraceFull = true
+left_out Answered.BadBook = false
 
 -- what a call came to on another host, as this one's: TraceFull leaves this host as it was, any other answer the same host
-abbrev pub asNew : Sdmmc → Came → Came
-asNew host y =
+abbrev pub as_new : Sdmmc → Came → Came
+as_new host y =
     record {
       answer = y.answer;
       words = y.words;
       rows = y.rows;
       list = y.list;
       taken = y.taken;
-      host = cond (leftOut y.answer) host y.host;
+      host = cond (left_out y.answer) host y.host;
     }
 
 -- the same clock, signalling and gate
@@ -150,21 +150,21 @@ unfoldable pub remaining : Sdmmc → List Call → List Call
 remaining host [] = []
 remaining host (c ∷ cs) =
     let rest = remaining (comes host c).host cs in
-    cond (leftOut (comes host c).answer) rest (c ∷ rest)
+    cond (left_out (comes host c).answer) rest (c ∷ rest)
 
 unfoldable pub counted : List Came → List Came
 counted [] = []
-counted (x ∷ xs) = cond (leftOut x.answer) (counted xs) (x ∷ counted xs)
+counted (x ∷ xs) = cond (left_out x.answer) (counted xs) (x ∷ counted xs)
 
 -- the calls of a list with their outcomes, but for those left out, the latest in front, on top of those before
 unfoldable pub history : List Told → Sdmmc → List Call → List Told
 history past host [] = past
-history past host (c ∷ cs) = history (cond (leftOut (comes host c).answer) past (toldOf host c ∷ past)) (comes host c).host cs
+history past host (c ∷ cs) = history (cond (left_out (comes host c).answer) past (told_of host c ∷ past)) (comes host c).host cs
 
 -- The record expected: from calls and outcomes, without a host.
 
-abbrev pub holdsNone : Held
-holdsNone = record { answer = Answered.Refused E.NoCard; card = noCard }
+abbrev pub holds_none : Held
+holds_none = record { answer = Answered.Refused E.NoCard; card = no_card }
 
 abbrev pub holds : Card → Held
 holds card = record { answer = Answered.Accepted; card = card }
@@ -175,29 +175,29 @@ allowed frequency = not (eqb frequency 0 || ltb 50_000_000 frequency)
 
 -- after an initialisation: that of an accepted one, with status zero; none once one of allowed frequency was refused, or its
 -- script ended
-unfoldable pub afterInitialise : ℕ → Answer → Card → Held → Held
-afterInitialise frequency Answered.Accepted found before = holds (withStatus found (replicate 16 0))
-afterInitialise frequency (Answered.Refused e) found before = cond (allowed frequency) holdsNone before
-afterInitialise frequency Answered.ScriptEnded found before = cond (allowed frequency) holdsNone before
-afterInitialise frequency Answered.TraceFull found before = before
-afterInitialise frequency Answered.BadBook found before = before
+unfoldable pub after_initialise : ℕ → Answer → Card → Held → Held
+after_initialise frequency Answered.Accepted found before = holds (with_status found (replicate 16 0))
+after_initialise frequency (Answered.Refused e) found before = cond (allowed frequency) holds_none before
+after_initialise frequency Answered.ScriptEnded found before = cond (allowed frequency) holds_none before
+after_initialise frequency Answered.TraceFull found before = before
+after_initialise frequency Answered.BadBook found before = before
 
 -- after a call with a data phase: none once one was refused, or its script ended, whose data phase had begun
-unfoldable pub afterData : Answer → Bool → Held → Held → Held
-afterData Answered.Accepted begun accepted before = accepted
-afterData (Answered.Refused e) begun accepted before = cond begun holdsNone before
-afterData Answered.ScriptEnded begun accepted before = cond begun holdsNone before
-afterData Answered.TraceFull begun accepted before = before
-afterData Answered.BadBook begun accepted before = before
+unfoldable pub after_data : Answer → Bool → Held → Held → Held
+after_data Answered.Accepted begun accepted before = accepted
+after_data (Answered.Refused e) begun accepted before = cond begun holds_none before
+after_data Answered.ScriptEnded begun accepted before = cond begun holds_none before
+after_data Answered.TraceFull begun accepted before = before
+after_data Answered.BadBook begun accepted before = before
 
 unfoldable pub after_call : Call → Told → Held → Held
-after_call (initialise frequency s l) t before = afterInitialise frequency t.answer t.found before
-after_call (read index bytes s l) t before = afterData t.answer t.begun before before
-after_call (write index bytes s l) t before = afterData t.answer t.begun before before
+after_call (initialise frequency s l) t before = after_initialise frequency t.answer t.found before
+after_call (read index bytes s l) t before = after_data t.answer t.begun before before
+after_call (write index bytes s l) t before = after_data t.answer t.begun before before
 after_call (status s l) t before =
-    afterData t.answer t.begun (record { answer = before.answer; card = withStatus before.card (sdStatusOf t.taken) }) before
+    after_data t.answer t.begun (record { answer = before.answer; card = with_status before.card (sd_status_of t.taken) }) before
 
 -- 'none before the first'
 unfoldable pub expected : List Told → Held
-expected [] = holdsNone
+expected [] = holds_none
 expected (t ∷ earlier) = after_call t.call t (expected earlier)

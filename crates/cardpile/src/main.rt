@@ -2,7 +2,7 @@
 // what cardtrace prints of it. One book is held at a time, so a pile may be of any size.
 ghost use Rattle.std.specs.Prelude.{false, ◌≡◌};
 ghost use Rattle.text.specs.Ink.{Laid};
-ghost use Rattle.cardpile.specs.Said.{bookLine, endText};
+ghost use Rattle.cardpile.specs.Said.{book_line, end_text};
 
 use desk::pile::Next;
 use desk::room::{Program, Room};
@@ -12,7 +12,7 @@ use text::pen;
 
 // Lays in the line in front of a book.
 fn lay_book(k: u64, out: &mut [u8]) -> usize
-    ensures { Laid 0 (bookLine k) out.old result out.new }
+    ensures { Laid 0 (book_line k) out.old result out.new }
 {
     let named = pen::put(out, 0, b"book ");
     let counted = pen::put_decimal(out, named, k);
@@ -26,7 +26,7 @@ fn put_book(k: u64, out: &mut [u8]) -> bool {
 
 // Lays in what is said where no book comes next.
 fn lay_end(next: Next, out: &mut [u8]) -> usize
-    ensures { Laid 0 (endText next) out.old result out.new }
+    ensures { Laid 0 (end_text next) out.old result out.new }
 {
     match next {
         Next::Book(_) => 0,

@@ -6,12 +6,12 @@ use native.Mathlib.Omega.{arith}
 use lib.ListN.{length, take, drop}
 use lib.Seq.{take_all, take_at}
 use Rattle.text.specs.Ink.{Laid, inked, next}
-use Rattle.text.proofs.Ink.{ink-nil, next-nil}
+use Rattle.text.proofs.Ink.{ink_nil, next_nil}
 use Rattle.desk.specs.declared.room.Wish.{Wish}
 use Rattle.desk.specs.declared.room.Wish.TheVariants as W
 use Rattle.desk.specs.declared.room.Program.{Program}
 use Rattle.desk.specs.declared.room.Program.TheVariants.{Cardtrace, Cardpile, Cardsteps}
-use Rattle.desk.specs.Refusal.{refusalText}
+use Rattle.desk.specs.Refusal.{refusal_text}
 
 -- a text that fits is laid in whole
 pub whole : {text before after : List ℕ} {place : ℕ} → Laid 0 text before place after → length text ≤ length before → take place after ≡ text
@@ -23,10 +23,10 @@ whole {text} {before} {after} {place} laid h =
 
 -- no text is laid in by leaving all as it is
 pub nothing : (buffer : List ℕ) → Laid 0 [] buffer 0 buffer
-nothing buffer = record { placed = rw next-nil (omega arith); laid = sym (ink-nil 0 buffer) }
+nothing buffer = record { placed = rw next_nil (omega arith); laid = sym (ink_nil 0 buffer) }
 
-pub fits : (program : Program) (wish : Wish) → length (refusalText program wish) ≤ 64
-unfolding refusalText
+pub fits : (program : Program) (wish : Wish) → length (refusal_text program wish) ≤ 64
+unfolding refusal_text
 fits program (W.Rows n) = omega arith
 fits Cardtrace W.TooMany = omega arith
 fits Cardtrace W.NoRoom = omega arith
@@ -36,6 +36,6 @@ fits Cardsteps W.TooMany = omega arith
 fits Cardsteps W.NoRoom = omega arith
 
 -- so the line is laid in whole
-pub said : (program : Program) (wish : Wish) {before after : List ℕ} {place : ℕ} → 64 ≤ length before → Laid 0 (refusalText program wish) before place after
-    → (take place after ≡ refusalText program wish) × Laid 0 (refusalText program wish) before place after
+pub said : (program : Program) (wish : Wish) {before after : List ℕ} {place : ℕ} → 64 ≤ length before → Laid 0 (refusal_text program wish) before place after
+    → (take place after ≡ refusal_text program wish) × Laid 0 (refusal_text program wish) before place after
 said program wish room laid = (whole laid (omega (arith, fits program wish)), laid)

@@ -13,11 +13,11 @@ use Rattle.desk.specs.declared.room.Room.{Room}
 use Rattle.desk.specs.declared.room.Room.TheVariants.{Rows, Bad}
 use Rattle.desk.specs.declared.room.Wish.{Wish}
 use Rattle.desk.specs.declared.room.Wish.TheVariants as W
-use Rattle.desk.specs.Room.{areDigits, valueFrom, roomFrom, roomOf, wishBy, wishOf, Wishes, grantedOf, Fits}
+use Rattle.desk.specs.Room.{are_digits, value_from, room_from, room_of, wish_by, wish_of, Wishes, granted_of, Fits}
 
 -- more digits make no number smaller
-no_less : (value : ℕ) (bs : List ℕ) → value ≤ valueFrom value bs
-unfolding valueFrom
+no_less : (value : ℕ) (bs : List ℕ) → value ≤ value_from value bs
+unfolding value_from
 no_less value [] = omega arith
 no_less value (b ∷ bs) = omega (arith, no_less (value * 10 + (b - 48)) bs)
 
@@ -26,40 +26,40 @@ never true room = refl
 never false room = refl
 
 -- so a number that is too large is no room, whatever follows
-pub too_large : (value : ℕ) (bs : List ℕ) → 4_096 < value → roomFrom value bs ≡ Bad
-too_large value bs h = rw (lt-leb (valueFrom value bs) 4_096 (omega (arith, no_less value bs))) (never (areDigits bs) _)
+pub too_large : (value : ℕ) (bs : List ℕ) → 4_096 < value → room_from value bs ≡ Bad
+too_large value bs h = rw (lt-leb (value_from value bs) 4_096 (omega (arith, no_less value bs))) (never (are_digits bs) _)
 
 -- all digits were read
-pub all_read : (value : ℕ) → value ≤ 4_096 → roomFrom value [] ≡ Rows value
-unfolding areDigits valueFrom
+pub all_read : (value : ℕ) → value ≤ 4_096 → room_from value [] ≡ Rows value
+unfolding are_digits value_from
 all_read value h = rw (le-leb value 4_096 h)
 
 -- the byte at i
 module _ (word : List ℕ) (i value : ℕ) (h : i < length word) where
-  pub below : get_or word i 0 < 48 → roomFrom value (drop i word) ≡ Bad
-  unfolding areDigits
+  pub below : get_or word i 0 < 48 → room_from value (drop i word) ≡ Bad
+  unfolding are_digits
   below k = rw (drop-cons word i 0 h, lt-leb 48 (get_or word i 0) k)
 
-  pub above : 48 ≤ get_or word i 0 → 57 < get_or word i 0 → roomFrom value (drop i word) ≡ Bad
-  unfolding areDigits
+  pub above : 48 ≤ get_or word i 0 → 57 < get_or word i 0 → room_from value (drop i word) ≡ Bad
+  unfolding are_digits
   above j k = rw (drop-cons word i 0 h, le-leb 48 (get_or word i 0) j, lt-leb (get_or word i 0) 57 k)
 
-  pub digit : 48 ≤ get_or word i 0 → get_or word i 0 ≤ 57 → roomFrom value (drop i word) ≡ roomFrom (value * 10 + (get_or word i 0 - 48)) (drop (i + 1) word)
-  unfolding areDigits valueFrom
+  pub digit : 48 ≤ get_or word i 0 → get_or word i 0 ≤ 57 → room_from value (drop i word) ≡ room_from (value * 10 + (get_or word i 0 - 48)) (drop (i + 1) word)
+  unfolding are_digits value_from
   digit j k = rw (drop-cons word i 0 h, le-leb 48 (get_or word i 0) j, le-leb (get_or word i 0) 57 k, add-one)
 
 -- words that are empty, too long, or neither
 module _ (word : List ℕ) where
-  pub empty : length word ≡ 0 → roomOf word ≡ Bad
-  unfolding roomOf
+  pub empty : length word ≡ 0 → room_of word ≡ Bad
+  unfolding room_of
   empty e = rw (eq-eqb (length word) 0 e)
 
-  pub long : (length word ≡ 0 → ⊥) → 4 < length word → roomOf word ≡ Bad
-  unfolding roomOf
+  pub long : (length word ≡ 0 → ⊥) → 4 < length word → room_of word ≡ Bad
+  unfolding room_of
   long n k = rw (ne_eqb (length word) 0 n, lt-leb (length word) 4 k)
 
-  pub short : (length word ≡ 0 → ⊥) → length word ≤ 4 → roomOf word ≡ roomFrom 0 word
-  unfolding roomOf
+  pub short : (length word ≡ 0 → ⊥) → length word ≤ 4 → room_of word ≡ room_from 0 word
+  unfolding room_of
   short n k = rw (ne_eqb (length word) 0 n, le-leb (length word) 4 k)
 
 -- a room is at most 4,096 rows
@@ -72,19 +72,19 @@ fits_by : (sized : Bool) (room : Room) → Fits room → Fits (cond sized room B
 fits_by true room f = f
 fits_by false room f = tt
 
-pub fits : (word : List ℕ) → Fits (roomOf word)
-unfolding roomOf
-fits word = fits_by (not (eqb (length word) 0) && leb (length word) 4) (roomFrom 0 word) (fits-from (valueFrom 0 word) (areDigits word) (leb (valueFrom 0 word) 4_096) refl)
+pub fits : (word : List ℕ) → Fits (room_of word)
+unfolding room_of
+fits word = fits_by (not (eqb (length word) 0) && leb (length word) 4) (room_from 0 word) (fits-from (value_from 0 word) (are_digits word) (leb (value_from 0 word) 4_096) refl)
 
 -- and so is one that is granted
-wish-fits : (count : ℕ) (room : Room) (few many : Bool) → Fits room → Fits (grantedOf (cond few (W.Rows 4_096) (cond many W.TooMany (wishBy room))))
-wish-fits count (Rows n) true many f = omega arith
-wish-fits count (Rows n) false true f = tt
-wish-fits count (Rows n) false false f = f
-wish-fits count Bad true many f = omega arith
-wish-fits count Bad false true f = tt
-wish-fits count Bad false false f = tt
+wish_fits : (count : ℕ) (room : Room) (few many : Bool) → Fits room → Fits (granted_of (cond few (W.Rows 4_096) (cond many W.TooMany (wish_by room))))
+wish_fits count (Rows n) true many f = omega arith
+wish_fits count (Rows n) false true f = tt
+wish_fits count (Rows n) false false f = f
+wish_fits count Bad true many f = omega arith
+wish_fits count Bad false true f = tt
+wish_fits count Bad false false f = tt
 
-pub granted-fits : (count : ℕ) (wish : Wish) → Wishes count wish → Fits (grantedOf wish)
-unfolding wishOf
-granted-fits count wish w = rw w.1 (wish-fits count (roomOf w.0) (ltb count 2) (ltb 2 count) (fits w.0))
+pub granted_fits : (count : ℕ) (wish : Wish) → Wishes count wish → Fits (granted_of wish)
+unfolding wish_of
+granted_fits count wish w = rw w.1 (wish_fits count (room_of w.0) (ltb count 2) (ltb 2 count) (fits w.0))

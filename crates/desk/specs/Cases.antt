@@ -2,7 +2,7 @@
 use Rattle.std.specs.Prelude.{ℕ, List, [], ◌∷◌, map, ◌≡◌, refl}
 use Rattle.desk.specs.declared.room.Room.{Room}
 use Rattle.desk.specs.declared.room.Room.TheVariants.{Rows, Bad}
-use Rattle.desk.specs.Room.{areDigits, valueFrom, roomOf}
+use Rattle.desk.specs.Room.{are_digits, value_from, room_of}
 
 pub record Case : Type 0 where
   pub word : List ℕ
@@ -27,6 +27,6 @@ table =
     ∷ of (48 ∷ 120 ∷ 52 ∷ []) Bad
     ∷ []
 
-pub cases : map (λ (c : Case). roomOf c.word) table ≡ map (λ (c : Case). c.due) table
-unfolding areDigits valueFrom roomOf
+pub cases : map (λ (c : Case). room_of c.word) table ≡ map (λ (c : Case). c.due) table
+unfolding are_digits value_from room_of
 cases = refl

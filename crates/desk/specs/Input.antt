@@ -6,17 +6,17 @@ use Rattle.desk.specs.declared.input.Input.{Input}
 use Rattle.desk.specs.declared.input.Input.TheVariants.{All, Full, Failed}
 
 -- so many bytes have come; a buffer that is filled counts as too small, since more may come
-abbrev pub filledTo : ℕ → ℕ → Filling
-filledTo done room = cond (ltb done room) (At done) (Over Full)
+abbrev pub filled_to : ℕ → ℕ → Filling
+filled_to done room = cond (ltb done room) (At done) (Over Full)
 
 -- so many more have come, and none at the end of the input
-abbrev pub cameMore : ℕ → ℕ → ℕ → Filling
-cameMore more done room = cond (eqb more 0) (Over (All done)) (filledTo (done + more) room)
+abbrev pub came_more : ℕ → ℕ → ℕ → Filling
+came_more more done room = cond (eqb more 0) (Over (All done)) (filled_to (done + more) room)
 
 -- what `read` answered where so many had come: a number below 0 where it failed, and never more than there was room for
 abbrev pub read_on : ℤ → ℕ → ℕ → Filling
 read_on (negsuc k) done room = Over Failed
-read_on (pos more) done room = cameMore (min more (room - done)) done room
+read_on (pos more) done room = came_more (min more (room - done)) done room
 
 -- what follows where so many had come: what `read` answers decides, and nothing else
 abbrev pub Goes : ℕ → ℕ → Filling → Type 0

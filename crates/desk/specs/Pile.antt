@@ -15,19 +15,19 @@ use Rattle.desk.specs.declared.pile.Task.TheVariants as T
 abbrev pub word4 : ℕ → ℕ → ℕ → ℕ → ℕ
 word4 a b c d = a + b * 256 + c * 65536 + d * 16777216
 
-abbrev pub littleOf : List ℕ → ℕ
-littleOf bytes = word4 (get_or bytes 0 0) (get_or bytes 1 0) (get_or bytes 2 0) (get_or bytes 3 0)
+abbrev pub little_of : List ℕ → ℕ
+little_of bytes = word4 (get_or bytes 0 0) (get_or bytes 1 0) (get_or bytes 2 0) (get_or bytes 3 0)
 
 -- a book of so many bytes: as many as the buffer has room for are read into it, and the others lie behind them
-abbrev pub bookOf : ℕ → ℕ → Stage
-bookOf size room = S.Due (T.Held (min size room) (size - min size room))
+abbrev pub book_of : ℕ → ℕ → Stage
+book_of size room = S.Due (T.Held (min size room) (size - min size room))
 
 -- the four bytes of a length were to be read. An input that ends before the first of them is the pile's end, and one that
 -- ends among them is cut short
-unfoldable pub announcedOf : Input → ℕ → ℕ → Stage
-announcedOf I.Full size room = bookOf size room
-announcedOf (I.All n) size room = cond (eqb n 0) (S.Over N.End) (S.Over N.Cut)
-announcedOf I.Failed size room = S.Over N.Failed
+unfoldable pub announced_of : Input → ℕ → ℕ → Stage
+announced_of I.Full size room = book_of size room
+announced_of (I.All n) size room = cond (eqb n 0) (S.Over N.End) (S.Over N.Cut)
+announced_of I.Failed size room = S.Over N.Failed
 
 -- so many bytes were to be read: an input that ends before is cut short
 abbrev pub part_of : Input → ℕ → Part
@@ -37,15 +37,15 @@ part_of I.Failed room = P.Failed
 
 -- so many bytes of a book are in the buffer, and so many have to be read past, at most 4,096 at once. With none left the book
 -- is there
-unfoldable pub behindOf : ℕ → ℕ → Stage
-behindOf held left =
+unfoldable pub behind_of : ℕ → ℕ → Stage
+behind_of held left =
     cond (eqb left 0) (S.Over (N.Book held)) (S.Due (T.Behind held (min left 4_096) (left - min left 4_096)))
 
 -- with that part of it, so many bytes of the book are in the buffer, and so many left to be read past
-unfoldable pub partRead : Part → ℕ → ℕ → Stage
-partRead (P.Whole n) held left = behindOf held left
-partRead P.Cut held left = S.Over N.Cut
-partRead P.Failed held left = S.Over N.Failed
+unfoldable pub part_read : Part → ℕ → ℕ → Stage
+part_read (P.Whole n) held left = behind_of held left
+part_read P.Cut held left = S.Over N.Cut
+part_read P.Failed held left = S.Over N.Failed
 
 -- what a reading of so many bytes can give: all of them; and of none nothing is missing
 abbrev pub Fills : Part → ℕ → Type 0
@@ -55,9 +55,9 @@ Fills P.Failed room = 0 < room
 
 -- WHAT FOLLOWS: what the reading gave decides, and nothing else
 unfoldable pub Follows : Task → ℕ → Stage → Type 0
-Follows T.Length room r = (input : Input) × (size : ℕ) × (size < 2 ^ 32) × (r ≡ announcedOf input size room)
-Follows (T.Held held left) room r = (part : Part) × Fills part held × (r ≡ partRead part held left)
-Follows (T.Behind held now later) room r = (part : Part) × Fills part now × (r ≡ partRead part held later)
+Follows T.Length room r = (input : Input) × (size : ℕ) × (size < 2 ^ 32) × (r ≡ announced_of input size room)
+Follows (T.Held held left) room r = (part : Part) × Fills part held × (r ≡ part_read part held left)
+Follows (T.Behind held now later) room r = (part : Part) × Fills part now × (r ≡ part_read part held later)
 
 -- the book's bytes lie within the buffer
 abbrev pub Holds : Next → ℕ → Type 0

@@ -6,12 +6,12 @@ use Rattle.desk.specs.declared.room.Wish.TheVariants as W
 use Rattle.desk.specs.declared.room.Program.{Program}
 use Rattle.desk.specs.declared.room.Program.TheVariants.{Cardtrace, Cardpile, Cardsteps}
 
-abbrev pub nameText : Program → List ℕ
-nameText Cardtrace = typed "cardtrace"
-nameText Cardpile = typed "cardpile"
-nameText Cardsteps = typed "cardsteps"
+abbrev pub name_text : Program → List ℕ
+name_text Cardtrace = typed "cardtrace"
+name_text Cardpile = typed "cardpile"
+name_text Cardsteps = typed "cardsteps"
 
-unfoldable pub refusalText : Program → Wish → List ℕ
-refusalText program (W.Rows n) = []
-refusalText program W.TooMany = nameText program ++ typed ": at most one argument, the rows of room for a call\n"
-refusalText program W.NoRoom = nameText program ++ typed ": room must be a number from 0 to 4096\n"
+unfoldable pub refusal_text : Program → Wish → List ℕ
+refusal_text program (W.Rows n) = []
+refusal_text program W.TooMany = name_text program ++ typed ": at most one argument, the rows of room for a call\n"
+refusal_text program W.NoRoom = name_text program ++ typed ": room must be a number from 0 to 4096\n"

@@ -1,7 +1,7 @@
 // All of standard input.
 ghost use Rattle.std.specs.Prelude.{◌≡◌, ◌≤◌, pos, length};
 ghost use Rattle.std.specs.Int.Signed.{lt_z};
-ghost use Rattle.desk.specs.Input.{filledTo, read_on, Goes, Within};
+ghost use Rattle.desk.specs.Input.{filled_to, read_on, Goes, Within};
 
 use libc::STDIN_FILENO;
 
@@ -22,7 +22,7 @@ enum Filling {
 
 // So many bytes have come.
 fn filled_to(done: usize, buffer: &[u8]) -> Filling
-    ensures { result ≡ filledTo done (length buffer.now) }
+    ensures { result ≡ filled_to done (length buffer.now) }
 {
     if done < buffer.len() {
         return Filling::At(done);
@@ -32,7 +32,7 @@ fn filled_to(done: usize, buffer: &[u8]) -> Filling
 
 // None have come yet.
 fn begun(buffer: &[u8]) -> Filling
-    ensures { result ≡ filledTo 0 (length buffer.now) }
+    ensures { result ≡ filled_to 0 (length buffer.now) }
 {
     filled_to(0, buffer)
 }

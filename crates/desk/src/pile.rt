@@ -1,7 +1,7 @@
 // Standard input book by book. In a pile each book has its length in bytes in front, as a 32-bit little-endian word.
 ghost use Rattle.std.specs.Prelude.{◌≡◌, ◌<◌, ◌≤◌, ◌^◌, min, length};
 ghost use Rattle.desk.specs.declared.pile.Task.TheVariants as Tasks;
-ghost use Rattle.desk.specs.Pile.{word4, littleOf, part_of, behindOf, bookOf, announcedOf, partRead, Fills, Holds, Asks, Follows};
+ghost use Rattle.desk.specs.Pile.{word4, little_of, part_of, behind_of, book_of, announced_of, part_read, Fills, Holds, Asks, Follows};
 
 use crate::input;
 use crate::input::Input;
@@ -57,7 +57,7 @@ fn joined(a: u8, b: u8, c: u8, d: u8) -> usize
 
 // The number of four bytes, the lowest first.
 fn little(bytes: [u8; 4]) -> usize
-    ensures whole { result ≡ littleOf bytes }
+    ensures whole { result ≡ little_of bytes }
     ensures fits { result < 2 ^ 32 }
 {
     joined(bytes[0], bytes[1], bytes[2], bytes[3])
@@ -76,7 +76,7 @@ fn part_of(input: Input, buffer: &[u8]) -> Part
 
 // So many bytes of a book are in the buffer, and so many have to be read past.
 fn behind(held: usize, left: usize) -> Stage
-    ensures { result ≡ behindOf held left }
+    ensures { result ≡ behind_of held left }
 {
     if left == 0 {
         return Stage::Over(Next::Book(held));
@@ -88,7 +88,7 @@ fn behind(held: usize, left: usize) -> Stage
 // A book of so many bytes comes. What the buffer has no room for is read past: whoever lends room for one word more than a
 // book may have can tell by the first bytes that it is none.
 fn book(size: usize, buffer: &[u8]) -> Stage
-    ensures { result ≡ bookOf size (length buffer.now) }
+    ensures { result ≡ book_of size (length buffer.now) }
 {
     let held = least(size, buffer.len());
     Stage::Due(Task::Held(held, size - held))
@@ -96,7 +96,7 @@ fn book(size: usize, buffer: &[u8]) -> Stage
 
 // A length was to be read, and stands in four bytes.
 fn announced(input: Input, size: usize, buffer: &[u8]) -> Stage
-    ensures { result ≡ announcedOf input size (length buffer.now) }
+    ensures { result ≡ announced_of input size (length buffer.now) }
 {
     match input {
         Input::Full => book(size, buffer),
@@ -112,7 +112,7 @@ fn announced(input: Input, size: usize, buffer: &[u8]) -> Stage
 
 // A part of a book was to be read; with it so many bytes are in the buffer, and so many left to be read past.
 fn part_read(part: Part, held: usize, left: usize) -> Stage
-    ensures { result ≡ partRead part held left }
+    ensures { result ≡ part_read part held left }
 {
     match part {
         Part::Whole(_) => behind(held, left),

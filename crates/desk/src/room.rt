@@ -1,8 +1,8 @@
 // The argument of a program: how many rows of room a call has.
 ghost use Rattle.std.specs.Prelude.{◌≡◌, ◌≤◌, length, take};
 ghost use Rattle.text.specs.Ink.{Laid};
-ghost use Rattle.desk.specs.Room.{roomOf, wishOf, Wishes, grantedOf, Fits};
-ghost use Rattle.desk.specs.Refusal.{nameText, refusalText};
+ghost use Rattle.desk.specs.Room.{room_of, wish_of, Wishes, granted_of, Fits};
+ghost use Rattle.desk.specs.Refusal.{name_text, refusal_text};
 
 use libc::STDERR_FILENO;
 use text::pen;
@@ -39,7 +39,7 @@ impl Room {
 
 // The room that a word names.
 pub fn read_room(word: &[u8]) -> Room
-    ensures { result ≡ roomOf word.now }
+    ensures { result ≡ room_of word.now }
 {
     if word.len() == 0 {
         return Room::Bad;
@@ -69,7 +69,7 @@ pub fn read_room(word: &[u8]) -> Room
 
 // What the arguments ask for, by their number, in which the program's name counts, and the first of them.
 fn judged(count: usize, word: &[u8]) -> Wish
-    ensures { result ≡ wishOf count word.now }
+    ensures { result ≡ wish_of count word.now }
 {
     if count < 2 {
         return Wish::Rows(Room::MOST);
@@ -95,7 +95,7 @@ fn argument(count: usize, word: &mut [u8]) -> Wish
 
 // The room where one is asked for.
 fn granted(wish: Wish) -> Room
-    ensures { result ≡ grantedOf wish }
+    ensures { result ≡ granted_of wish }
 {
     match wish {
         Wish::Rows(n) => Room::Rows(n),
@@ -105,7 +105,7 @@ fn granted(wish: Wish) -> Room
 }
 
 fn put_name(out: &mut [u8], program: Program) -> usize
-    ensures { Laid 0 (nameText program) out.old result out.new }
+    ensures { Laid 0 (name_text program) out.old result out.new }
 {
     match program {
         Program::Cardtrace => pen::put(out, 0, b"cardtrace"),
@@ -117,8 +117,8 @@ fn put_name(out: &mut [u8], program: Program) -> usize
 // The line on standard error where the arguments are wrong, and nothing where they are not.
 fn put_refusal(out: &mut [u8], program: Program, wish: Wish) -> usize
     requires { 64 ≤ length out.old }
-    ensures whole { take result out.new ≡ refusalText program wish }
-    ensures laid { Laid 0 (refusalText program wish) out.old result out.new }
+    ensures whole { take result out.new ≡ refusal_text program wish }
+    ensures laid { Laid 0 (refusal_text program wish) out.old result out.new }
 {
     match wish {
         Wish::Rows(_) => 0,

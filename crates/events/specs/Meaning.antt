@@ -2,7 +2,7 @@
 -- value, or of the kind and the word, wherever in a call they come: an index after CMD55 is an ACMD's, and still `CMDn` here.
 use Rattle.std.specs.Prelude.{ℕ, ◌%◌, ◌^◌, Bool, true, false, cond, not, ◌&&◌, List, [], ◌∷◌, ◌++◌, eqb, get_or}
 use Prim.Native.String.{String}
-use Rattle.text.specs.Digits.{decimalOf, hexOf}
+use Rattle.text.specs.Digits.{decimal_of, hex_of}
 use Rattle.text.specs.Typed.{typed}
 use Rattle.types.specs.Bits.{bits, bit, clear}
 use Rattle.tape.specs.declared.script.Reading.{Reading}
@@ -18,7 +18,7 @@ abbrev pub plural : ℕ → List ℕ
 plural n = cond (eqb n 1) [] (typed "s")
 
 abbrev pub counted : ℕ → List ℕ → List ℕ
-counted n noun = decimalOf n ++ noun ++ plural n
+counted n noun = decimal_of n ++ noun ++ plural n
 
 -- how a command waits for its response
 abbrev pub waits : ℕ → List ℕ
@@ -40,14 +40,14 @@ line register fits text = record { register = register; fits = fits; text = text
 abbrev pub always : Bool
 always = true
 
-unfoldable pub rowTable : ℕ → List Line
-rowTable value =
+unfoldable pub row_table : ℕ → List Line
+row_table value =
     line POWER (eqb value 3) (typed "power on")
     ∷ line POWER (eqb value 0) (typed "power off")
     ∷ line CLKCR (bit value 8) (typed "clock on")
     ∷ line CLKCR always (typed "clock off")
-    ∷ line ARG always (typed "argument 0x" ++ hexOf 8 value)
-    ∷ line CMD (bit value 10) (typed "CMD" ++ decimalOf (value % 64) ++ waits (bits value 7 6))
+    ∷ line ARG always (typed "argument 0x" ++ hex_of 8 value)
+    ∷ line CMD (bit value 10) (typed "CMD" ++ decimal_of (value % 64) ++ waits (bits value 7 6))
     ∷ line CMD always (typed "no command")
     ∷ line DTIMER always (typed "data timeout")
     ∷ line DLEN always (counted value (typed " byte"))
@@ -60,12 +60,12 @@ rowTable value =
     ∷ line FIFO always (typed "data to the card")
     ∷ []
 
-unfoldable pub firstLine : ℕ → List Line → List ℕ
-firstLine register [] = []
-firstLine register (l ∷ ls) = cond (eqb register l.register && l.fits) (says l.text) (firstLine register ls)
+unfoldable pub first_line : ℕ → List Line → List ℕ
+first_line register [] = []
+first_line register (l ∷ ls) = cond (eqb register l.register && l.fits) (says l.text) (first_line register ls)
 
-unfoldable pub rowMeaning : ℕ → ℕ → List ℕ
-rowMeaning register value = firstLine register (rowTable value)
+unfoldable pub row_meaning : ℕ → ℕ → List ℕ
+row_meaning register value = first_line register (row_table value)
 
 -- STATUS WORDS: a mask, and what it means that the word has a bit of it. All that it has are told, in this order. The checksum
 -- of a response R3 never matches, for it has none: document 01 lets that pass.
@@ -93,21 +93,21 @@ flags =
     ∷ []
 
 -- line i; no bits and no text past the last
-unfoldable pub flagAt : ℕ → Flag
-flagAt i = get_or flags i (flag 0 "")
+unfoldable pub flag_at : ℕ → Flag
+flag_at i = get_or flags i (flag 0 "")
 
 -- joined by commas; where the word has none, that
 abbrev pub joint : Bool → List ℕ
 joint said = cond said (typed ", ") []
 
-abbrev pub noneLeft : Bool → List ℕ
-noneLeft said = cond said [] (typed "idle")
+abbrev pub none_left : Bool → List ℕ
+none_left said = cond said [] (typed "idle")
 
 -- `said`: something was said before
-unfoldable pub flagsText : Bool → List Flag → ℕ → List ℕ
-flagsText said [] status = noneLeft said
-flagsText said (f ∷ fs) status =
-    cond (clear f.mask status) (flagsText said fs status) (joint said ++ f.text ++ flagsText true fs status)
+unfoldable pub flags_text : Bool → List Flag → ℕ → List ℕ
+flags_text said [] status = none_left said
+flags_text said (f ∷ fs) status =
+    cond (clear f.mask status) (flags_text said fs status) (joint said ++ f.text ++ flags_text true fs status)
 
 -- DMA WORDS: bit 31 error, bit 30 running; the words that remain, where some do
 abbrev pub channel : ℕ → List ℕ
@@ -120,10 +120,10 @@ abbrev pub remain : ℕ → List ℕ
 remain n = cond (eqb n 0) [] (typed ", " ++ counted n (typed " word") ++ typed " left")
 
 -- READINGS: the kind, and what its word means
-unfoldable pub readingMeaning : Reading → ℕ → List ℕ
-readingMeaning Status word = says (flagsText false flags word)
-readingMeaning RespCmd word = says (typed "answers CMD" ++ decimalOf (word % 64))
-readingMeaning (Response n) word = []
-readingMeaning Dma word = says (channel word ++ remain (word % 2 ^ 16))
-readingMeaning DCount word = cond (eqb word 0) [] (says (counted word (typed " byte") ++ typed " left"))
-readingMeaning (Data k) word = []
+unfoldable pub reading_meaning : Reading → ℕ → List ℕ
+reading_meaning Status word = says (flags_text false flags word)
+reading_meaning RespCmd word = says (typed "answers CMD" ++ decimal_of (word % 64))
+reading_meaning (Response n) word = []
+reading_meaning Dma word = says (channel word ++ remain (word % 2 ^ 16))
+reading_meaning DCount word = cond (eqb word 0) [] (says (counted word (typed " byte") ++ typed " left"))
+reading_meaning (Data k) word = []

@@ -1,6 +1,6 @@
 // An event's line.
 ghost use Rattle.text.specs.Ink.{Laid};
-ghost use Rattle.events.specs.Event.{wordText, readText, missedText, wroteText, eventText};
+ghost use Rattle.events.specs.Event.{word_text, read_text, missed_text, wrote_text, event_text};
 
 use crate::{reading, row};
 use report::rows;
@@ -17,14 +17,14 @@ pub enum Event {
 }
 
 fn put_word(out: &mut [u8], at: usize, word: u32) -> usize
-    ensures { Laid at (wordText word) out.old result out.new }
+    ensures { Laid at (word_text word) out.old result out.new }
 {
     let place = pen::put(out, at, b" 0x");
     pen::put_hex(out, place, 8, word as u64)
 }
 
 fn put_read(out: &mut [u8], at: usize, reading: Reading, word: u32) -> usize
-    ensures { Laid at (readText reading word) out.old result out.new }
+    ensures { Laid at (read_text reading word) out.old result out.new }
 {
     let kind = reading::put_kind(out, at, reading);
     let told = put_word(out, kind, word);
@@ -33,14 +33,14 @@ fn put_read(out: &mut [u8], at: usize, reading: Reading, word: u32) -> usize
 }
 
 fn put_missed(out: &mut [u8], at: usize, reading: Reading) -> usize
-    ensures { Laid at (missedText reading) out.old result out.new }
+    ensures { Laid at (missed_text reading) out.old result out.new }
 {
     let kind = reading::put_kind(out, at, reading);
     pen::put(out, kind, b" none  the script ended\n")
 }
 
 fn put_wrote(out: &mut [u8], at: usize, row: Row) -> usize
-    ensures { Laid at (wroteText row) out.old result out.new }
+    ensures { Laid at (wrote_text row) out.old result out.new }
 {
     let register = row.register;
     let value = row.value;
@@ -50,7 +50,7 @@ fn put_wrote(out: &mut [u8], at: usize, row: Row) -> usize
 }
 
 pub fn put_event(out: &mut [u8], at: usize, event: Event) -> usize
-    ensures { Laid at (eventText event) out.old result out.new }
+    ensures { Laid at (event_text event) out.old result out.new }
 {
     match event {
         Event::Read(reading, word) => put_read(out, at, reading, word),

@@ -1,7 +1,7 @@
 // What a status word has, by the table's lines in their order.
 ghost use Rattle.std.specs.Prelude.{◌≡◌, false, drop};
 ghost use Rattle.text.specs.Ink.{Laid};
-ghost use Rattle.events.specs.Meaning.{says, flags, flagAt, joint, noneLeft, flagsText};
+ghost use Rattle.events.specs.Meaning.{says, flags, flag_at, joint, none_left, flags_text};
 
 use tape::script::Sta;
 use text::pen;
@@ -19,7 +19,7 @@ impl Flags {
 
 // The bits that line i is about; none past the last.
 fn mask(i: usize) -> u32
-    ensures { result ≡ (flagAt i).mask }
+    ensures { result ≡ (flag_at i).mask }
 {
     match i {
         0 => Sta::TIMED_OUT,
@@ -40,7 +40,7 @@ fn mask(i: usize) -> u32
 
 // What line i says.
 fn put_flag(out: &mut [u8], at: usize, i: usize) -> usize
-    ensures { Laid at (flagAt i).text out.old result out.new }
+    ensures { Laid at (flag_at i).text out.old result out.new }
 {
     match i {
         0 => pen::put(out, at, b"no response in time"),
@@ -71,7 +71,7 @@ fn put_joint(out: &mut [u8], at: usize, said: bool) -> usize
 
 // At the table's end: a word that has none of it is told too.
 fn put_none(out: &mut [u8], at: usize, said: bool) -> usize
-    ensures { Laid at (noneLeft said) out.old result out.new }
+    ensures { Laid at (none_left said) out.old result out.new }
 {
     if said {
         return pen::least(at, out.len());
@@ -81,7 +81,7 @@ fn put_none(out: &mut [u8], at: usize, said: bool) -> usize
 
 // What the word has of the lines from i on; `said` where something was said before.
 fn put_from(out: &mut [u8], at: usize, status: u32, i: usize, said: bool) -> usize
-    ensures { Laid at (flagsText said (drop i flags) status) out.old result out.new }
+    ensures { Laid at (flags_text said (drop i flags) status) out.old result out.new }
 {
     if Flags::LINES <= i {
         return put_none(out, at, said);
@@ -95,7 +95,7 @@ fn put_from(out: &mut [u8], at: usize, status: u32, i: usize, said: bool) -> usi
 }
 
 pub fn put_flags(out: &mut [u8], at: usize, status: u32) -> usize
-    ensures { Laid at (says (flagsText false flags status)) out.old result out.new }
+    ensures { Laid at (says (flags_text false flags status)) out.old result out.new }
 {
     let place = pen::put(out, at, b"  ");
     put_from(out, place, status, 0, false)

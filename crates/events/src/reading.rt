@@ -3,8 +3,8 @@ ghost use Rattle.std.specs.Prelude.{◌++◌};
 ghost use Rattle.tape.specs.declared.script.Reading.TheVariants as Reading;
 ghost use Rattle.text.specs.Ink.{Laid};
 ghost use Rattle.text.specs.Typed.{typed};
-ghost use Rattle.events.specs.Event.{kindText};
-ghost use Rattle.events.specs.Meaning.{channel, remain, readingMeaning};
+ghost use Rattle.events.specs.Event.{kind_text};
+ghost use Rattle.events.specs.Meaning.{channel, remain, reading_meaning};
 
 use crate::{flags, said};
 use report::rows;
@@ -12,7 +12,7 @@ use tape::script::{Dma, Reading};
 use text::pen;
 
 pub fn put_kind(out: &mut [u8], at: usize, reading: Reading) -> usize
-    ensures { Laid at (typed "read " ++ kindText reading) out.old result out.new }
+    ensures { Laid at (typed "read " ++ kind_text reading) out.old result out.new }
 {
     match reading {
         Reading::Status => pen::put(out, at, b"read status"),
@@ -49,14 +49,14 @@ fn put_remain(out: &mut [u8], at: usize, n: u32) -> usize
 }
 
 fn put_dma(out: &mut [u8], at: usize, word: u32) -> usize
-    ensures { Laid at (readingMeaning Reading.Dma word) out.old result out.new }
+    ensures { Laid at (reading_meaning Reading.Dma word) out.old result out.new }
 {
     let told = put_channel(out, at, word);
     put_remain(out, told, word % Dma::REMAINING)
 }
 
 fn put_count(out: &mut [u8], at: usize, word: u32) -> usize
-    ensures { Laid at (readingMeaning Reading.DCount word) out.old result out.new }
+    ensures { Laid at (reading_meaning Reading.DCount word) out.old result out.new }
 {
     if word == 0 {
         return pen::least(at, out.len());
@@ -67,7 +67,7 @@ fn put_count(out: &mut [u8], at: usize, word: u32) -> usize
 }
 
 pub fn put_meaning(out: &mut [u8], at: usize, reading: Reading, word: u32) -> usize
-    ensures { Laid at (readingMeaning reading word) out.old result out.new }
+    ensures { Laid at (reading_meaning reading word) out.old result out.new }
 {
     match reading {
         Reading::Status => flags::put_flags(out, at, word),

@@ -3,7 +3,7 @@ ghost use Rattle.std.specs.Prelude.{◌≡◌, ◌^◌};
 ghost use Rattle.types.specs.Bits.{bits};
 ghost use Rattle.text.specs.Ink.{Laid};
 ghost use Rattle.tape.specs.Rows.{POWER, CLKCR, ARG, CMD, DLEN, DCTRL, MASK, DELAY};
-ghost use Rattle.events.specs.Meaning.{waits, rowMeaning};
+ghost use Rattle.events.specs.Meaning.{waits, row_meaning};
 
 use crate::said;
 use report::rows;
@@ -11,7 +11,7 @@ use tape::rows::{ClockControl, CommandControl, DataControl};
 use text::pen;
 
 fn put_power(out: &mut [u8], at: usize, value: u32) -> usize
-    ensures { Laid at (rowMeaning POWER value) out.old result out.new }
+    ensures { Laid at (row_meaning POWER value) out.old result out.new }
 {
     match value {
         3 => said::put_said(out, at, b"power on"),
@@ -21,7 +21,7 @@ fn put_power(out: &mut [u8], at: usize, value: u32) -> usize
 }
 
 fn put_clock(out: &mut [u8], at: usize, value: u32) -> usize
-    ensures { Laid at (rowMeaning CLKCR value) out.old result out.new }
+    ensures { Laid at (row_meaning CLKCR value) out.old result out.new }
 {
     if value / ClockControl::ENABLED % 2 == 1 {
         return said::put_said(out, at, b"clock on");
@@ -30,7 +30,7 @@ fn put_clock(out: &mut [u8], at: usize, value: u32) -> usize
 }
 
 fn put_argument(out: &mut [u8], at: usize, value: u32) -> usize
-    ensures { Laid at (rowMeaning ARG value) out.old result out.new }
+    ensures { Laid at (row_meaning ARG value) out.old result out.new }
 {
     let named = said::put_said(out, at, b"argument 0x");
     pen::put_hex(out, named, 8, value as u64)
@@ -48,7 +48,7 @@ fn put_wait(out: &mut [u8], at: usize, kind: u32) -> usize
 }
 
 fn put_command(out: &mut [u8], at: usize, value: u32) -> usize
-    ensures { Laid at (rowMeaning CMD value) out.old result out.new }
+    ensures { Laid at (row_meaning CMD value) out.old result out.new }
 {
     if value / CommandControl::ENABLED % 2 == 1 {
         let named = rows::put_named(out, at, b"  CMD", (value % CommandControl::WAIT) as u64);
@@ -58,7 +58,7 @@ fn put_command(out: &mut [u8], at: usize, value: u32) -> usize
 }
 
 fn put_length(out: &mut [u8], at: usize, value: u32) -> usize
-    ensures { Laid at (rowMeaning DLEN value) out.old result out.new }
+    ensures { Laid at (row_meaning DLEN value) out.old result out.new }
 {
     let place = pen::put(out, at, b"  ");
     said::put_counted(out, place, value as u64, b" byte")
@@ -73,7 +73,7 @@ fn block_bytes(value: u32) -> u64
 }
 
 fn put_data(out: &mut [u8], at: usize, value: u32) -> usize
-    ensures { Laid at (rowMeaning DCTRL value) out.old result out.new }
+    ensures { Laid at (row_meaning DCTRL value) out.old result out.new }
 {
     if value / DataControl::ENABLED % 2 != 1 {
         return said::put_said(out, at, b"data path off");
@@ -87,7 +87,7 @@ fn put_data(out: &mut [u8], at: usize, value: u32) -> usize
 }
 
 fn put_mask(out: &mut [u8], at: usize, value: u32) -> usize
-    ensures { Laid at (rowMeaning MASK value) out.old result out.new }
+    ensures { Laid at (row_meaning MASK value) out.old result out.new }
 {
     if value == 0 {
         return said::put_said(out, at, b"interrupts off");
@@ -96,14 +96,14 @@ fn put_mask(out: &mut [u8], at: usize, value: u32) -> usize
 }
 
 fn put_delay(out: &mut [u8], at: usize, value: u32) -> usize
-    ensures { Laid at (rowMeaning DELAY value) out.old result out.new }
+    ensures { Laid at (row_meaning DELAY value) out.old result out.new }
 {
     let place = said::put_said(out, at, b"waits ");
     said::put_counted(out, place, value as u64, b" spin")
 }
 
 pub fn put_meaning(out: &mut [u8], at: usize, register: u32, value: u32) -> usize
-    ensures { Laid at (rowMeaning register value) out.old result out.new }
+    ensures { Laid at (row_meaning register value) out.old result out.new }
 {
     match register {
         1 => put_power(out, at, value),

@@ -16,7 +16,7 @@ use Rattle.types.specs.declared.error.Answer.{Answer}
 use Rattle.types.specs.declared.error.Answer.TheVariants as Answered
 use Rattle.types.specs.declared.error.Error.{Error}
 use Rattle.types.specs.declared.error.Error.TheVariants as E
-use Rattle.types.specs.Sd.{readyOf}
+use Rattle.types.specs.Sd.{ready_of}
 use Rattle.tape.specs.declared.progress.Halt.TheVariants.{Refused, ScriptEnded, TraceFull}
 use Rattle.tape.specs.declared.progress.Line.{Line}
 use Rattle.tape.specs.declared.progress.Pace.{Pace}
@@ -26,21 +26,21 @@ use Rattle.tape.specs.declared.script.Reading.{Reading}
 use Rattle.tape.specs.declared.script.Reading.TheVariants as Reading
 use Rattle.tape.specs.Plan.{Nothing, Plan, Cause, failed, ended, give, refuse, read, write, look, hold, handle, ◌then◌, refusing, ensure, until}
 use Rattle.tape.specs.Run.{State, After, after, noted, run, run_from, next_at}
-use Rattle.tape.specs.Steps.{word, row, waitIdle, resetController, stopData, setClken, dataFrom, dataWords}
+use Rattle.tape.specs.Steps.{word, row, wait_idle, reset_controller, stop_data, set_clken, data_from, data_words}
 use Rattle.tape.proofs.Laws.{run-handle}
 use Rattle.bus.specs.declared.response.Form.{Form}
 use Rattle.bus.specs.declared.response.Response.{Response}
 use Rattle.bus.specs.declared.transfer.Transfer.{Transfer}
-use Rattle.bus.specs.Command.{form_of, issue, pollCompletion, waitCompletion, echo, responseWords, judge, answer, complete, commandInner, command}
-use Rattle.bus.specs.Ready.{retryDelay, readStatus, tryReady, waitReady}
-use Rattle.bus.specs.Transfer.{incoming, landed, startData, waitData, receive, closeGate, ofMany, stopTransmission, endData, transferData, blockingData}
+use Rattle.bus.specs.Command.{form_of, issue, poll_completion, wait_completion, echo, response_words, judge, answer, complete, command_inner, command}
+use Rattle.bus.specs.Ready.{retry_delay, read_status, try_ready, wait_ready}
+use Rattle.bus.specs.Transfer.{incoming, landed, start_data, wait_data, receive, close_gate, of_many, stop_transmission, end_data, transfer_data, blocking_data}
 use Rattle.init.specs.Initialise.{source_of}
 use Rattle.host.specs.declared.host.Sdmmc.{Sdmmc}
-use Rattle.host.specs.Calls.{Came, dropped, kept, ends, transferred, approached, served, blocksNext, blocksPlan, blocks_from, blocksCame, readCame}
-use Rattle.refusals.proofs.Whole.{read-exact}
-use Rattle.stepping.specs.Closing.{Closing, keeping, dropping, accepting, blocksHost}
-use Rattle.feed.specs.Runs.{cameBy, noClosing, lies_at, placeRun, count_of}
-use Rattle.underway.specs.Whole.{callPlan, blocksAt, blocksCall}
+use Rattle.host.specs.Calls.{Came, dropped, kept, ends, transferred, approached, served, blocks_next, blocks_plan, blocks_from, blocks_came, read_came}
+use Rattle.refusals.proofs.Whole.{read_exact}
+use Rattle.stepping.specs.Closing.{Closing, keeping, dropping, accepting, blocks_host}
+use Rattle.feed.specs.Runs.{came_by, no_closing, lies_at, place_run, count_of}
+use Rattle.underway.specs.Whole.{call_plan, blocks_at, blocks_call}
 use Rattle.feed.proofs.Whole.{blocks-call}
 
 -- A plan that reads no data word leaves the place as it was.
@@ -60,8 +60,8 @@ by_place : (b : Bool) {x y q : ℕ} → x ≡ q → y ≡ q → cond b x y ≡ q
 by_place true e e' = e
 by_place false e e' = e'
 
-stays : {A : Type 0} (s : List ℕ) (p : Plan A) (q u n : ℕ) (h : Line) (l : List Row) → dataless p → placeRun s p q u n h l ≡ q
-unfolding dataless placeRun
+stays : {A : Type 0} (s : List ℕ) (p : Plan A) (q u n : ℕ) (h : Line) (l : List Row) → dataless p → place_run s p q u n h l ≡ q
+unfolding dataless place_run
 stays s (give a) q u n h l b = refl
 stays s (refuse c) q u n h l b = refl
 stays s (read r k z) q u n h l b =
@@ -128,16 +128,16 @@ on-until (suc n) enough b = on_then b (λ v. on_test (enough v) on-give (on-unti
 
 -- the plans of a read but for its data words
 
-idle-dataless : (limit : ℕ) (transfer : Bool) → Dataless Nothing (waitIdle limit transfer)
-unfolding waitIdle
+idle-dataless : (limit : ℕ) (transfer : Bool) → Dataless Nothing (wait_idle limit transfer)
+unfolding wait_idle
 idle-dataless limit transfer = on_then (on-until limit _ on-status) (λ _. on-give)
 
-clken-dataless : (on : Bool) → Dataless Nothing (setClken on)
-unfolding setClken
-clken-dataless on = on-look (λ line. on_row _ _)
+clken_dataless : (on : Bool) → Dataless Nothing (set_clken on)
+unfolding set_clken
+clken_dataless on = on-look (λ line. on_row _ _)
 
 complete-dataless : (limit index : ℕ) (form : Form) → Dataless (List ℕ) (complete limit index form)
-unfolding complete waitCompletion pollCompletion answer echo responseWords judge lies_at
+unfolding complete wait_completion poll_completion answer echo response_words judge lies_at
 complete-dataless limit index form =
     on_then (on-until limit _ (on_then on-status (λ w. on_then (on-ensure _ E.Timeout) (λ _. on-give))))
     (λ status. on_test form.silent on-give
@@ -147,8 +147,8 @@ complete-dataless limit index form =
     (on_then (on_word _ (λ u q. refl)) (λ a. on_then (on_word _ (λ u q. refl)) (λ b. on_then (on_word _ (λ u q. refl)) (λ c. on_then (on_word _ (λ u q. refl)) (λ d. on-give)))))
     (λ ws. on_then (on-ensure _ _) (λ _. on_then (on-ensure _ E.CardLocked) (λ _. on-give)))))))
 
-inner-dataless : (limit index argument : ℕ) (response : Response) → Dataless (List ℕ) (commandInner limit index argument response)
-unfolding commandInner issue
+inner-dataless : (limit index argument : ℕ) (response : Response) → Dataless (List ℕ) (command_inner limit index argument response)
+unfolding command_inner issue
 inner-dataless limit index argument response =
     on_then (idle-dataless limit false)
     (λ _. on_then (on_then (on_row _ _) (λ _. on_then (on_row _ _) (λ _. on_row _ _))) (λ _. complete-dataless limit index (form_of response)))
@@ -157,49 +157,49 @@ command-dataless : (limit index argument : ℕ) (response : Response) → Datale
 unfolding command
 command-dataless limit index argument response =
     on-look (λ line. on_test line.gated
-    (on_then (clken-dataless true)
-    (λ _. on-handle (refusing (setClken false)) (inner-dataless limit index argument response)
-    (λ ws. on_then (clken-dataless false) (λ _. on-give)) (λ e. on_then (clken-dataless false) (λ _. on-refuse))))
+    (on_then (clken_dataless true)
+    (λ _. on-handle (refusing (set_clken false)) (inner-dataless limit index argument response)
+    (λ ws. on_then (clken_dataless false) (λ _. on-give)) (λ e. on_then (clken_dataless false) (λ _. on-refuse))))
     (inner-dataless limit index argument response))
 
-ready-dataless : (source : ℕ) (config : Config) (rca : ℕ) → Dataless Nothing (waitReady source config rca)
-unfolding waitReady tryReady readStatus retryDelay
+ready-dataless : (source : ℕ) (config : Config) (rca : ℕ) → Dataless Nothing (wait_ready source config rca)
+unfolding wait_ready try_ready read_status retry_delay
 ready-dataless source config rca =
     on_then
     (on-until _ _
     (on_then (on_then (command-dataless _ 13 _ _) (λ ws. on-give))
-    (λ status. on_test (readyOf status) on-give (on_then (on_row _ _) (λ _. on-give)))))
+    (λ status. on_test (ready_of status) on-give (on_then (on_row _ _) (λ _. on-give)))))
     (λ _. on-give)
 
-end-dataless : (source : ℕ) (config : Config) (index rca : ℕ) → Dataless Nothing (endData source config index rca)
-unfolding endData stopData closeGate stopTransmission
+end-dataless : (source : ℕ) (config : Config) (index rca : ℕ) → Dataless Nothing (end_data source config index rca)
+unfolding end_data stop_data close_gate stop_transmission
 end-dataless source config index rca =
     on_then (on_then (on_row _ _) (λ _. on_then (on_row _ _) (λ _. on_row _ _)))
-    (λ _. on_then (on-look (λ line. on_test line.gated (clken-dataless false) on-give))
-    (λ _. on_then (on_test (ofMany index) (on_then (command-dataless _ 12 _ _) (λ _. on-give)) on-give)
+    (λ _. on_then (on-look (λ line. on_test line.gated (clken_dataless false) on-give))
+    (λ _. on_then (on_test (of_many index) (on_then (command-dataless _ 12 _ _) (λ _. on-give)) on-give)
     (λ _. ready-dataless source config rca)))
 
 -- Where the words of a plan lie: whatever it gives lies at the place that its run comes to.
 
 module _ (s : List ℕ) where
   -- how f and g go on from where a plan has come
-  unfoldable placeThen : {A B : Type 0} → (A → Plan B) → (Cause → Plan B) → A → Pace → State → ℕ → ℕ
-  placeThen f g v Going w q = placeRun s (f v) q w.progress.used w.progress.rows w.progress.line w.list
-  placeThen f g v (Stopped (Refused e)) w q =
-      placeRun s (g (failed e)) q w.progress.used w.progress.rows w.progress.line w.list
-  placeThen f g v (Stopped ScriptEnded) w q = placeRun s (g ended) q w.progress.used w.progress.rows w.progress.line w.list
-  placeThen f g v (Stopped TraceFull) w q = q
+  unfoldable place_then : {A B : Type 0} → (A → Plan B) → (Cause → Plan B) → A → Pace → State → ℕ → ℕ
+  place_then f g v Going w q = place_run s (f v) q w.progress.used w.progress.rows w.progress.line w.list
+  place_then f g v (Stopped (Refused e)) w q =
+      place_run s (g (failed e)) q w.progress.used w.progress.rows w.progress.line w.list
+  place_then f g v (Stopped ScriptEnded) w q = place_run s (g ended) q w.progress.used w.progress.rows w.progress.line w.list
+  place_then f g v (Stopped TraceFull) w q = q
 
   abbrev placed : {A B : Type 0} → (A → Plan B) → (Cause → Plan B) → After A → ℕ → ℕ
-  placed f g x q = placeThen f g x.value x.state.progress.pace x.state q
+  placed f g x q = place_then f g x.value x.state.progress.pace x.state q
 
   by_both : {X : Type 0} (g : X → ℕ → ℕ) (b : Bool) {x y : X} {m n z z' : ℕ} → z ≡ g x m → z' ≡ g y n → cond b z z' ≡ g (cond b x y) (cond b m n)
   by_both g true e e' = e
   by_both g false e e' = e'
 
   place-handle : {A B : Type 0} (d : A) (f : A → Plan B) (g : Cause → Plan B) (p : Plan A) (q u n : ℕ) (h : Line) (l : List Row)
-      → placeRun s (handle f g p) q u n h l ≡ placed f g (run s d p u n h l) (placeRun s p q u n h l)
-  unfolding run handle placeRun placeThen
+      → place_run s (handle f g p) q u n h l ≡ placed f g (run s d p u n h l) (place_run s p q u n h l)
+  unfolding run handle place_run place_then
   place-handle d f g (give a) q u n h l = refl
   place-handle d f g (refuse (failed e)) q u n h l = refl
   place-handle d f g (refuse ended) q u n h l = refl
@@ -215,22 +215,22 @@ module _ (s : List ℕ) where
   Lain ws place = ws ≡ take (length ws) (drop place s)
 
   record Laid (A : Type 0) (d : A) (taken : A → List ℕ) (p : Plan A) : Type 0 where
-    each : (q u n : ℕ) (h : Line) (l : List Row) → Lain (taken (run s d p u n h l).value) (placeRun s p q u n h l)
+    each : (q u n : ℕ) (h : Line) (l : List Row) → Lain (taken (run s d p u n h l).value) (place_run s p q u n h l)
 
   -- a plan whose values, and whose refusals, are laid by what comes after it
   module _ {A B : Type 0} (d : A) (d' : B) (taken : B → List ℕ) (none : taken d' ≡ []) (f : A → Plan B) (g : Cause → Plan B) (p : Plan A) where
     laid-handle :
         ((q u n u' n' : ℕ) (h h' : Line) (l l' : List Row) → (run s d p u n h l).state.progress.pace ≡ Going
-        → Lain (taken (run s d' (f (run s d p u n h l).value) u' n' h' l').value) (placeRun s (f (run s d p u n h l).value) (placeRun s p q u n h l) u' n' h' l'))
-        → ((e : Cause) (q u n : ℕ) (h : Line) (l : List Row) → Lain (taken (run s d' (g e) u n h l).value) (placeRun s (g e) q u n h l))
+        → Lain (taken (run s d' (f (run s d p u n h l).value) u' n' h' l').value) (place_run s (f (run s d p u n h l).value) (place_run s p q u n h l) u' n' h' l'))
+        → ((e : Cause) (q u n : ℕ) (h : Line) (l : List Row) → Lain (taken (run s d' (g e) u n h l).value) (place_run s (g e) q u n h l))
         → Laid B d' taken (handle f g p)
-    unfolding next_at placeThen
+    unfolding next_at place_then
     laid-handle good bad =
         record { each = λ q u n h l. rw (run-handle s d d' f g p u n h l, place-handle d f g p q u n h l) (by q u n h l (run s d p u n h l).state.progress.pace refl) }
       where
         by : (q u n : ℕ) (h : Line) (l : List Row) (a : Pace) → (run s d p u n h l).state.progress.pace ≡ a
             → Lain (taken (next_at s d' f g (run s d p u n h l).value a (run s d p u n h l).state).value)
-            (placeThen f g (run s d p u n h l).value a (run s d p u n h l).state (placeRun s p q u n h l))
+            (place_then f g (run s d p u n h l).value a (run s d p u n h l).state (place_run s p q u n h l))
         by q u n h l Going going = good q u n _ _ h _ l _ going
         by q u n h l (Stopped (Refused e)) going = bad (failed e) _ _ _ _ _
         by q u n h l (Stopped ScriptEnded) going = bad ended _ _ _ _ _
@@ -238,26 +238,26 @@ module _ (s : List ℕ) where
 
   -- the data words
 
-  data-dataless : (k n : ℕ) → 0 < k → Dataless (List ℕ) (dataFrom k n)
-  unfolding dataFrom lies_at
-  data-dataless k zero some = on-give
-  data-dataless k (suc n) some =
-      on_then (on_word (Reading.Data k) (λ u q. rw (ne_eqb k 0 (λ e. omega arith)))) (λ w. on_then (data-dataless (k + 1) n (omega arith)) (λ ws. on-give))
+  data_dataless : (k n : ℕ) → 0 < k → Dataless (List ℕ) (data_from k n)
+  unfolding data_from lies_at
+  data_dataless k zero some = on-give
+  data_dataless k (suc n) some =
+      on_then (on_word (Reading.Data k) (λ u q. rw (ne_eqb k 0 (λ e. omega arith)))) (λ w. on_then (data_dataless (k + 1) n (omega arith)) (λ ws. on-give))
 
   module _ (k n u m : ℕ) (h : Line) (l : List Row) (some : u < length s) where
-    one : run s [] (dataFrom k (suc n)) u m h l
-        ≡ next_at s [] (λ ws. give (get_or s u 0 ∷ ws)) refuse (run s [] (dataFrom (k + 1) n) (u + 1) m h l).value
-        (run s [] (dataFrom (k + 1) n) (u + 1) m h l).state.progress.pace (run s [] (dataFrom (k + 1) n) (u + 1) m h l).state
-    unfolding dataFrom handle run word
-    one = rw (lt-ltb u (length s) some) (run-handle s [] [] (λ ws. give (get_or s u 0 ∷ ws)) refuse (dataFrom (k + 1) n) (u + 1) m h l)
+    one : run s [] (data_from k (suc n)) u m h l
+        ≡ next_at s [] (λ ws. give (get_or s u 0 ∷ ws)) refuse (run s [] (data_from (k + 1) n) (u + 1) m h l).value
+        (run s [] (data_from (k + 1) n) (u + 1) m h l).state.progress.pace (run s [] (data_from (k + 1) n) (u + 1) m h l).state
+    unfolding data_from handle run word
+    one = rw (lt-ltb u (length s) some) (run-handle s [] [] (λ ws. give (get_or s u 0 ∷ ws)) refuse (data_from (k + 1) n) (u + 1) m h l)
 
-  data-lain : (k n u m : ℕ) (h : Line) (l : List Row) → Lain (run s [] (dataFrom k n) u m h l).value u
-  unfolding dataFrom run next_at handle word
-  data-lain k zero u m h l = refl
-  data-lain k (suc n) u m h l = by (dec_lt u (length s)) (data-lain (k + 1) n (u + 1) m h l)
+  data_lain : (k n u m : ℕ) (h : Line) (l : List Row) → Lain (run s [] (data_from k n) u m h l).value u
+  unfolding data_from run next_at handle word
+  data_lain k zero u m h l = refl
+  data_lain k (suc n) u m h l = by (dec_lt u (length s)) (data_lain (k + 1) n (u + 1) m h l)
     where
       x : After (List ℕ)
-      x = run s [] (dataFrom (k + 1) n) (u + 1) m h l
+      x = run s [] (data_from (k + 1) n) (u + 1) m h l
 
       more : (a : Pace) → u < length s → Lain x.value (u + 1) → Lain (next_at s [] (λ ws. give (get_or s u 0 ∷ ws)) refuse x.value a x.state).value u
       more Going some ih =
@@ -267,21 +267,21 @@ module _ (s : List ℕ) where
       more (Stopped ScriptEnded) some ih = refl
       more (Stopped TraceFull) some ih = refl
 
-      by : Dec (u < length s) → Lain x.value (u + 1) → Lain (run s [] (dataFrom k (suc n)) u m h l).value u
+      by : Dec (u < length s) → Lain x.value (u + 1) → Lain (run s [] (data_from k (suc n)) u m h l).value u
       by (yes some) ih = rw (one k n u m h l some) (more x.state.progress.pace some ih)
       by (no none) ih = rw (le-ltb u (length s) (omega arith)) refl
 
-  data-laid : (n : ℕ) → Laid (List ℕ) [] (λ ws. ws) (dataWords n)
-  unfolding dataFrom run handle word placeRun lies_at
-  data-laid zero = record { each = λ q u m h l. refl }
-  data-laid (suc n) = record { each = λ q u m h l. by q u m h l (dec_lt u (length s)) }
+  data_laid : (n : ℕ) → Laid (List ℕ) [] (λ ws. ws) (data_words n)
+  unfolding data_from run handle word place_run lies_at
+  data_laid zero = record { each = λ q u m h l. refl }
+  data_laid (suc n) = record { each = λ q u m h l. by q u m h l (dec_lt u (length s)) }
     where
       by : (q u m : ℕ) (h : Line) (l : List Row) → Dec (u < length s)
-          → Lain (run s [] (dataFrom 0 (suc n)) u m h l).value (placeRun s (dataFrom 0 (suc n)) q u m h l)
+          → Lain (run s [] (data_from 0 (suc n)) u m h l).value (place_run s (data_from 0 (suc n)) q u m h l)
       by q u m h l (yes some) =
-          let rest = on_then (data-dataless 1 n (omega arith)) (λ (ws : List ℕ). on-give {a = get_or s u 0 ∷ ws}) in
-          let place : placeRun s (dataFrom 0 (suc n)) q u m h l ≡ u = rw (lt-ltb u (length s) some) (stays s _ u (u + 1) m h l rest.each) in
-          rw place (data-lain 0 (suc n) u m h l)
+          let rest = on_then (data_dataless 1 n (omega arith)) (λ (ws : List ℕ). on-give {a = get_or s u 0 ∷ ws}) in
+          let place : place_run s (data_from 0 (suc n)) q u m h l ≡ u = rw (lt-ltb u (length s) some) (stays s _ u (u + 1) m h l rest.each) in
+          rw place (data_lain 0 (suc n) u m h l)
       by q u m h l (no none) = rw (le-ltb u (length s) (omega arith)) refl
 
   -- after other plans, and before plans that read none
@@ -311,10 +311,10 @@ module _ (s : List ℕ) where
       laid-handle [] [] (λ ws. ws) refl (λ ws. after then λ _. give ws) refuse p
       (λ q u n u' n' h h' l l' going.
       rw (
-        stays s _ (placeRun s p q u n h l) u' n' h' l' (on_then free (λ _. on-give {a = (run s [] p u n h l).value})).each,
+        stays s _ (place_run s p q u n h l) u' n' h' l' (on_then free (λ _. on-give {a = (run s [] p u n h l).value})).each,
         run-handle s (tt {0}) [] (λ _. give (run s [] p u n h l).value) refuse after u' n' h' l',
       )
-      (by (run s [] p u n h l).value (placeRun s p q u n h l) (run s (tt {0}) after u' n' h' l').state.progress.pace (run s (tt {0}) after u' n' h' l').state (b.each q u n h l)))
+      (by (run s [] p u n h l).value (place_run s p q u n h l) (run s (tt {0}) after u' n' h' l').state.progress.pace (run s (tt {0}) after u' n' h' l').state (b.each q u n h l)))
       (λ e q u n h l. refl)
     where
       by : (ws : List ℕ) (place : ℕ) (a : Pace) (w : State) → Lain ws place → Lain (next_at s [] (λ (_ : Nothing). give ws) refuse tt a w).value place
@@ -323,62 +323,62 @@ module _ (s : List ℕ) where
       by ws place (Stopped ScriptEnded) w e = refl
       by ws place (Stopped TraceFull) w e = refl
 
-  transfer-laid : (source : ℕ) (config : Config) (transfer : Transfer) (rca : ℕ) → Laid (List ℕ) [] (λ ws. ws) (blockingData source config incoming transfer rca)
-  unfolding blockingData transferData receive landed run placeRun
+  transfer-laid : (source : ℕ) (config : Config) (transfer : Transfer) (rca : ℕ) → Laid (List ℕ) [] (λ ws. ws) (blocking_data source config incoming transfer rca)
+  unfolding blocking_data transfer_data receive landed run place_run
   transfer-laid source config transfer rca =
-      laid-handle [] [] (λ ws. ws) refl give (refusing resetController) (transferData source config incoming transfer rca)
+      laid-handle [] [] (λ ws. ws) refl give (refusing reset_controller) (transfer_data source config incoming transfer rca)
       (λ q u n u' n' h h' l l' going. taken.each q u n h l)
-      (λ e q u n h l. rw (refusing-none resetController e u n h l) refl)
+      (λ e q u n h l. rw (refusing-none reset_controller e u n h l) refl)
     where
-      taken : Laid (List ℕ) [] (λ ws. ws) (transferData source config incoming transfer rca)
+      taken : Laid (List ℕ) [] (λ ws. ws) (transfer_data source config incoming transfer rca)
       taken =
-          laid-after (tt {0}) (startData config incoming transfer) _
-          (λ _. laid-before (receive config.poll_limit incoming transfer.words) (endData source config transfer.index rca)
-          (laid-after (tt {0}) (waitData config.poll_limit) _ (λ _. data-laid transfer.words)) (end-dataless source config transfer.index rca))
+          laid-after (tt {0}) (start_data config incoming transfer) _
+          (λ _. laid-before (receive config.poll_limit incoming transfer.words) (end_data source config transfer.index rca)
+          (laid-after (tt {0}) (wait_data config.poll_limit) _ (λ _. data_laid transfer.words)) (end-dataless source config transfer.index rca))
 
   -- a read
   module _ (host : Sdmmc) where
     abbrev LaidCall : Plan Closing → Type 0
-    LaidCall p = Laid Closing (noClosing host) (λ c. c.taken) p
+    LaidCall p = Laid Closing (no_closing host) (λ c. c.taken) p
 
     keeping-laid : (e : Error) → LaidCall (keeping host (failed e))
-    unfolding keeping run placeRun
+    unfolding keeping run place_run
     keeping-laid e = record { each = λ q u n h l. refl }
 
     call-laid : (next : Line → List ℕ → Sdmmc) (approach : Plan Nothing) (transfer : Plan (List ℕ)) → Laid (List ℕ) [] (λ ws. ws) transfer
-        → LaidCall (callPlan host approach transfer next)
-    unfolding keeping dropping accepting run placeRun
+        → LaidCall (call_plan host approach transfer next)
+    unfolding keeping dropping accepting run place_run
     call-laid next approach transfer b =
-        laid-handle (tt {0}) (noClosing host) (λ c. c.taken) refl (λ _. handle (accepting host next) (dropping host) transfer) (keeping host) approach
-        (λ q u n u' n' h h' l l' going. whole.each (placeRun s approach q u n h l) u' n' h' l') (λ e q u n h l. refl)
+        laid-handle (tt {0}) (no_closing host) (λ c. c.taken) refl (λ _. handle (accepting host next) (dropping host) transfer) (keeping host) approach
+        (λ q u n u' n' h h' l l' going. whole.each (place_run s approach q u n h l) u' n' h' l') (λ e q u n h l. refl)
       where
         whole : LaidCall (handle (accepting host next) (dropping host) transfer)
         whole =
-            laid-handle [] (noClosing host) (λ c. c.taken) refl (accepting host next) (dropping host) transfer
+            laid-handle [] (no_closing host) (λ c. c.taken) refl (accepting host next) (dropping host) transfer
             (λ q u n u' n' h h' l l' going. b.each q u n h l) (λ e q u n h l. refl)
 
-    at-laid : (blocks : ℕ) (a : AddressAnswer) → LaidCall (blocksAt host incoming blocks a)
-    unfolding blocksAt
+    at-laid : (blocks : ℕ) (a : AddressAnswer) → LaidCall (blocks_at host incoming blocks a)
+    unfolding blocks_at
     at-laid blocks (Address.Refused e) = keeping-laid e
-    at-laid blocks (Address.Address a) = call-laid (blocksHost host) _ _ (transfer-laid _ _ _ _)
+    at-laid blocks (Address.Address a) = call-laid (blocks_host host) _ _ (transfer-laid _ _ _ _)
 
-    read-laid : (index bytes : ℕ) → LaidCall (blocksCall host incoming index bytes)
-    unfolding blocksCall
+    read-laid : (index bytes : ℕ) → LaidCall (blocks_call host incoming index bytes)
+    unfolding blocks_call
     read-laid index bytes = at-laid (bytes / 512) _
 
-    read-lain : (index bytes : ℕ) (l : List Row)
-        → Lain (readCame host index bytes s l).taken (placeRun s (blocksCall host incoming index bytes) 0 0 0 host.line l)
-    unfolding cameBy
-    read-lain index bytes l =
+    read_lain : (index bytes : ℕ) (l : List Row)
+        → Lain (read_came host index bytes s l).taken (place_run s (blocks_call host incoming index bytes) 0 0 0 host.line l)
+    unfolding came_by
+    read_lain index bytes l =
         rw (blocks-call host s l incoming index bytes) (by x.state.progress.pace x.state ((read-laid index bytes).each 0 0 0 host.line l))
       where
         x : After Closing
-        x = run s (noClosing host) (blocksCall host incoming index bytes) 0 0 host.line l
+        x = run s (no_closing host) (blocks_call host incoming index bytes) 0 0 host.line l
 
         place : ℕ
-        place = placeRun s (blocksCall host incoming index bytes) 0 0 0 host.line l
+        place = place_run s (blocks_call host incoming index bytes) 0 0 0 host.line l
 
-        by : (a : Pace) (w : State) → Lain x.value.taken place → Lain (cameBy host x.value a w).taken place
+        by : (a : Pace) (w : State) → Lain x.value.taken place → Lain (came_by host x.value a w).taken place
         by Going w e = e
         by (Stopped (Refused e')) w e = refl
         by (Stopped ScriptEnded) w e = refl
@@ -386,18 +386,18 @@ module _ (s : List ℕ) where
 
 -- A read that is not accepted takes no word.
 
-unfoldable takenBy : Answer → List ℕ → List ℕ
-takenBy Answered.Accepted ws = ws
-takenBy (Answered.Refused e) ws = []
-takenBy Answered.ScriptEnded ws = []
-takenBy Answered.TraceFull ws = []
-takenBy Answered.BadBook ws = []
+unfoldable taken_by : Answer → List ℕ → List ℕ
+taken_by Answered.Accepted ws = ws
+taken_by (Answered.Refused e) ws = []
+taken_by Answered.ScriptEnded ws = []
+taken_by Answered.TraceFull ws = []
+taken_by Answered.BadBook ws = []
 
 abbrev Own : Came → Type 0
-Own x = x.taken ≡ takenBy x.answer x.taken
+Own x = x.taken ≡ taken_by x.answer x.taken
 
 ends-own : (host refused accepted : Sdmmc) (words : List ℕ) (q : Pace) (w : State) → Own (ends host refused accepted words q w)
-unfolding ends takenBy
+unfolding ends taken_by
 ends-own host refused accepted words Going w = refl
 ends-own host refused accepted words (Stopped (Refused e)) w = refl
 ends-own host refused accepted words (Stopped ScriptEnded) w = refl
@@ -405,28 +405,28 @@ ends-own host refused accepted words (Stopped TraceFull) w = refl
 
 module _ (host : Sdmmc) (index bytes : ℕ) (s : List ℕ) (l : List Row) where
   from-own : (a : AddressAnswer) → Own (blocks_from host incoming (bytes / 512) a s l)
-  unfolding blocks_from served approached transferred takenBy
+  unfolding blocks_from served approached transferred taken_by
   from-own (Address.Refused e) = refl
   from-own (Address.Address a) = by w.progress.pace
     where
       w : State
-      w = (run s (tt {0}) (waitReady (source_of host.settings) host.settings.config host.card.rca) 0 0 host.line l).state
+      w = (run s (tt {0}) (wait_ready (source_of host.settings) host.settings.config host.card.rca) 0 0 host.line l).state
 
-      by : (q : Pace) → Own (approached host (blocksPlan host incoming a (bytes / 512)) (blocksNext host) s q w)
+      by : (q : Pace) → Own (approached host (blocks_plan host incoming a (bytes / 512)) (blocks_next host) s q w)
       by Going =
-          let x = run_from s [] (blocksPlan host incoming a (bytes / 512)) w in
-          ends-own host (dropped host x.state) (blocksNext host x.state x.value) x.value x.state.progress.pace x.state
+          let x = run_from s [] (blocks_plan host incoming a (bytes / 512)) w in
+          ends-own host (dropped host x.state) (blocks_next host x.state x.value) x.value x.state.progress.pace x.state
       by (Stopped h) = ends-own host (kept host w) host [] (Stopped h) w
 
-  read-own : Own (readCame host index bytes s l)
-  unfolding blocksCame
+  read-own : Own (read_came host index bytes s l)
+  unfolding blocks_came
   read-own = from-own _
 
-  pub read_none : ((readCame host index bytes s l).answer ≡ Answered.Accepted → ⊥) → (readCame host index bytes s l).taken ≡ []
-  unfolding takenBy
-  read_none other = by (readCame host index bytes s l).answer refl
+  pub read_none : ((read_came host index bytes s l).answer ≡ Answered.Accepted → ⊥) → (read_came host index bytes s l).taken ≡ []
+  unfolding taken_by
+  read_none other = by (read_came host index bytes s l).answer refl
     where
-      by : (a : Answer) → (readCame host index bytes s l).answer ≡ a → (readCame host index bytes s l).taken ≡ []
+      by : (a : Answer) → (read_came host index bytes s l).answer ≡ a → (read_came host index bytes s l).taken ≡ []
       by Answered.Accepted e = absurd (other e)
       by (Answered.Refused x) e = rw e at read-own
       by Answered.ScriptEnded e = rw e at read-own
@@ -434,16 +434,16 @@ module _ (host : Sdmmc) (index bytes : ℕ) (s : List ℕ) (l : List Row) where
       by Answered.BadBook e = rw e at read-own
 
   -- so what it takes is so many words from that place on
-  pub read-took : (readCame host index bytes s l).taken
-      ≡ take (count_of (readCame host index bytes s l).answer bytes) (drop (placeRun s (blocksCall host incoming index bytes) 0 0 0 host.line l) s)
-  unfolding takenBy count_of
-  read-took = by (readCame host index bytes s l).answer refl
+  pub read-took : (read_came host index bytes s l).taken
+      ≡ take (count_of (read_came host index bytes s l).answer bytes) (drop (place_run s (blocks_call host incoming index bytes) 0 0 0 host.line l) s)
+  unfolding taken_by count_of
+  read-took = by (read_came host index bytes s l).answer refl
     where
       place : ℕ
-      place = placeRun s (blocksCall host incoming index bytes) 0 0 0 host.line l
+      place = place_run s (blocks_call host incoming index bytes) 0 0 0 host.line l
 
-      by : (a : Answer) → (readCame host index bytes s l).answer ≡ a → (readCame host index bytes s l).taken ≡ take (count_of a bytes) (drop place s)
-      by Answered.Accepted e = rw (← (read-exact host index bytes s l e).1) (read-lain s host index bytes l)
+      by : (a : Answer) → (read_came host index bytes s l).answer ≡ a → (read_came host index bytes s l).taken ≡ take (count_of a bytes) (drop place s)
+      by Answered.Accepted e = rw (← (read_exact host index bytes s l e).1) (read_lain s host index bytes l)
       by (Answered.Refused x) e = rw e at read-own
       by Answered.ScriptEnded e = rw e at read-own
       by Answered.TraceFull e = rw e at read-own

@@ -8,11 +8,11 @@ use Rattle.host.specs.declared.host.Sdmmc.{Sdmmc}
 use Rattle.host.specs.Calls.{Came}
 use Rattle.step.specs.declared.wants.Wants.{Wants}
 use Rattle.step.specs.declared.wants.Wants.TheVariants as W
-use Rattle.step.specs.Next.{wantOf, Lent, handedTo}
+use Rattle.step.specs.Next.{want_of, Lent, handed_to}
 use Rattle.underway.specs.declared.call.Outcome.{Outcome}
 use Rattle.underway.specs.declared.call.Outcome.TheVariants as O
-use Rattle.underway.specs.Under.{Under, under, answered, unanswered, written, closedOf}
-use Rattle.feed.specs.Runs.{runNext, cameOf, noClosing, lies_at, placeNext}
+use Rattle.underway.specs.Under.{Under, under, answered, unanswered, written, closed_of}
+use Rattle.feed.specs.Runs.{run_next, came_of, no_closing, lies_at, place_next}
 use Rattle.feed.specs.declared.turn.Event.{Event}
 use Rattle.feed.specs.declared.turn.Event.TheVariants as E
 use Rattle.feed.specs.declared.turn.Feeding.{Feeding}
@@ -47,56 +47,56 @@ turned event next list = record { event = event; next = next; list = list }
 module _ (s : List ℕ) where
   -- a turn of a call that waits for this: the next word of the script, and where there is none the call is told so; or a row into
   -- the list, and where there is no room the call stays as it is
-  unfoldable pub turnBy : Way → List Row → Wants → Turned
-  turnBy w l (W.Read r) =
+  unfoldable pub turn_by : Way → List Row → Wants → Turned
+  turn_by w l (W.Read r) =
       cond (ltb w.used (length s))
       (turned (E.Read r (get_or s w.used 0))
       (record { call = answered w.call (get_or s w.used 0); used = w.used + 1; rows = w.rows; place = lies_at r w.used w.place }) l)
       (turned (E.Missed r) (record { call = unanswered w.call; used = w.used; rows = w.rows; place = w.place }) l)
-  turnBy w l (W.Write r) =
+  turn_by w l (W.Write r) =
       cond (ltb w.rows (length l))
       (turned (E.Wrote r) (record { call = written w.call; used = w.used; rows = w.rows + 1; place = w.place }) (set l w.rows r))
       (turned (E.Full r) w l)
-  -- what is ahead never waits for this: `filledIn` made a row of it
-  turnBy w l (W.Send k) = turned E.Over w l
-  turnBy w l W.Nothing = turned E.Over w l
+  -- what is ahead never waits for this: `filled_in` made a row of it
+  turn_by w l (W.Send k) = turned E.Over w l
+  turn_by w l W.Nothing = turned E.Over w l
 
   abbrev pub turn_of : Way → List Row → Turned
-  turn_of w l = turnBy w l (wantOf w.call.ahead)
+  turn_of w l = turn_by w l (want_of w.call.ahead)
 
   -- what a call comes to from there on, and where its data words lie then
-  abbrev pub fedFrom : Way → List Row → Came
-  fedFrom w l = cameOf w.call.before (runNext s (noClosing w.call.before) w.call.ahead w.used w.rows l)
+  abbrev pub fed_from : Way → List Row → Came
+  fed_from w l = came_of w.call.before (run_next s (no_closing w.call.before) w.call.ahead w.used w.rows l)
 
-  abbrev pub placeFrom : Way → List Row → ℕ
-  placeFrom w l = placeNext s w.call.ahead w.place w.used w.rows l
+  abbrev pub place_from : Way → List Row → ℕ
+  place_from w l = place_next s w.call.ahead w.place w.used w.rows l
 
 -- the data words handed out after a turn
-unfoldable pub takenAt : Event → List ℕ → List ℕ
-takenAt (E.Read r w) taken = handedTo r w taken
-takenAt (E.Missed r) taken = taken
-takenAt (E.Wrote r) taken = taken
-takenAt (E.Full r) taken = taken
-takenAt E.Over taken = taken
+unfoldable pub taken_at : Event → List ℕ → List ℕ
+taken_at (E.Read r w) taken = handed_to r w taken
+taken_at (E.Missed r) taken = taken
+taken_at (E.Wrote r) taken = taken
+taken_at (E.Full r) taken = taken
+taken_at E.Over taken = taken
 
-abbrev pub handedAt : Event → Lent → Lent
-handedAt e g = record { sent = g.sent; taken = takenAt e g.taken }
+abbrev pub handed_at : Event → Lent → Lent
+handed_at e g = record { sent = g.sent; taken = taken_at e g.taken }
 
-abbrev pub turnedOf : Lent → Turn → List Row → Turned
-turnedOf g t l = turned t.event (way_of (handedAt t.event g) t.feeding) l
+abbrev pub turned_of : Lent → Turn → List Row → Turned
+turned_of g t l = turned t.event (way_of (handed_at t.event g) t.feeding) l
 
 -- whether another turn follows
-unfoldable pub goesOn : Event → Bool
-goesOn (E.Read r w) = true
-goesOn (E.Missed r) = true
-goesOn (E.Wrote r) = true
-goesOn (E.Full r) = false
-goesOn E.Over = false
+unfoldable pub goes_on : Event → Bool
+goes_on (E.Read r w) = true
+goes_on (E.Missed r) = true
+goes_on (E.Wrote r) = true
+goes_on (E.Full r) = false
+goes_on E.Over = false
 
 -- what a call has come to where none follows: it is over, or its row found no room, and the host is as before
-unfoldable pub calledWith : Way → Sdmmc → Outcome → Called
-calledWith w host (O.Over answer) = record { answer = answer; words = w.used; rows = w.rows; host = host }
-calledWith w host O.Not = record { answer = Answered.TraceFull; words = w.used; rows = w.rows; host = w.call.before }
+unfoldable pub called_with : Way → Sdmmc → Outcome → Called
+called_with w host (O.Over answer) = record { answer = answer; words = w.used; rows = w.rows; host = host }
+called_with w host O.Not = record { answer = Answered.TraceFull; words = w.used; rows = w.rows; host = w.call.before }
 
-abbrev pub calledAt : Way → Called
-calledAt w = calledWith w (closedOf w.call).host (closedOf w.call).outcome
+abbrev pub called_at : Way → Called
+called_at w = called_with w (closed_of w.call).host (closed_of w.call).outcome

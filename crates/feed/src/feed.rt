@@ -1,12 +1,12 @@
 // The four calls, fed from their beginning to their end. Their contracts are those of the calls on the script.
 ghost use Rattle.std.specs.Prelude.{◌≡◌, [], length};
 ghost use Rattle.types.specs.Words.{words_of};
-ghost use Rattle.tape.specs.Layout.{rowsIn};
-ghost use Rattle.host.specs.Calls.{calledOf, initialised, readCame, bufferOf, writeCame, statusCame, statusReadOf};
+ghost use Rattle.tape.specs.Layout.{rows_in};
+ghost use Rattle.host.specs.Calls.{called_of, initialised, read_came, buffer_of, write_came, status_came, status_read_of};
 ghost use Rattle.step.specs.Next.{Lent};
 ghost use Rattle.underway.specs.Under.{under};
 ghost use Rattle.feed.specs.Runs.{count_of};
-ghost use Rattle.feed.specs.Turns.{lent, way_of, starts, fedFrom, placeFrom, calledAt};
+ghost use Rattle.feed.specs.Turns.{lent, way_of, starts, fed_from, place_from, called_at};
 
 use crate::turn::Feeding;
 use host::blocks;
@@ -24,7 +24,7 @@ pub struct Fed {
 }
 
 fn ended(feeding: Feeding) -> Fed
-    ensures { (g : Lent) → result ≡ record { called = calledAt (way_of g feeding); place = feeding.place } }
+    ensures { (g : Lent) → result ≡ record { called = called_at (way_of g feeding); place = feeding.place } }
 {
     let place = feeding.place;
     Fed {
@@ -35,9 +35,9 @@ fn ended(feeding: Feeding) -> Fed
 
 // Feeds a call to its end, or to the end of the list. The data is what a write sends.
 pub fn feed(call: Call, script: &[u32], data: &[u8], rows: &mut [u64]) -> Fed
-    ensures answered { result.called ≡ calledOf (fedFrom script.now (starts (under (lent (words_of «data».now) []) call)) (rowsIn rows.old)) }
-    ensures listed { rowsIn rows.new ≡ (fedFrom script.now (starts (under (lent (words_of «data».now) []) call)) (rowsIn rows.old)).list }
-    ensures placed { result.place ≡ placeFrom script.now (starts (under (lent (words_of «data».now) []) call)) (rowsIn rows.old) }
+    ensures answered { result.called ≡ called_of (fed_from script.now (starts (under (lent (words_of «data».now) []) call)) (rows_in rows.old)) }
+    ensures listed { rows_in rows.new ≡ (fed_from script.now (starts (under (lent (words_of «data».now) []) call)) (rows_in rows.old)).list }
+    ensures placed { result.place ≡ place_from script.now (starts (under (lent (words_of «data».now) []) call)) (rows_in rows.old) }
 {
     let mut feeding = Feeding::begin(call);
     loop {
@@ -53,8 +53,8 @@ pub fn feed(call: Call, script: &[u32], data: &[u8], rows: &mut [u64]) -> Fed
 
 // Initialises the card: its record, and the clock and signalling for it.
 pub fn init_card(host: Sdmmc, script: &[u32], rows: &mut [u64], frequency: Hertz) -> Called
-    ensures answered { result ≡ calledOf (initialised host frequency.0 script.now (rowsIn rows.old)) }
-    ensures listed { rowsIn rows.new ≡ (initialised host frequency.0 script.now (rowsIn rows.old)).list }
+    ensures answered { result ≡ called_of (initialised host frequency.0 script.now (rows_in rows.old)) }
+    ensures listed { rows_in rows.new ≡ (initialised host frequency.0 script.now (rows_in rows.old)).list }
 {
     let none = [0u8; 0];
     let fed = feed(Call::init_card(host, frequency), script, &none, rows);
@@ -63,8 +63,8 @@ pub fn init_card(host: Sdmmc, script: &[u32], rows: &mut [u64], frequency: Hertz
 
 // Reads the card's SD status, which is then in its record too.
 pub fn read_sd_status(host: Sdmmc, script: &[u32], rows: &mut [u64]) -> StatusRead
-    ensures answered { result ≡ statusReadOf (statusCame host script.now (rowsIn rows.old)) }
-    ensures listed { rowsIn rows.new ≡ (statusCame host script.now (rowsIn rows.old)).list }
+    ensures answered { result ≡ status_read_of (status_came host script.now (rows_in rows.old)) }
+    ensures listed { rows_in rows.new ≡ (status_came host script.now (rows_in rows.old)).list }
 {
     let none = [0u8; 0];
     let fed = feed(Call::read_sd_status(host), script, &none, rows);
@@ -104,9 +104,9 @@ pub fn read_blocks(
     index: u32,
     buffer: &mut [u8],
 ) -> Called
-    ensures answered { result ≡ calledOf (readCame host index (length buffer.old) script.now (rowsIn rows.old)) }
-    ensures listed { rowsIn rows.new ≡ (readCame host index (length buffer.old) script.now (rowsIn rows.old)).list }
-    ensures filled { buffer.new ≡ bufferOf (readCame host index (length buffer.old) script.now (rowsIn rows.old)) buffer.old }
+    ensures answered { result ≡ called_of (read_came host index (length buffer.old) script.now (rows_in rows.old)) }
+    ensures listed { rows_in rows.new ≡ (read_came host index (length buffer.old) script.now (rows_in rows.old)).list }
+    ensures filled { buffer.new ≡ buffer_of (read_came host index (length buffer.old) script.now (rows_in rows.old)) buffer.old }
 {
     let bytes = buffer.len();
     let none = [0u8; 0];
@@ -126,8 +126,8 @@ pub fn write_blocks(
     index: u32,
     data: &[u8],
 ) -> Called
-    ensures answered { result ≡ calledOf (writeCame host index «data».now script.now (rowsIn rows.old)) }
-    ensures listed { rowsIn rows.new ≡ (writeCame host index «data».now script.now (rowsIn rows.old)).list }
+    ensures answered { result ≡ called_of (write_came host index «data».now script.now (rows_in rows.old)) }
+    ensures listed { rows_in rows.new ≡ (write_came host index «data».now script.now (rows_in rows.old)).list }
 {
     let bytes = data.len();
     let fed = feed(Call::write_blocks(host, index, bytes), script, data, rows);

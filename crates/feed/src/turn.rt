@@ -1,12 +1,12 @@
 // One turn of a call that is fed from a script: the word that it wants, or the row that it has.
 ghost use Rattle.std.specs.Prelude.{◌≡◌, List, ℕ, get_or};
 ghost use Rattle.types.specs.Words.{words_of};
-ghost use Rattle.tape.specs.Layout.{rowsIn};
+ghost use Rattle.tape.specs.Layout.{rows_in};
 ghost use Rattle.step.specs.declared.wants.Wants.TheVariants as W;
-ghost use Rattle.step.specs.Next.{wantOf, Lent};
+ghost use Rattle.step.specs.Next.{want_of, Lent};
 ghost use Rattle.underway.specs.Under.{under};
 ghost use Rattle.feed.specs.Runs.{lies_at};
-ghost use Rattle.feed.specs.Turns.{lent, way_of, turnBy, turn_of, turnedOf, goesOn, calledAt};
+ghost use Rattle.feed.specs.Turns.{lent, way_of, turn_by, turn_of, turned_of, goes_on, called_at};
 
 use host::host::Called;
 use step::wants::Wants;
@@ -40,7 +40,7 @@ pub enum Event {
 impl Event {
     // Whether another turn follows.
     pub fn goes_on(self) -> bool
-        ensures { result ≡ goesOn self }
+        ensures { result ≡ goes_on self }
     {
         match self {
             Event::Read(_, _) => true,
@@ -98,7 +98,7 @@ impl Feeding {
 
     // A reading: the next word of the script; where there is none, the call is told so.
     fn reads(self, script: &[u32], reading: Reading) -> Turn
-        ensures { (g : Lent) (l : List Row) → W.Read reading ≡ wantOf (under g self.call).ahead → turnedOf g result l ≡ turnBy script.now (way_of g self) l (W.Read reading) }
+        ensures { (g : Lent) (l : List Row) → W.Read reading ≡ want_of (under g self.call).ahead → turned_of g result l ≡ turn_by script.now (way_of g self) l (W.Read reading) }
     {
         let used = self.used;
         let call = self.call;
@@ -128,7 +128,7 @@ impl Feeding {
 
     // A row: into the list, where there is room.
     fn writes(self, rows: &mut [u64], row: Row) -> Turn
-        ensures { (g : Lent) (s : List ℕ) → W.Write row ≡ wantOf (under g self.call).ahead → turnedOf g result (rowsIn rows.new) ≡ turnBy s (way_of g self) (rowsIn rows.old) (W.Write row) }
+        ensures { (g : Lent) (s : List ℕ) → W.Write row ≡ want_of (under g self.call).ahead → turned_of g result (rows_in rows.new) ≡ turn_by s (way_of g self) (rows_in rows.old) (W.Write row) }
     {
         let n = self.rows;
         if rows.len() <= n {
@@ -153,7 +153,7 @@ impl Feeding {
 
     // One turn. The data is what a write sends.
     pub fn turn(self, script: &[u32], data: &[u8], rows: &mut [u64]) -> Turn
-        ensures { (taken : List ℕ) → turnedOf (lent (words_of «data».now) taken) result (rowsIn rows.new) ≡ turn_of script.now (way_of (lent (words_of «data».now) taken) self) (rowsIn rows.old) }
+        ensures { (taken : List ℕ) → turned_of (lent (words_of «data».now) taken) result (rows_in rows.new) ≡ turn_of script.now (way_of (lent (words_of «data».now) taken) self) (rows_in rows.old) }
     {
         let call = self.call;
         let wants = call.wants();
@@ -177,7 +177,7 @@ impl Feeding {
     // What the call has come to, where no turn follows: it is over; or its row found no room, and the host before it is the one
     // to use.
     pub fn called(self) -> Called
-        ensures { (g : Lent) → result ≡ calledAt (way_of g self) }
+        ensures { (g : Lent) → result ≡ called_at (way_of g self) }
     {
         let call = self.call;
         let job = call.job;

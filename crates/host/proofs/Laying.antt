@@ -7,11 +7,11 @@ use lib.ListN.{length, take, drop, length-drop, drop_of_length-le}
 use lib.Seq.{take_at, drop_at, take-add, take_all, drop-drop, length-take-le}
 use Rattle.types.proofs.Bytes.{bytes-append, length-bytes}
 use Rattle.types.specs.Words.{bytes_of, filled}
-use Rattle.host.specs.Calls.{blocksFilled}
+use Rattle.host.specs.Calls.{blocks_filled}
 
 -- the first k blocks of words, laid over the start of the buffer
-abbrev pub laidBlocks : List ℕ → List ℕ → ℕ → List ℕ
-laidBlocks words buffer k = bytes_of (take (128 * k) words) ++ drop (512 * k) buffer
+abbrev pub laid_blocks : List ℕ → List ℕ → ℕ → List ℕ
+laid_blocks words buffer k = bytes_of (take (128 * k) words) ++ drop (512 * k) buffer
 
 -- words that are as many as their bytes have room for
 filled-whole : (ws bs : List ℕ) → length ws ≡ 128 → length bs ≡ 512 → filled ws bs ≡ bytes_of ws
@@ -33,7 +33,7 @@ module _ (words buffer : List ℕ) (k : ℕ) (hw : 128 * k + 128 ≤ length word
   front : length (bytes_of (take (128 * k) words)) ≡ 512 * k
   front = length-bytes (take (128 * k) words) ∙ ap (λ (n : ℕ). 4 * n) (length-take-le (128 * k) words (omega arith)) ∙ omega arith
 
-  pub laid-length : length (laidBlocks words buffer k) ≡ length buffer
+  pub laid-length : length (laid_blocks words buffer k) ≡ length buffer
   laid-length =
       let parts = lib.ListN.length-append (bytes_of (take (128 * k) words)) rest in
       omega (arith, parts, front, length-drop (512 * k) buffer)
@@ -46,22 +46,22 @@ module _ (words buffer : List ℕ) (k : ℕ) (hw : 128 * k + 128 ≤ length word
 
   -- one block more: what comes back where its 512 bytes were lent and filled
   pub next-block : (m n : ℕ) → m ≡ 512 → n ≡ 128 → (ys : List ℕ)
-      → ys ≡ filled (take n (drop (128 * k) words)) (take m (drop (512 * k) (laidBlocks words buffer k)))
-      → take (512 * k) (laidBlocks words buffer k) ++ (ys ++ drop m (drop (512 * k) (laidBlocks words buffer k))) ≡ laidBlocks words buffer (k + 1)
+      → ys ≡ filled (take n (drop (128 * k) words)) (take m (drop (512 * k) (laid_blocks words buffer k)))
+      → take (512 * k) (laid_blocks words buffer k) ++ (ys ++ drop m (drop (512 * k) (laid_blocks words buffer k))) ≡ laid_blocks words buffer (k + 1)
   next-block m n em en ys e =
       let p = bytes_of (take (128 * k) words) in
-      let tail : drop (512 * k) (laidBlocks words buffer k) ≡ rest = drop_at p rest (512 * k) front in
+      let tail : drop (512 * k) (laid_blocks words buffer k) ≡ rest = drop_at p rest (512 * k) front in
       let bytes : ys ≡ bytes_of block =
       e
-      ∙ ap (λ (j : ℕ). filled (take j (drop (128 * k) words)) (take m (drop (512 * k) (laidBlocks words buffer k)))) en
-      ∙ ap (λ (j : ℕ). filled block (take j (drop (512 * k) (laidBlocks words buffer k)))) em
+      ∙ ap (λ (j : ℕ). filled (take j (drop (128 * k) words)) (take m (drop (512 * k) (laid_blocks words buffer k)))) en
+      ∙ ap (λ (j : ℕ). filled block (take j (drop (512 * k) (laid_blocks words buffer k)))) em
       ∙ ap (λ (l : List ℕ). filled block (take 512 l)) tail
       ∙ filled-whole block (take 512 rest) block-long room-long in
       let w : 128 * k + 128 ≡ 128 * (k + 1) = omega arith in
       let b : 512 * k + 512 ≡ 512 * (k + 1) = omega arith in
-      ap (λ (l : List ℕ). l ++ (ys ++ drop m (drop (512 * k) (laidBlocks words buffer k)))) (take_at p rest (512 * k) front)
-      ∙ ap (λ (l : List ℕ). p ++ (l ++ drop m (drop (512 * k) (laidBlocks words buffer k)))) bytes
-      ∙ ap (λ (j : ℕ). p ++ (bytes_of block ++ drop j (drop (512 * k) (laidBlocks words buffer k)))) em
+      ap (λ (l : List ℕ). l ++ (ys ++ drop m (drop (512 * k) (laid_blocks words buffer k)))) (take_at p rest (512 * k) front)
+      ∙ ap (λ (l : List ℕ). p ++ (l ++ drop m (drop (512 * k) (laid_blocks words buffer k)))) bytes
+      ∙ ap (λ (j : ℕ). p ++ (bytes_of block ++ drop j (drop (512 * k) (laid_blocks words buffer k)))) em
       ∙ ap (λ (l : List ℕ). p ++ (bytes_of block ++ drop 512 l)) tail
       ∙ ap (λ (l : List ℕ). p ++ (bytes_of block ++ l)) (drop-drop 512 (512 * k) buffer ∙ ap (λ (j : ℕ). drop j buffer) b)
       ∙ sym (append_assoc p (bytes_of block) (drop (512 * (k + 1)) buffer))
@@ -70,8 +70,8 @@ module _ (words buffer : List ℕ) (k : ℕ) (hw : 128 * k + 128 ≤ length word
       ∙ ap bytes_of (sym (take-add (128 * k) 128 words) ∙ ap (λ (j : ℕ). take j words) w))
 
 -- no word leaves the buffer as it is
-pub none_filled : (buffer : List ℕ) → blocksFilled [] buffer ≡ buffer
-unfolding blocksFilled bytes_of
+pub none_filled : (buffer : List ℕ) → blocks_filled [] buffer ≡ buffer
+unfolding blocks_filled bytes_of
 none_filled buffer =
     let none : min 0 (length buffer / 512) ≡ 0 = omega arith in
     rw none

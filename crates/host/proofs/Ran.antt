@@ -8,7 +8,7 @@ use lib.Dec.{eqb}
 use borrow.Author.Tests.{eqb-true}
 use Rattle.types.specs.declared.card.AddressAnswer.TheVariants as Address
 use Rattle.types.specs.declared.error.Error.TheVariants as E
-use Rattle.types.specs.Leaf.{address_of, stopsWrites}
+use Rattle.types.specs.Leaf.{address_of, stops_writes}
 use Rattle.types.proofs.Agree.{address}
 use Rattle.tape.specs.declared.progress.Halt.{Halt}
 use Rattle.tape.specs.declared.progress.Halt.TheVariants.{Refused, ScriptEnded, TraceFull}
@@ -18,22 +18,22 @@ use Rattle.tape.specs.declared.progress.Pace.TheVariants.{Going, Stopped}
 use Rattle.tape.specs.declared.progress.Progress.{Progress}
 use Rattle.tape.specs.declared.rows.Row.{Row}
 use Rattle.tape.specs.Plan.{Nothing, Plan}
-use Rattle.tape.specs.Run.{State, at, After, kept_at, run, run_from, doesAt, Gave}
-use Rattle.bus.specs.Command.{appCommand}
-use Rattle.init.specs.Initialise.{limitOf}
+use Rattle.tape.specs.Run.{State, at, After, kept_at, run, run_from, does_at, Gave}
+use Rattle.bus.specs.Command.{app_command}
+use Rattle.init.specs.Initialise.{limit_of}
 use Rattle.host.specs.declared.host.Called.{Called}
 use Rattle.host.specs.declared.host.Sdmmc.{Sdmmc}
-use Rattle.types.specs.Words.{sdStatusOf}
+use Rattle.types.specs.Words.{sd_status_of}
 use Rattle.tape.proofs.Laws.{by_cases}
-use Rattle.host.specs.Calls.{Came, calledOf, ends, dropped, kept, transferred, approached, served, blocksJudged}
-use Rattle.host.specs.Calls.{statusPlan, statusNext, statusCame, statusGiven, statusReadOf}
+use Rattle.host.specs.Calls.{Came, called_of, ends, dropped, kept, transferred, approached, served, blocks_judged}
+use Rattle.host.specs.Calls.{status_plan, status_next, status_came, status_given, status_read_of}
 
 -- a choice by a test that is known
-pub if-true : {A : Type 0} {b : Bool} {x : A} (y : A) → b ≡ true → x ≡ cond b x y
-if-true y t = rw t
+pub if_true : {A : Type 0} {b : Bool} {x : A} (y : A) → b ≡ true → x ≡ cond b x y
+if_true y t = rw t
 
-pub if-false : {A : Type 0} {b : Bool} (x : A) {y : A} → b ≡ false → y ≡ cond b x y
-if-false x t = rw t
+pub if_false : {A : Type 0} {b : Bool} (x : A) {y : A} → b ≡ false → y ≡ cond b x y
+if_false x t = rw t
 
 -- before the first step of a call
 abbrev pub begun : Line → Progress
@@ -42,13 +42,13 @@ begun line = record { pace = Going; used = 0; rows = 0; line = line }
 -- a plan that was started there
 pub from_start : {s : List ℕ} {A : Type 0} {d : A} {p : Plan A} {line : Line} {l : List Row} {v : A} {w : State}
     → Gave s A d p (at (begun line) l) v w → record { value = v; state = w } ≡ run s d p 0 0 line l
-unfolding doesAt
+unfolding does_at
 from_start e = e.same
 
 -- a plan of a call that is still going
 pub from-there : {s : List ℕ} {A : Type 0} {d : A} {p : Plan A} {w : State} {v : A} {w' : State}
     → w.progress.pace ≡ Going → Gave s A d p w v w' → record { value = v; state = w' } ≡ run_from s d p w
-unfolding doesAt
+unfolding does_at
 from-there g e = rw g at e.same
 
 -- however a call ends, its list is what its plan left
@@ -92,20 +92,20 @@ kept-none (Stopped x) = refl
 -- A call with a data phase, from what its two parts did.
 module _ (host : Sdmmc) (transfer : Plan (List ℕ)) (next : State → List ℕ → Sdmmc) (s : List ℕ) where
   -- the data phase is over
-  pub data-done : {w w' : State} {v : List ℕ} → w.progress.pace ≡ Going → Gave s (List ℕ) [] transfer w v w'
+  pub data_done : {w w' : State} {v : List ℕ} → w.progress.pace ≡ Going → Gave s (List ℕ) [] transfer w v w'
       → ends host (dropped host w') (next w' v) v w'.progress.pace w' ≡ transferred host transfer next s w
   unfolding transferred
-  data-done g e =
+  data_done g e =
       ap (λ (x : After (List ℕ)). ends host (dropped host x.state) (next x.state x.value) x.value x.state.progress.pace x.state)
       (from-there g e)
 
   -- so what the call is told, and its list, are what it comes to
   pub data-told : {w w' : State} {v : List ℕ} {r : Called} → w.progress.pace ≡ Going → Gave s (List ℕ) [] transfer w v w'
-      → r ≡ calledOf (ends host (dropped host w') (next w' v) v w'.progress.pace w')
-      → (r ≡ calledOf (transferred host transfer next s w)) × (w'.list ≡ (transferred host transfer next s w).list)
+      → r ≡ called_of (ends host (dropped host w') (next w' v) v w'.progress.pace w')
+      → (r ≡ called_of (transferred host transfer next s w)) × (w'.list ≡ (transferred host transfer next s w).list)
   data-told {w} {w'} {v} g e told = (
-    told ∙ ap calledOf (data-done g e),
-    sym (ends-list host (dropped host w') (next w' v) v w'.progress.pace w') ∙ ap (λ (x : Came). x.list) (data-done g e),
+    told ∙ ap called_of (data_done g e),
+    sym (ends-list host (dropped host w') (next w' v) v w'.progress.pace w') ∙ ap (λ (x : Came). x.list) (data_done g e),
   )
 
   at-going : (w : State) {q : Pace} → q ≡ Going → transferred host transfer next s w ≡ approached host transfer next s q w
@@ -137,9 +137,9 @@ pub record Good (bytes : ℕ) : Type 0 where
   pub some : 1 ≤ bytes / 512
   pub most : bytes / 512 ≤ 511
 
-pub judged-good : (host : Sdmmc) (sends : Bool) (index bytes a : ℕ) → blocksJudged host sends index bytes ≡ Address.Address a → Good bytes
-unfolding blocksJudged
-judged-good host sends index bytes a e = by host.known (sends && stopsWrites host.card.protection) (eqb (bytes % 512) 0) refl e
+pub judged-good : (host : Sdmmc) (sends : Bool) (index bytes a : ℕ) → blocks_judged host sends index bytes ≡ Address.Address a → Good bytes
+unfolding blocks_judged
+judged-good host sends index bytes a e = by host.known (sends && stops_writes host.card.protection) (eqb (bytes % 512) 0) refl e
   where
     by : (known stops whole : Bool) → eqb (bytes % 512) 0 ≡ whole
         → cond known
@@ -156,9 +156,9 @@ judged-good host sends index bytes a e = by host.known (sends && stopsWrites hos
 -- The status that a status call gives is the one that the record then has.
 
 abbrev Told : Came → Type 0
-Told x = statusGiven x.answer x.host.card.status ≡ statusGiven x.answer (sdStatusOf x.taken)
+Told x = status_given x.answer x.host.card.status ≡ status_given x.answer (sd_status_of x.taken)
 
-ends_held : (host refused accepted : Sdmmc) (words : List ℕ) (q : Pace) (w : State) → accepted.card.status ≡ sdStatusOf words
+ends_held : (host refused accepted : Sdmmc) (words : List ℕ) (q : Pace) (w : State) → accepted.card.status ≡ sd_status_of words
     → Told (ends host refused accepted words q w)
 unfolding ends
 ends_held host refused accepted words Going w e = e
@@ -166,25 +166,25 @@ ends_held host refused accepted words (Stopped (Refused x)) w e = refl
 ends_held host refused accepted words (Stopped ScriptEnded) w e = refl
 ends_held host refused accepted words (Stopped TraceFull) w e = refl
 
-status-held : (host : Sdmmc) (s : List ℕ) (l : List Row) → Told (statusCame host s l)
-unfolding statusCame served approached transferred ends
+status-held : (host : Sdmmc) (s : List ℕ) (l : List Row) → Told (status_came host s l)
+unfolding status_came served approached transferred ends
 status-held host s l = by_cases Told host.known _ _ (by w.progress.pace) refl
   where
     w : State
-    w = (run s (tt {0}) (appCommand (limitOf host.settings) host.card.rca) 0 0 host.line l).state
+    w = (run s (tt {0}) (app_command (limit_of host.settings) host.card.rca) 0 0 host.line l).state
 
-    by : (q : Pace) → Told (approached host (statusPlan host) (statusNext host) s q w)
+    by : (q : Pace) → Told (approached host (status_plan host) (status_next host) s q w)
     by Going =
-        let x = run_from s [] (statusPlan host) w in
-        ends_held host (dropped host x.state) (statusNext host x.state x.value) x.value x.state.progress.pace x.state refl
+        let x = run_from s [] (status_plan host) w in
+        ends_held host (dropped host x.state) (status_next host x.state x.value) x.value x.state.progress.pace x.state refl
     by (Stopped (Refused e)) = refl
     by (Stopped ScriptEnded) = refl
     by (Stopped TraceFull) = refl
 
-pub status-read : (host : Sdmmc) (s : List ℕ) (l : List Row) (r : Called) (status : List ℕ) → r ≡ calledOf (statusCame host s l)
-    → status ≡ statusGiven r.answer r.host.card.status
-    → record { answer = r.answer; words = r.words; rows = r.rows; status = status; host = r.host } ≡ statusReadOf (statusCame host s l)
+pub status-read : (host : Sdmmc) (s : List ℕ) (l : List Row) (r : Called) (status : List ℕ) → r ≡ called_of (status_came host s l)
+    → status ≡ status_given r.answer r.host.card.status
+    → record { answer = r.answer; words = r.words; rows = r.rows; status = status; host = r.host } ≡ status_read_of (status_came host s l)
 status-read host s l r status e given =
-    let held : status ≡ statusGiven (statusCame host s l).answer (sdStatusOf (statusCame host s l).taken) =
-    given ∙ ap (λ (x : Called). statusGiven x.answer x.host.card.status) e ∙ status-held host s l in
+    let held : status ≡ status_given (status_came host s l).answer (sd_status_of (status_came host s l).taken) =
+    given ∙ ap (λ (x : Called). status_given x.answer x.host.card.status) e ∙ status-held host s l in
     rw (e, held)

@@ -1,6 +1,6 @@
 // Blocks of a read, from where their words lie in the script into the lent buffer.
 ghost use Rattle.std.specs.Prelude.{◌≡◌, min, take, drop};
-ghost use Rattle.host.specs.Calls.{blocksFilled};
+ghost use Rattle.host.specs.Calls.{blocks_filled};
 
 use types::words;
 
@@ -26,7 +26,7 @@ fn lesser(a: usize, b: usize) -> usize
 
 // Fills whole blocks of the buffer, as many as there are words for.
 pub fn fill_blocks(buffer: &mut [u8], words: &[u32])
-    ensures { buffer.new ≡ blocksFilled words.now buffer.old }
+    ensures { buffer.new ≡ blocks_filled words.now buffer.old }
 {
     let n = lesser(words.len() / 128, buffer.len() / 512);
     let mut k = 0;

@@ -2,12 +2,12 @@
 ghost use Rattle.std.specs.Prelude.{◌≡◌, List, [], ◌&&◌, ℕ, ◌*◌, ◌≤◌, length};
 ghost use Rattle.types.specs.declared.card.AddressAnswer.TheVariants as Address;
 ghost use Rattle.types.specs.declared.clock.ClockAnswer.TheVariants as Clocked;
-ghost use Rattle.types.specs.Leaf.{stopsWrites};
+ghost use Rattle.types.specs.Leaf.{stops_writes};
 ghost use Rattle.types.specs.Words.{words_of};
-ghost use Rattle.tape.specs.Layout.{rowsIn};
+ghost use Rattle.tape.specs.Layout.{rows_in};
 ghost use Rattle.tape.specs.Run.{at};
 ghost use Rattle.bus.specs.Transfer.{incoming, outgoing};
-ghost use Rattle.host.specs.Calls.{calledOf, kept, dropped, ends, initFrom, initialised, blocksIndex, blocksTransfer, blocksData, blocks_from, blocksJudged, readCame, bufferOf, writeCame, withStatus, statusData, statusFrom, statusCame, statusGiven, statusReadOf};
+ghost use Rattle.host.specs.Calls.{called_of, kept, dropped, ends, init_from, initialised, blocks_index, blocks_transfer, blocks_data, blocks_from, blocks_judged, read_came, buffer_of, write_came, with_status, status_data, status_from, status_came, status_given, status_read_of};
 
 use crate::host::{Called, Sdmmc, StatusRead};
 use crate::{blocks, host};
@@ -24,7 +24,7 @@ use types::words;
 
 // The record with another SD status.
 pub fn with_status(card: Card, status: [u32; 16]) -> Card
-    ensures { result ≡ withStatus card status }
+    ensures { result ≡ with_status card status }
 {
     let mut read = card;
     read.status = status;
@@ -33,7 +33,7 @@ pub fn with_status(card: Card, status: [u32; 16]) -> Card
 
 // The status of a call that was answered so, where its record's status is this one: zeros unless it was accepted.
 pub fn given_status(answer: Answer, status: [u32; 16]) -> [u32; 16]
-    ensures { result ≡ statusGiven answer status }
+    ensures { result ≡ status_given answer status }
 {
     match answer {
         Answer::Accepted => status,
@@ -46,21 +46,21 @@ pub fn given_status(answer: Answer, status: [u32; 16]) -> [u32; 16]
 
 // CMD17 for one block, CMD18 for more.
 fn read_index(blocks: u16) -> u8
-    ensures { result ≡ blocksIndex incoming blocks }
+    ensures { result ≡ blocks_index incoming blocks }
 {
     if blocks == 1 { 17 } else { 18 }
 }
 
 // CMD24 for one block, CMD25 for more.
 fn write_index(blocks: u16) -> u8
-    ensures { (ws : List ℕ) → result ≡ blocksIndex (outgoing ws) blocks }
+    ensures { (ws : List ℕ) → result ≡ blocks_index (outgoing ws) blocks }
 {
     if blocks == 1 { 24 } else { 25 }
 }
 
 // A card that is protected bars a write, and nothing else.
 fn barred(sends: bool, protection: Protection) -> bool
-    ensures { result ≡ (sends && stopsWrites protection) }
+    ensures { result ≡ (sends && stops_writes protection) }
 {
     if sends {
         protection.stops_writes()
@@ -72,7 +72,7 @@ fn barred(sends: bool, protection: Protection) -> bool
 // What a read of so many blocks asks for.
 fn read_transfer(address: u32, blocks: u16) -> Transfer
     requires { blocks ≤ 511 }
-    ensures { result ≡ blocksTransfer incoming address blocks }
+    ensures { result ≡ blocks_transfer incoming address blocks }
 {
     Transfer {
         index: read_index(blocks),
@@ -85,7 +85,7 @@ fn read_transfer(address: u32, blocks: u16) -> Transfer
 // And a write of so many.
 fn write_transfer(address: u32, blocks: u16) -> Transfer
     requires { blocks ≤ 511 }
-    ensures { (ws : List ℕ) → result ≡ blocksTransfer (outgoing ws) address blocks }
+    ensures { (ws : List ℕ) → result ≡ blocks_transfer (outgoing ws) address blocks }
 {
     Transfer {
         index: write_index(blocks),
@@ -98,7 +98,7 @@ fn write_transfer(address: u32, blocks: u16) -> Transfer
 impl Sdmmc {
     // How a call ends that began with the card itself and did not come through: a refusal leaves no record.
     fn ends_without(self, p: Progress) -> Called
-        ensures { (words : List ℕ) (l : List Row) → result ≡ calledOf (ends self (dropped self (at p l)) self words p.pace (at p l)) }
+        ensures { (words : List ℕ) (l : List Row) → result ≡ called_of (ends self (dropped self (at p l)) self words p.pace (at p l)) }
     {
         let line = p.line;
         let none = self.with(line, false, identify::no_card());
@@ -107,8 +107,8 @@ impl Sdmmc {
 
     // An initialisation with this clock of identification.
     fn init_from(self, script: &[u32], rows: &mut [u64], frequency: Hertz, initial: Clock) -> Called
-        ensures answered { result ≡ calledOf (initFrom self frequency.0 (Clocked.Set initial) script.now (rowsIn rows.old)) }
-        ensures listed { rowsIn rows.new ≡ (initFrom self frequency.0 (Clocked.Set initial) script.now (rowsIn rows.old)).list }
+        ensures answered { result ≡ called_of (init_from self frequency.0 (Clocked.Set initial) script.now (rows_in rows.old)) }
+        ensures listed { rows_in rows.new ≡ (init_from self frequency.0 (Clocked.Set initial) script.now (rows_in rows.old)).list }
     {
         let settings = self.settings;
         let clock = initial.frequency;
@@ -127,8 +127,8 @@ impl Sdmmc {
 
     // Initialises the card: its record, and the clock and signalling for it.
     pub fn blocking_init_card(self, script: &[u32], rows: &mut [u64], frequency: Hertz) -> Called
-        ensures answered { result ≡ calledOf (initialised self frequency.0 script.now (rowsIn rows.old)) }
-        ensures listed { rowsIn rows.new ≡ (initialised self frequency.0 script.now (rowsIn rows.old)).list }
+        ensures answered { result ≡ called_of (initialised self frequency.0 script.now (rows_in rows.old)) }
+        ensures listed { rows_in rows.new ≡ (initialised self frequency.0 script.now (rows_in rows.old)).list }
     {
         let asked = frequency.0;
         let source = self.settings.source;
@@ -147,7 +147,7 @@ impl Sdmmc {
 
     // A call that stopped before its data phase: the record stays.
     fn ends_before(self, p: Progress) -> Called
-        ensures { (l : List Row) → result ≡ calledOf (ends self (kept self (at p l)) self [] p.pace (at p l)) }
+        ensures { (l : List Row) → result ≡ called_of (ends self (kept self (at p l)) self [] p.pace (at p l)) }
     {
         let line = p.line;
         let card = self.card;
@@ -158,8 +158,8 @@ impl Sdmmc {
     // The data phase of a status call.
     fn status_data(self, p: Progress, script: &[u32], rows: &mut [u64]) -> Called
         requires { p.pace ≡ Pace.Going }
-        ensures answered { result ≡ calledOf (statusData self script.now (at p (rowsIn rows.old))) }
-        ensures listed { rowsIn rows.new ≡ (statusData self script.now (at p (rowsIn rows.old))).list }
+        ensures answered { result ≡ called_of (status_data self script.now (at p (rows_in rows.old))) }
+        ensures listed { rows_in rows.new ≡ (status_data self script.now (at p (rows_in rows.old))).list }
     {
         let source = self.settings.source;
         let config = self.settings.config;
@@ -184,8 +184,8 @@ impl Sdmmc {
 
     // A status call on a host that has a card.
     fn status_from(self, script: &[u32], rows: &mut [u64]) -> Called
-        ensures answered { result ≡ calledOf (statusFrom self script.now (rowsIn rows.old)) }
-        ensures listed { rowsIn rows.new ≡ (statusFrom self script.now (rowsIn rows.old)).list }
+        ensures answered { result ≡ called_of (status_from self script.now (rows_in rows.old)) }
+        ensures listed { rows_in rows.new ≡ (status_from self script.now (rows_in rows.old)).list }
     {
         let limit = self.settings.config.poll_limit;
         let line = self.line;
@@ -200,8 +200,8 @@ impl Sdmmc {
 
     // A status call, but for the status that it gives.
     fn status_called(self, script: &[u32], rows: &mut [u64]) -> Called
-        ensures answered { result ≡ calledOf (statusCame self script.now (rowsIn rows.old)) }
-        ensures listed { rowsIn rows.new ≡ (statusCame self script.now (rowsIn rows.old)).list }
+        ensures answered { result ≡ called_of (status_came self script.now (rows_in rows.old)) }
+        ensures listed { rows_in rows.new ≡ (status_came self script.now (rows_in rows.old)).list }
     {
         if self.known {
             self.status_from(script, rows)
@@ -212,8 +212,8 @@ impl Sdmmc {
 
     // Reads the card's SD status, which is then in its record too.
     pub fn blocking_read_sd_status(self, script: &[u32], rows: &mut [u64]) -> StatusRead
-        ensures answered { result ≡ statusReadOf (statusCame self script.now (rowsIn rows.old)) }
-        ensures listed { rowsIn rows.new ≡ (statusCame self script.now (rowsIn rows.old)).list }
+        ensures answered { result ≡ status_read_of (status_came self script.now (rows_in rows.old)) }
+        ensures listed { rows_in rows.new ≡ (status_came self script.now (rows_in rows.old)).list }
     {
         let called = self.status_called(script, rows);
         let answer = called.answer;
@@ -241,9 +241,9 @@ impl Sdmmc {
         blocks: u16,
     ) -> Called
         requires { (p.pace ≡ Pace.Going) × (blocks ≤ 511) }
-        ensures answered { result ≡ calledOf (blocksData self incoming address blocks script.now (at p (rowsIn rows.old))) }
-        ensures listed { rowsIn rows.new ≡ (blocksData self incoming address blocks script.now (at p (rowsIn rows.old))).list }
-        ensures filled { buffer.new ≡ bufferOf (blocksData self incoming address blocks script.now (at p (rowsIn rows.old))) buffer.old }
+        ensures answered { result ≡ called_of (blocks_data self incoming address blocks script.now (at p (rows_in rows.old))) }
+        ensures listed { rows_in rows.new ≡ (blocks_data self incoming address blocks script.now (at p (rows_in rows.old))).list }
+        ensures filled { buffer.new ≡ buffer_of (blocks_data self incoming address blocks script.now (at p (rows_in rows.old))) buffer.old }
     {
         let source = self.settings.source;
         let config = self.settings.config;
@@ -272,9 +272,9 @@ impl Sdmmc {
         blocks: u16,
     ) -> Called
         requires { blocks ≤ 511 }
-        ensures answered { result ≡ calledOf (blocks_from self incoming blocks (Address.Address address) script.now (rowsIn rows.old)) }
-        ensures listed { rowsIn rows.new ≡ (blocks_from self incoming blocks (Address.Address address) script.now (rowsIn rows.old)).list }
-        ensures filled { buffer.new ≡ bufferOf (blocks_from self incoming blocks (Address.Address address) script.now (rowsIn rows.old)) buffer.old }
+        ensures answered { result ≡ called_of (blocks_from self incoming blocks (Address.Address address) script.now (rows_in rows.old)) }
+        ensures listed { rows_in rows.new ≡ (blocks_from self incoming blocks (Address.Address address) script.now (rows_in rows.old)).list }
+        ensures filled { buffer.new ≡ buffer_of (blocks_from self incoming blocks (Address.Address address) script.now (rows_in rows.old)) buffer.old }
     {
         let source = self.settings.source;
         let config = self.settings.config;
@@ -291,7 +291,7 @@ impl Sdmmc {
     // The checks of a read or a write of so many bytes from a block on, before anything reaches the card: there is a card, it
     // may be written to, and it has that many whole blocks there, 1 to 511. Then the address of the first.
     pub fn judged(self, sends: bool, index: u32, bytes: usize) -> AddressAnswer
-        ensures { result ≡ blocksJudged self sends index bytes }
+        ensures { result ≡ blocks_judged self sends index bytes }
     {
         let card = self.card;
         let class = card.card_type;
@@ -317,9 +317,9 @@ impl Sdmmc {
         index: u32,
         buffer: &mut [u8],
     ) -> Called
-        ensures answered { result ≡ calledOf (readCame self index (length buffer.old) script.now (rowsIn rows.old)) }
-        ensures listed { rowsIn rows.new ≡ (readCame self index (length buffer.old) script.now (rowsIn rows.old)).list }
-        ensures filled { buffer.new ≡ bufferOf (readCame self index (length buffer.old) script.now (rowsIn rows.old)) buffer.old }
+        ensures answered { result ≡ called_of (read_came self index (length buffer.old) script.now (rows_in rows.old)) }
+        ensures listed { rows_in rows.new ≡ (read_came self index (length buffer.old) script.now (rows_in rows.old)).list }
+        ensures filled { buffer.new ≡ buffer_of (read_came self index (length buffer.old) script.now (rows_in rows.old)) buffer.old }
     {
         let bytes = buffer.len();
         let answer = self.judged(false, index, bytes);
@@ -346,8 +346,8 @@ impl Sdmmc {
         blocks: u16,
     ) -> Called
         requires { (p.pace ≡ Pace.Going) × (blocks ≤ 511) × (length «data».now ≡ 512 * blocks) }
-        ensures answered { result ≡ calledOf (blocksData self (outgoing (words_of «data».now)) address blocks script.now (at p (rowsIn rows.old))) }
-        ensures listed { rowsIn rows.new ≡ (blocksData self (outgoing (words_of «data».now)) address blocks script.now (at p (rowsIn rows.old))).list }
+        ensures answered { result ≡ called_of (blocks_data self (outgoing (words_of «data».now)) address blocks script.now (at p (rows_in rows.old))) }
+        ensures listed { rows_in rows.new ≡ (blocks_data self (outgoing (words_of «data».now)) address blocks script.now (at p (rows_in rows.old))).list }
     {
         let source = self.settings.source;
         let config = self.settings.config;
@@ -373,8 +373,8 @@ impl Sdmmc {
         blocks: u16,
     ) -> Called
         requires { (blocks ≤ 511) × (length «data».now ≡ 512 * blocks) }
-        ensures answered { result ≡ calledOf (blocks_from self (outgoing (words_of «data».now)) blocks (Address.Address address) script.now (rowsIn rows.old)) }
-        ensures listed { rowsIn rows.new ≡ (blocks_from self (outgoing (words_of «data».now)) blocks (Address.Address address) script.now (rowsIn rows.old)).list }
+        ensures answered { result ≡ called_of (blocks_from self (outgoing (words_of «data».now)) blocks (Address.Address address) script.now (rows_in rows.old)) }
+        ensures listed { rows_in rows.new ≡ (blocks_from self (outgoing (words_of «data».now)) blocks (Address.Address address) script.now (rows_in rows.old)).list }
     {
         let source = self.settings.source;
         let config = self.settings.config;
@@ -396,8 +396,8 @@ impl Sdmmc {
         index: u32,
         data: &[u8],
     ) -> Called
-        ensures answered { result ≡ calledOf (writeCame self index «data».now script.now (rowsIn rows.old)) }
-        ensures listed { rowsIn rows.new ≡ (writeCame self index «data».now script.now (rowsIn rows.old)).list }
+        ensures answered { result ≡ called_of (write_came self index «data».now script.now (rows_in rows.old)) }
+        ensures listed { rows_in rows.new ≡ (write_came self index «data».now script.now (rows_in rows.old)).list }
     {
         let bytes = data.len();
         let answer = self.judged(true, index, bytes);

@@ -1,8 +1,8 @@
 // The host, making one, and how a call ends.
 ghost use Rattle.std.specs.Prelude.{◌≡◌, false, List, ℕ};
-ghost use Rattle.types.specs.Leaf.{clockOf};
+ghost use Rattle.types.specs.Leaf.{clock_of};
 ghost use Rattle.tape.specs.Run.{at};
-ghost use Rattle.host.specs.Calls.{freshLine, hostOf, noHost, clockedHost, made, ends, calledOf, untouched, held_of};
+ghost use Rattle.host.specs.Calls.{fresh_line, host_of, no_host, clocked_host, made, ends, called_of, untouched, held_of};
 
 use init::identify;
 use init::settings::Settings;
@@ -57,7 +57,7 @@ pub struct StatusRead {
 
 // What a host holds before it speaks to a card.
 pub fn fresh_line(clock: Hertz) -> Line
-    ensures { result ≡ freshLine clock }
+    ensures { result ≡ fresh_line clock }
 {
     Line {
         clkcr: 0,
@@ -69,7 +69,7 @@ pub fn fresh_line(clock: Hertz) -> Line
 
 // The zeros that stand where there is no host.
 fn no_host() -> Sdmmc
-    ensures { result ≡ noHost }
+    ensures { result ≡ no_host }
 {
     Sdmmc {
         settings: Settings {
@@ -103,7 +103,7 @@ pub fn start(line: Line) -> Progress
 
 // A host that has not spoken to a card, with the clock of identification.
 fn clocked(settings: Settings) -> Made
-    ensures { result ≡ clockedHost settings (clockOf settings.source.0 400_000 false) }
+    ensures { result ≡ clocked_host settings (clock_of settings.source.0 400_000 false) }
 {
     let source = settings.source;
     let answer = clock_setting(source, Hertz(Sdmmc::IDENTIFICATION), false);
@@ -184,7 +184,7 @@ impl Sdmmc {
 
     // The host with this line and record.
     pub fn with(self, line: Line, known: bool, card: Card) -> Sdmmc
-        ensures { result ≡ hostOf self.settings line known card }
+        ensures { result ≡ host_of self.settings line known card }
     {
         let settings = self.settings;
         Sdmmc {
@@ -197,7 +197,7 @@ impl Sdmmc {
 
     // A call that is refused before its first step.
     pub fn untouched(self, error: Error) -> Called
-        ensures { (l : List Row) → result ≡ calledOf (untouched self error l) }
+        ensures { (l : List Row) → result ≡ called_of (untouched self error l) }
     {
         Called {
             answer: Answer::Refused(error),
@@ -211,7 +211,7 @@ impl Sdmmc {
     // at the end of the script or of the list. A host is copied, so a caller that knows which it is makes that one, and
     // names this one for the other.
     pub fn ends(self, p: Progress, refused: Sdmmc, accepted: Sdmmc) -> Called
-        ensures { (words : List ℕ) (l : List Row) → result ≡ calledOf (ends self refused accepted words p.pace (at p l)) }
+        ensures { (words : List ℕ) (l : List Row) → result ≡ called_of (ends self refused accepted words p.pace (at p l)) }
     {
         let pace = p.pace;
         match pace {

@@ -9,16 +9,16 @@ use Rattle.types.specs.declared.error.Error.TheVariants.{UnsupportedCardType}
 use Rattle.types.specs.declared.error.Field.{Field}
 use Rattle.types.specs.declared.error.Field.TheVariants.{CsdVersion, BlockLength, CsdAndOcr}
 use Rattle.types.specs.Leaf.{count_of}
-use Rattle.types.specs.Words.{halvesOf}
+use Rattle.types.specs.Words.{halves_of}
 use Rattle.tape.specs.declared.progress.Halt.TheVariants.{Refused, ScriptEnded}
 use Rattle.tape.specs.declared.progress.Line.{Line}
 use Rattle.tape.specs.declared.progress.Pace.{Pace}
 use Rattle.tape.specs.declared.progress.Pace.TheVariants.{Stopped}
 use Rattle.tape.specs.Plan.{handle, ensure, until}
 use Rattle.tape.specs.Run.{run}
-use Rattle.tape.specs.Steps.{word, waitIdle}
-use Rattle.bus.specs.Command.{commandInner, command}
-use Rattle.init.specs.Initialise.{noCard, select}
+use Rattle.tape.specs.Steps.{word, wait_idle}
+use Rattle.bus.specs.Command.{command_inner, command}
+use Rattle.init.specs.Initialise.{no_card, select}
 
 abbrev line : Line
 line = record { clkcr = 0; gated = false; clock = record { 0 = 400_000 }; signalling = SDR12 }
@@ -33,7 +33,7 @@ pub record Case : Type 0 where
 -- how the judging of such a card ends, on a script without a word and a list without room: refused, or at CMD7's first reading
 abbrev pub judged : Case → Pace
 judged c =
-    (run [] noCard
+    (run [] no_card
     (select 1 (cond c.high 0xc0ff_8000 0x80ff_8000) 1 [] (c.structure * 2 ^ 30 ∷ c.length * 2 ^ 16 ∷ 0 ∷ 0 ∷ []))
     0 0 line []).state.progress.pace
 
@@ -70,5 +70,5 @@ table =
     ∷ []
 
 pub cases : map judged table ≡ map (λ (c : Case). c.due) table
-unfolding ensure count_of halvesOf handle until run word waitIdle commandInner command select
+unfolding ensure count_of halves_of handle until run word wait_idle command_inner command select
 cases = refl

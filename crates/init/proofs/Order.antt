@@ -10,13 +10,13 @@ use Rattle.types.specs.declared.register.CountAnswer.TheVariants.{Refused}
 use Rattle.types.specs.Bits.{bits}
 use Rattle.types.specs.Leaf.{count_of}
 use Rattle.types.specs.Sd.{wide_of}
-use Rattle.types.specs.Words.{halvesOf}
+use Rattle.types.specs.Words.{halves_of}
 use Rattle.tape.specs.Plan.{handle, ◌then◌, fail, ensure}
-use Rattle.init.specs.Initialise.{same, highCapacity, select}
+use Rattle.init.specs.Initialise.{same, high_capacity, select}
 
 -- the capacity comes before CMD7: a card whose capacity is refused is not selected
-pub unselected : (limit ocr rca : ℕ) (cid csd : List ℕ) (e : Error) → count_of (wide_of (halvesOf csd)) ≡ Refused e
+pub unselected : (limit ocr rca : ℕ) (cid csd : List ℕ) (e : Error) → count_of (wide_of (halves_of csd)) ≡ Refused e
     → select limit ocr rca cid csd
-    ≡ (ensure (same (highCapacity ocr) (eqb (bits (wide_of (halvesOf csd)) 127 126) 1)) (UnsupportedCardType CsdAndOcr) then λ _. fail e)
+    ≡ (ensure (same (high_capacity ocr) (eqb (bits (wide_of (halves_of csd)) 127 126) 1)) (UnsupportedCardType CsdAndOcr) then λ _. fail e)
 unfolding select handle
 unselected limit ocr rca cid csd e h = simp h

@@ -7,10 +7,10 @@ use native.Mathlib.Omega.{arith}
 use lib.Dec.{lit<}
 use lib.ListN.{length, get_or, take, drop, length-take, length-drop, get_or-eq_default}
 use lib.Seq.{get_or-take, get_or-drop}
-use Rattle.types.proofs.Counted.{getD-counted}
+use Rattle.types.proofs.Counted.{get_d_counted}
 use Rattle.types.specs.Words.{bytes_of}
 use Rattle.init.specs.Initialise.{offered, switched}
-use Rattle.init.specs.Lent.{sixteenOf}
+use Rattle.init.specs.Lent.{sixteen_of}
 
 module _ (s : List ℕ) (place count k : ℕ) where
   long : length (take count (drop place s)) ≤ length s - place
@@ -49,16 +49,16 @@ byte_at (w ∷ ws) (suc (suc (suc (suc k)))) =
     rw (word, place) (byte_at ws k)
 
 -- the first sixteen words have the same words and bytes
-getD-sixteen : (ws : List ℕ) (k : ℕ) → k < 16 → get_or (sixteenOf ws) k 0 ≡ get_or ws k 0
-unfolding sixteenOf
-getD-sixteen ws k h = getD-counted (λ n. get_or ws n 0) 0 16 k 0 h ∙ ap (λ (n : ℕ). get_or ws n 0) (zero-add k)
+get_d_sixteen : (ws : List ℕ) (k : ℕ) → k < 16 → get_or (sixteen_of ws) k 0 ≡ get_or ws k 0
+unfolding sixteen_of
+get_d_sixteen ws k h = get_d_counted (λ n. get_or ws n 0) 0 16 k 0 h ∙ ap (λ (n : ℕ). get_or ws n 0) (zero-add k)
 
-byte-sixteen : (ws : List ℕ) (k : ℕ) → k < 64 → get_or (bytes_of (sixteenOf ws)) k 0 ≡ get_or (bytes_of ws) k 0
-byte-sixteen ws k h =
-    byte_at (sixteenOf ws) k ∙ ap (λ (w : ℕ). byte w (k % 4)) (getD-sixteen ws (k / 4) (omega arith)) ∙ sym (byte_at ws k)
+byte_sixteen : (ws : List ℕ) (k : ℕ) → k < 64 → get_or (bytes_of (sixteen_of ws)) k 0 ≡ get_or (bytes_of ws) k 0
+byte_sixteen ws k h =
+    byte_at (sixteen_of ws) k ∙ ap (λ (w : ℕ). byte w (k % 4)) (get_d_sixteen ws (k / 4) (omega arith)) ∙ sym (byte_at ws k)
 
-pub offered-sixteen : (ws : List ℕ) → offered (sixteenOf ws) ≡ offered ws
-offered-sixteen ws = rw (byte-sixteen ws 13 (lit< tt), byte-sixteen ws 29 (lit< tt))
+pub offered_sixteen : (ws : List ℕ) → offered (sixteen_of ws) ≡ offered ws
+offered_sixteen ws = rw (byte_sixteen ws 13 (lit< tt), byte_sixteen ws 29 (lit< tt))
 
-pub switched-sixteen : (ws : List ℕ) → switched (sixteenOf ws) ≡ switched ws
-switched-sixteen ws = rw (byte-sixteen ws 16 (lit< tt))
+pub switched_sixteen : (ws : List ℕ) → switched (sixteen_of ws) ≡ switched ws
+switched_sixteen ws = rw (byte_sixteen ws 16 (lit< tt))

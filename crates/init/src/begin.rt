@@ -1,9 +1,9 @@
 // The first steps of an initialisation: power, CMD0, CMD8.
 ghost use Rattle.std.specs.Prelude.{◌≡◌, List, Bool, false, ℕ};
-ghost use Rattle.tape.specs.Layout.{rowsIn};
+ghost use Rattle.tape.specs.Layout.{rows_in};
 ghost use Rattle.tape.specs.Run.{at, Did, Gave, Settled};
 ghost use Rattle.bus.specs.Command.{first_of};
-ghost use Rattle.init.specs.Initialise.{version, timedOut, late, cardVersion, powerOn, beginInit};
+ghost use Rattle.init.specs.Initialise.{version, timed_out, late, card_version, power_on, begin_init};
 
 use crate::settings::Settings;
 use bus::response::{Response, Words};
@@ -45,7 +45,7 @@ fn version(p: Progress, word: u32) -> Flag
 
 // Whether no answer came in time: Timeout, and no other error.
 pub fn timed_out(e: Error) -> bool
-    ensures { result ≡ timedOut e }
+    ensures { result ≡ timed_out e }
 {
     match e {
         Error::Timeout => true,
@@ -90,7 +90,7 @@ fn judge_version(a: Words) -> Flag
 
 // Whether the card is of version 2.
 fn card_version(p: Progress, script: &[u32], rows: &mut [u64], limit: u32) -> Flag
-    ensures { Gave script.now Bool false (cardVersion limit) (at p (rowsIn rows.old)) result.flag (at result.progress (rowsIn rows.new)) }
+    ensures { Gave script.now Bool false (card_version limit) (at p (rows_in rows.old)) result.flag (at result.progress (rows_in rows.new)) }
 {
     let pace = p.pace;
     match pace {
@@ -121,7 +121,7 @@ fn power_on(
     settings: Settings,
     initial: Clock,
 ) -> Progress
-    ensures { Did script.now (powerOn settings initial) (at p (rowsIn rows.old)) (at result (rowsIn rows.new)) }
+    ensures { Did script.now (power_on settings initial) (at p (rows_in rows.old)) (at result (rows_in rows.new)) }
 {
     let source = settings.source;
     let frequency = initial.frequency;
@@ -141,7 +141,7 @@ pub fn begin_init(
     settings: Settings,
     initial: Clock,
 ) -> Flag
-    ensures { Gave script.now Bool false (beginInit settings initial) (at p (rowsIn rows.old)) result.flag (at result.progress (rowsIn rows.new)) }
+    ensures { Gave script.now Bool false (begin_init settings initial) (at p (rows_in rows.old)) result.flag (at result.progress (rows_in rows.new)) }
 {
     let limit = settings.config.poll_limit;
     let powered = power_on(p, script, rows, settings, initial);

@@ -1,9 +1,9 @@
 // The SCR, and the whole initialisation under its guard.
 ghost use Rattle.std.specs.Prelude.{◌≡◌, ℕ};
 ghost use Rattle.types.specs.declared.card.Card.{Card};
-ghost use Rattle.tape.specs.Layout.{rowsIn};
+ghost use Rattle.tape.specs.Layout.{rows_in};
 ghost use Rattle.tape.specs.Run.{at, Did, Gave};
-ghost use Rattle.init.specs.Initialise.{noCard, blockLength, readScr, withScr, settleCard, initCard, initialise};
+ghost use Rattle.init.specs.Initialise.{no_card, block_length, read_scr, with_scr, settle_card, init_card, initialise};
 
 use crate::identify::Known;
 use crate::settings::Settings;
@@ -33,7 +33,7 @@ fn set_block_length(
     limit: u32,
     card_type: CardCapacity,
 ) -> Progress
-    ensures { Did script.now (blockLength limit card_type) (at p (rowsIn rows.old)) (at result (rowsIn rows.new)) }
+    ensures { Did script.now (block_length limit card_type) (at p (rows_in rows.old)) (at result (rows_in rows.new)) }
 {
     match card_type {
         CardCapacity::SDSC => {
@@ -52,7 +52,7 @@ fn read_scr(
     settings: Settings,
     card: Card,
 ) -> ScrRead
-    ensures { Gave script.now ℕ 0 (readScr settings card) (at p (rowsIn rows.old)) result.scr.0 (at result.progress (rowsIn rows.new)) }
+    ensures { Gave script.now ℕ 0 (read_scr settings card) (at p (rows_in rows.old)) result.scr.0 (at result.progress (rows_in rows.new)) }
 {
     let source = settings.source;
     let config = settings.config;
@@ -79,7 +79,7 @@ fn read_scr(
 
 // The record with its SCR.
 pub fn with_scr(card: Card, scr: Scr) -> Card
-    ensures { result ≡ withScr card scr.0 }
+    ensures { result ≡ with_scr card scr.0 }
 {
     let mut found = card;
     found.scr = scr;
@@ -95,7 +95,7 @@ fn settle_card(
     frequency: Hertz,
     card: Card,
 ) -> Known
-    ensures { Gave script.now Card noCard (settleCard settings frequency.0 card) (at p (rowsIn rows.old)) result.card (at result.progress (rowsIn rows.new)) }
+    ensures { Gave script.now Card no_card (settle_card settings frequency.0 card) (at p (rows_in rows.old)) result.card (at result.progress (rows_in rows.new)) }
 {
     let rca = card.rca;
     let csd = card.csd;
@@ -117,7 +117,7 @@ fn init_card(
     initial: Clock,
     frequency: Hertz,
 ) -> Known
-    ensures { Gave script.now Card noCard (initCard settings initial frequency.0) (at p (rowsIn rows.old)) result.card (at result.progress (rowsIn rows.new)) }
+    ensures { Gave script.now Card no_card (init_card settings initial frequency.0) (at p (rows_in rows.old)) result.card (at result.progress (rows_in rows.new)) }
 {
     let limit = settings.config.poll_limit;
     let begun = begin::begin_init(p, script, rows, settings, initial);
@@ -136,7 +136,7 @@ pub fn initialise(
     initial: Clock,
     frequency: Hertz,
 ) -> Known
-    ensures { Gave script.now Card noCard (initialise settings initial frequency.0) (at p (rowsIn rows.old)) result.card (at result.progress (rowsIn rows.new)) }
+    ensures { Gave script.now Card no_card (initialise settings initial frequency.0) (at p (rows_in rows.old)) result.card (at result.progress (rows_in rows.new)) }
 {
     let pace = p.pace;
     match pace {

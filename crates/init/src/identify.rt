@@ -5,10 +5,10 @@ ghost use Rattle.types.specs.declared.register.BlockCount.{BlockCount};
 ghost use Rattle.types.specs.Bits.{bits};
 ghost use Rattle.types.specs.Leaf.{count_of};
 ghost use Rattle.types.specs.Sd.{wide_of};
-ghost use Rattle.tape.specs.Layout.{rowsIn};
+ghost use Rattle.tape.specs.Layout.{rows_in};
 ghost use Rattle.tape.specs.Plan.{give};
 ghost use Rattle.tape.specs.Run.{at, Gave};
-ghost use Rattle.init.specs.Initialise.{powerUp, tryPowerUp, waitPowerUp, highCapacity, class_of, same, noCard, cardOf, noBlocks, counted, select, publish, identify};
+ghost use Rattle.init.specs.Initialise.{power_up, try_power_up, wait_power_up, high_capacity, class_of, same, no_card, card_of, no_blocks, counted, select, publish, identify};
 
 use crate::settings::Settings;
 use bus::response::Response;
@@ -69,7 +69,7 @@ pub fn condition(version2: bool) -> u32
 
 // One ACMD41: the card's OCR.
 fn power_up(p: Progress, script: &[u32], rows: &mut [u64], limit: u32, version2: bool) -> Word
-    ensures { Gave script.now ℕ 0 (powerUp limit version2) (at p (rowsIn rows.old)) result.word (at result.progress (rowsIn rows.new)) }
+    ensures { Gave script.now ℕ 0 (power_up limit version2) (at p (rows_in rows.old)) result.word (at result.progress (rows_in rows.new)) }
 {
     let asked = condition(version2);
     let told = command::app_command(p, script, rows, limit, 0);
@@ -91,7 +91,7 @@ fn try_power_up(
     settings: Settings,
     version2: bool,
 ) -> Word
-    ensures { Gave script.now ℕ 0 (tryPowerUp settings version2) (at p (rowsIn rows.old)) result.word (at result.progress (rowsIn rows.new)) }
+    ensures { Gave script.now ℕ 0 (try_power_up settings version2) (at p (rows_in rows.old)) result.word (at result.progress (rows_in rows.new)) }
 {
     let source = settings.source;
     let answer = power_up(p, script, rows, settings.config.poll_limit, version2);
@@ -112,7 +112,7 @@ pub fn wait_power_up(
     settings: Settings,
     version2: bool,
 ) -> Word
-    ensures { Gave script.now ℕ 0 (waitPowerUp settings version2) (at p (rowsIn rows.old)) result.word (at result.progress (rowsIn rows.new)) }
+    ensures { Gave script.now ℕ 0 (wait_power_up settings version2) (at p (rows_in rows.old)) result.word (at result.progress (rows_in rows.new)) }
 {
     let attempts = settings.config.card_ready_attempts;
     let mut q = p;
@@ -134,7 +134,7 @@ pub fn wait_power_up(
 
 // The class of a card by its OCR.
 pub fn class(ocr: u32) -> CardCapacity
-    ensures { result ≡ class_of (highCapacity ocr) }
+    ensures { result ≡ class_of (high_capacity ocr) }
 {
     if ocr & Ocr::HIGH_CAPACITY != 0 {
         CardCapacity::SDHC
@@ -145,7 +145,7 @@ pub fn class(ocr: u32) -> CardCapacity
 
 // The record before a card is known, and where there is none.
 pub fn no_card() -> Card
-    ensures { result ≡ noCard }
+    ensures { result ≡ no_card }
 {
     Card {
         card_type: CardCapacity::SDSC,
@@ -165,7 +165,7 @@ pub fn no_card() -> Card
 
 // The record of a card that said this of itself.
 pub fn described(ocr: u32, rca: u16, cid: [u32; 4], csd: [u32; 4], blocks: BlockCount) -> Card
-    ensures { result ≡ cardOf ocr rca cid csd blocks }
+    ensures { result ≡ card_of ocr rca cid csd blocks }
 {
     let told = words::response_value(csd);
     Card {
@@ -183,7 +183,7 @@ pub fn described(ocr: u32, rca: u16, cid: [u32; 4], csd: [u32; 4], blocks: Block
 
 // Gives a record, unless the call has stopped.
 pub fn give_card(p: Progress, card: Card) -> Known
-    ensures { (s : List ℕ) (l : List Row) → Gave s Card noCard (give card) (at p l) result.card (at result.progress l) }
+    ensures { (s : List ℕ) (l : List Row) → Gave s Card no_card (give card) (at p l) result.card (at result.progress l) }
 {
     let pace = p.pace;
     match pace {
@@ -200,7 +200,7 @@ pub fn give_card(p: Progress, card: Card) -> Known
 
 // Gives a count, unless the call has stopped.
 fn give_count(p: Progress, count: BlockCount) -> Counted
-    ensures { (s : List ℕ) (l : List Row) → Gave s BlockCount noBlocks (give count) (at p l) result.count (at result.progress l) }
+    ensures { (s : List ℕ) (l : List Row) → Gave s BlockCount no_blocks (give count) (at p l) result.count (at result.progress l) }
 {
     let pace = p.pace;
     match pace {
@@ -217,7 +217,7 @@ fn give_count(p: Progress, count: BlockCount) -> Counted
 
 // The blocks that a CSD tells.
 fn count_blocks(p: Progress, csd: Wide) -> Counted
-    ensures { (s : List ℕ) (l : List Row) → Gave s BlockCount noBlocks (counted (count_of (wide_of csd))) (at p l) result.count (at result.progress l) }
+    ensures { (s : List ℕ) (l : List Row) → Gave s BlockCount no_blocks (counted (count_of (wide_of csd))) (at p l) result.count (at result.progress l) }
 {
     let answer = register::block_count(csd);
     match answer {
@@ -231,7 +231,7 @@ fn count_blocks(p: Progress, csd: Wide) -> Counted
 
 // Whether CSD and OCR tell of the same kind of card.
 pub fn agree(ocr: u32, csd: Wide) -> bool
-    ensures { result ≡ same (highCapacity ocr) (eqb (bits (wide_of csd) 127 126) 1) }
+    ensures { result ≡ same (high_capacity ocr) (eqb (bits (wide_of csd) 127 126) 1) }
 {
     if ocr & Ocr::HIGH_CAPACITY != 0 {
         csd.structure() == 1
@@ -251,7 +251,7 @@ fn select(
     cid: [u32; 4],
     csd: [u32; 4],
 ) -> Known
-    ensures { Gave script.now Card noCard (select limit ocr rca cid csd) (at p (rowsIn rows.old)) result.card (at result.progress (rowsIn rows.new)) }
+    ensures { Gave script.now Card no_card (select limit ocr rca cid csd) (at p (rows_in rows.old)) result.card (at result.progress (rows_in rows.new)) }
 {
     let told = words::response_value(csd);
     let sound = progress::ensure(
@@ -282,7 +282,7 @@ pub fn address(published: u32) -> u16
 
 // Has the card give itself an address.
 fn publish(p: Progress, script: &[u32], rows: &mut [u64], limit: u32) -> Published
-    ensures { Gave script.now ℕ 0 (publish limit) (at p (rowsIn rows.old)) result.rca (at result.progress (rowsIn rows.new)) }
+    ensures { Gave script.now ℕ 0 (publish limit) (at p (rows_in rows.old)) result.rca (at result.progress (rows_in rows.new)) }
 {
     let answer = command::send(p, script, rows, limit, 3, 0, Response::R6);
     let word = answer.words[0];
@@ -295,7 +295,7 @@ fn publish(p: Progress, script: &[u32], rows: &mut [u64], limit: u32) -> Publish
 
 // Has the card tell its CID, its address and its CSD, and selects it.
 pub fn identify(p: Progress, script: &[u32], rows: &mut [u64], limit: u32, ocr: u32) -> Known
-    ensures { Gave script.now Card noCard (identify limit ocr) (at p (rowsIn rows.old)) result.card (at result.progress (rowsIn rows.new)) }
+    ensures { Gave script.now Card no_card (identify limit ocr) (at p (rows_in rows.old)) result.card (at result.progress (rows_in rows.new)) }
 {
     let named = command::send(p, script, rows, limit, 2, 0, Response::R2);
     let cid = named.words;

@@ -1,6 +1,6 @@
 // Data words where they lie in the script: so many from a place on.
 ghost use Rattle.std.specs.Prelude.{◌≡◌, get_or, take, drop};
-ghost use Rattle.init.specs.Lent.{sixteenOf};
+ghost use Rattle.init.specs.Lent.{sixteen_of};
 
 // The word at this place among them, 0 past their end.
 pub fn word(script: &[u32], place: usize, count: usize, k: usize) -> u32
@@ -20,7 +20,7 @@ pub fn word(script: &[u32], place: usize, count: usize, k: usize) -> u32
 
 // The first sixteen of them, zeros past their end.
 pub fn sixteen(script: &[u32], place: usize, count: usize) -> [u32; 16]
-    ensures { result ≡ sixteenOf (take count (drop place script.now)) }
+    ensures { result ≡ sixteen_of (take count (drop place script.now)) }
 {
     let mut words = [0u32; 16];
     let mut i = 0;

@@ -1,12 +1,12 @@
 // Bus width, clock and signalling.
 ghost use Rattle.std.specs.Prelude.{◌≡◌, cond, not, ◌&&◌, ◌||◌, List, ℕ, min, eqb, ltb};
 ghost use Rattle.types.specs.declared.clock.Clock.{Clock};
-ghost use Rattle.types.specs.Leaf.{clockOf, rateOf};
-ghost use Rattle.types.specs.Sd.{oneLine, fourLines, sdSpec};
-ghost use Rattle.tape.specs.Layout.{rowsIn};
+ghost use Rattle.types.specs.Leaf.{clock_of, rate_of};
+ghost use Rattle.types.specs.Sd.{one_line, four_lines, sd_spec};
+ghost use Rattle.tape.specs.Layout.{rows_in};
 ghost use Rattle.tape.specs.Plan.{give};
 ghost use Rattle.tape.specs.Run.{at, Did, Gave};
-ghost use Rattle.init.specs.Initialise.{setWidth, noClock, clocked, setClock, rated, transferClock, offered, switched, takeSwitch, askSwitch, switchSpeed};
+ghost use Rattle.init.specs.Initialise.{set_width, no_clock, clocked, set_clock, rated, transfer_clock, offered, switched, take_switch, ask_switch, switch_speed};
 
 use crate::lent;
 use crate::settings::Settings;
@@ -58,7 +58,7 @@ pub fn lesser(a: u32, b: u32) -> u32
 
 // Whether the card has the lines that are connected.
 pub fn fits(scr: Scr, wide: bool) -> bool
-    ensures { result ≡ (oneLine scr.0 && (not wide || fourLines scr.0)) }
+    ensures { result ≡ (one_line scr.0 && (not wide || four_lines scr.0)) }
 {
     if scr.bus_width_one() {
         if wide { scr.bus_width_four() } else { true }
@@ -83,7 +83,7 @@ pub fn set_width(
     rca: u16,
     scr: Scr,
 ) -> Progress
-    ensures { Did script.now (setWidth settings rca scr.0) (at p (rowsIn rows.old)) (at result (rowsIn rows.new)) }
+    ensures { Did script.now (set_width settings rca scr.0) (at p (rows_in rows.old)) (at result (rows_in rows.new)) }
 {
     let limit = settings.config.poll_limit;
     let wide = settings.wide;
@@ -95,7 +95,7 @@ pub fn set_width(
 
 // Gives a clock, unless the call has stopped.
 fn give_clock(p: Progress, clock: Clock) -> Clocked
-    ensures { (s : List ℕ) (l : List Row) → Gave s Clock noClock (give clock) (at p l) result.clock (at result.progress l) }
+    ensures { (s : List ℕ) (l : List Row) → Gave s Clock no_clock (give clock) (at p l) result.clock (at result.progress l) }
 {
     let pace = p.pace;
     match pace {
@@ -116,7 +116,7 @@ fn give_clock(p: Progress, clock: Clock) -> Clocked
 
 // The setting for a requested clock.
 fn find_clock(p: Progress, source: Hertz, requested: Hertz, bypass: bool) -> Clocked
-    ensures { (s : List ℕ) (l : List Row) → Gave s Clock noClock (clocked (clockOf source.0 requested.0 bypass)) (at p l) result.clock (at result.progress l) }
+    ensures { (s : List ℕ) (l : List Row) → Gave s Clock no_clock (clocked (clock_of source.0 requested.0 bypass)) (at p l) result.clock (at result.progress l) }
 {
     let answer = clock_setting(source, requested, bypass);
     match answer {
@@ -140,7 +140,7 @@ fn set_clock(
     settings: Settings,
     requested: Hertz,
 ) -> Progress
-    ensures { Did script.now (setClock settings requested.0) (at p (rowsIn rows.old)) (at result (rowsIn rows.new)) }
+    ensures { Did script.now (set_clock settings requested.0) (at p (rows_in rows.old)) (at result (rows_in rows.new)) }
 {
     let source = settings.source;
     let limit = settings.config.poll_limit;
@@ -163,7 +163,7 @@ fn set_clock(
 
 // The rate that a TRAN_SPEED byte encodes.
 fn find_rate(p: Progress, encoded: u8) -> Word
-    ensures { (s : List ℕ) (l : List Row) → Gave s ℕ 0 (rated (rateOf encoded)) (at p l) result.word (at result.progress l) }
+    ensures { (s : List ℕ) (l : List Row) → Gave s ℕ 0 (rated (rate_of encoded)) (at p l) result.word (at result.progress l) }
 {
     let answer = transfer_rate(encoded);
     match answer {
@@ -184,7 +184,7 @@ pub fn transfer_clock(
     frequency: Hertz,
     encoded: u8,
 ) -> Progress
-    ensures { Did script.now (transferClock settings frequency.0 encoded) (at p (rowsIn rows.old)) (at result (rowsIn rows.new)) }
+    ensures { Did script.now (transfer_clock settings frequency.0 encoded) (at p (rows_in rows.old)) (at result (rows_in rows.new)) }
 {
     let slow = lesser(frequency.0, Switch::SDR12);
     let found = find_rate(p, encoded);
@@ -221,7 +221,7 @@ fn take_switch(
     frequency: Hertz,
     rca: u16,
 ) -> Progress
-    ensures { Did script.now (takeSwitch settings frequency.0 rca) (at p (rowsIn rows.old)) (at result (rowsIn rows.new)) }
+    ensures { Did script.now (take_switch settings frequency.0 rca) (at p (rows_in rows.old)) (at result (rows_in rows.new)) }
 {
     let source = settings.source;
     let config = settings.config;
@@ -250,7 +250,7 @@ fn ask_switch(
     frequency: Hertz,
     rca: u16,
 ) -> Progress
-    ensures { Did script.now (askSwitch settings frequency.0 rca) (at p (rowsIn rows.old)) (at result (rowsIn rows.new)) }
+    ensures { Did script.now (ask_switch settings frequency.0 rca) (at p (rows_in rows.old)) (at result (rows_in rows.new)) }
 {
     let asked = Transfer {
         index: 6,
@@ -271,7 +271,7 @@ fn ask_switch(
 
 // Whether more than SDR12 is asked for, of a card that has CMD6.
 pub fn fast(frequency: Hertz, scr: Scr) -> bool
-    ensures { result ≡ (ltb 25_000_000 frequency.0 && not (eqb (sdSpec scr.0) 0)) }
+    ensures { result ≡ (ltb 25_000_000 frequency.0 && not (eqb (sd_spec scr.0) 0)) }
 {
     if frequency.0 > Switch::SDR12 {
         scr.version() != 0
@@ -290,7 +290,7 @@ pub fn switch_speed(
     rca: u16,
     scr: Scr,
 ) -> Progress
-    ensures { Did script.now (switchSpeed settings frequency.0 rca scr.0) (at p (rowsIn rows.old)) (at result (rowsIn rows.new)) }
+    ensures { Did script.now (switch_speed settings frequency.0 rca scr.0) (at p (rows_in rows.old)) (at result (rows_in rows.new)) }
 {
     if fast(frequency, scr) {
         ask_switch(p, script, rows, settings, frequency, rca)

@@ -1,14 +1,14 @@
 // The host for a program in Rust or C, in one process: to measure what calls cost, and to compare what they come to, without
 // a book's limits. A slice goes over as a pointer and a length.
 ghost use Rattle.std.specs.Prelude.{◌≡◌};
-ghost use Rattle.tape.specs.Layout.{rowsIn};
+ghost use Rattle.tape.specs.Layout.{rows_in};
 ghost use Rattle.text.specs.Ink.{Laid};
-ghost use Rattle.host.specs.Calls.{calledOf, statusCame, blocksFilled, writeCame};
+ghost use Rattle.host.specs.Calls.{called_of, status_came, blocks_filled, write_came};
 ghost use Rattle.calls.specs.Serve.{comes};
-ghost use Rattle.book.specs.Layout.{contentsOf};
-ghost use Rattle.bench.specs.Bench.{printed, asking, bufferAfter};
-ghost use Rattle.bench.specs.Trace.{placeAfter};
-ghost use Rattle.meter.specs.Metered.{toldWith, served_at, servedFrom, metered};
+ghost use Rattle.book.specs.Layout.{contents_of};
+ghost use Rattle.bench.specs.Bench.{printed, asking, buffer_after};
+ghost use Rattle.bench.specs.Trace.{place_after};
+ghost use Rattle.meter.specs.Metered.{told_with, served_at, served_from, metered};
 
 use bench::{print, serve, trace};
 use book::layout;
@@ -28,7 +28,7 @@ struct Turn {
 
 // The answer's number in the top byte, the rows in the three below, the words in the low four.
 fn told(number: u8, rows: usize, words: usize) -> u64
-    ensures { result ≡ toldWith number rows words }
+    ensures { result ≡ told_with number rows words }
 {
     let top = number as u64 * 0x100_0000_0000_0000;
     let middle = (rows % 0x100_0000) as u64 * 0x1_0000_0000;
@@ -37,8 +37,8 @@ fn told(number: u8, rows: usize, words: usize) -> u64
 
 // A status call, one answer at a time: told as any other.
 fn feed_status(host: Sdmmc, script: &[u32], rows: &mut [u64]) -> Called
-    ensures answered { result ≡ calledOf (statusCame host script.now (rowsIn rows.old)) }
-    ensures listed { rowsIn rows.new ≡ (statusCame host script.now (rowsIn rows.old)).list }
+    ensures answered { result ≡ called_of (status_came host script.now (rows_in rows.old)) }
+    ensures listed { rows_in rows.new ≡ (status_came host script.now (rows_in rows.old)).list }
 {
     let read = read_sd_status(host, script, rows);
     let answer = read.answer;
@@ -60,9 +60,9 @@ fn feed_write(
     index: u32,
     buffer: &mut [u8],
 ) -> Called
-    ensures answered { result ≡ calledOf (writeCame host index (blocksFilled «data».now buffer.old) script.now (rowsIn rows.old)) }
-    ensures listed { rowsIn rows.new ≡ (writeCame host index (blocksFilled «data».now buffer.old) script.now (rowsIn rows.old)).list }
-    ensures filled { buffer.new ≡ blocksFilled «data».now buffer.old }
+    ensures answered { result ≡ called_of (write_came host index (blocks_filled «data».now buffer.old) script.now (rows_in rows.old)) }
+    ensures listed { rows_in rows.new ≡ (write_came host index (blocks_filled «data».now buffer.old) script.now (rows_in rows.old)).list }
+    ensures filled { buffer.new ≡ blocks_filled «data».now buffer.old }
 {
     blocks::fill_blocks(buffer, data);
     write_blocks(host, script, rows, index, buffer)
@@ -76,9 +76,9 @@ fn feed_call(
     rows: &mut [u64],
     buffer: &mut [u8],
 ) -> Called
-    ensures answered { result ≡ calledOf (comes host (asking (rowsIn rows.old) buffer.old words.now asked)) }
-    ensures listed { rowsIn rows.new ≡ (comes host (asking (rowsIn rows.old) buffer.old words.now asked)).list }
-    ensures filled { buffer.new ≡ bufferAfter (asking (rowsIn rows.old) buffer.old words.now asked) (comes host (asking (rowsIn rows.old) buffer.old words.now asked)) buffer.old }
+    ensures answered { result ≡ called_of (comes host (asking (rows_in rows.old) buffer.old words.now asked)) }
+    ensures listed { rows_in rows.new ≡ (comes host (asking (rows_in rows.old) buffer.old words.now asked)).list }
+    ensures filled { buffer.new ≡ buffer_after (asking (rows_in rows.old) buffer.old words.now asked) (comes host (asking (rows_in rows.old) buffer.old words.now asked)) buffer.old }
 {
     let kind = asked.kind;
     let a = asked.a;
@@ -104,9 +104,9 @@ fn ask(
     rows: &mut [u64],
     buffer: &mut [u8],
 ) -> Called
-    ensures answered { result ≡ calledOf (comes host (asking (rowsIn rows.old) buffer.old words.now asked)) }
-    ensures listed { rowsIn rows.new ≡ (comes host (asking (rowsIn rows.old) buffer.old words.now asked)).list }
-    ensures filled { buffer.new ≡ bufferAfter (asking (rowsIn rows.old) buffer.old words.now asked) (comes host (asking (rowsIn rows.old) buffer.old words.now asked)) buffer.old }
+    ensures answered { result ≡ called_of (comes host (asking (rows_in rows.old) buffer.old words.now asked)) }
+    ensures listed { rows_in rows.new ≡ (comes host (asking (rows_in rows.old) buffer.old words.now asked)).list }
+    ensures filled { buffer.new ≡ buffer_after (asking (rows_in rows.old) buffer.old words.now asked) (comes host (asking (rows_in rows.old) buffer.old words.now asked)) buffer.old }
 {
     if stepped {
         return feed_call(host, words, asked, rows, buffer);
@@ -124,8 +124,8 @@ fn serve_call(
     rows: &mut [u64],
     buffer: &mut [u8],
 ) -> Turn
-    ensures served { record { host = result.host; list = rowsIn rows.new; buffer = buffer.new; told = result.told } ≡ served_at words.now k place host (rowsIn rows.old) buffer.old }
-    ensures passed { result.place ≡ placeAfter words.now k place }
+    ensures served { record { host = result.host; list = rows_in rows.new; buffer = buffer.new; told = result.told } ≡ served_at words.now k place host (rows_in rows.old) buffer.old }
+    ensures passed { result.place ≡ place_after words.now k place }
 {
     let asked = layout::call_at(words, k, place);
     let end = trace::behind(words, asked.body_at, asked.body_len);
@@ -149,9 +149,9 @@ fn serve_calls(
     rows: &mut [u64],
     buffer: &mut [u8],
 ) -> u64
-    ensures told { result ≡ (servedFrom calls words.now 0 (contentsOf words.now) (record { host = host; list = rowsIn rows.old; buffer = buffer.old; told = before })).told }
-    ensures listed { rowsIn rows.new ≡ (servedFrom calls words.now 0 (contentsOf words.now) (record { host = host; list = rowsIn rows.old; buffer = buffer.old; told = before })).list }
-    ensures filled { buffer.new ≡ (servedFrom calls words.now 0 (contentsOf words.now) (record { host = host; list = rowsIn rows.old; buffer = buffer.old; told = before })).buffer }
+    ensures told { result ≡ (served_from calls words.now 0 (contents_of words.now) (record { host = host; list = rows_in rows.old; buffer = buffer.old; told = before })).told }
+    ensures listed { rows_in rows.new ≡ (served_from calls words.now 0 (contents_of words.now) (record { host = host; list = rows_in rows.old; buffer = buffer.old; told = before })).list }
+    ensures filled { buffer.new ≡ (served_from calls words.now 0 (contents_of words.now) (record { host = host; list = rows_in rows.old; buffer = buffer.old; told = before })).buffer }
 {
     let mut turn = Turn {
         host: host,
@@ -170,9 +170,9 @@ fn serve_calls(
 // Makes the host of words that are laid out as a book's, however many, and serves their calls in the lent list and buffer;
 // a read fills all of the buffer. Gives what the last call came to, or the host where there is none.
 fn serve_list(stepped: bool, words: &[u32], rows: &mut [u64], buffer: &mut [u8]) -> u64
-    ensures told { result ≡ (metered words.now (rowsIn rows.old) buffer.old).told }
-    ensures listed { rowsIn rows.new ≡ (metered words.now (rowsIn rows.old) buffer.old).list }
-    ensures filled { buffer.new ≡ (metered words.now (rowsIn rows.old) buffer.old).buffer }
+    ensures told { result ≡ (metered words.now (rows_in rows.old) buffer.old).told }
+    ensures listed { rows_in rows.new ≡ (metered words.now (rows_in rows.old) buffer.old).list }
+    ensures filled { buffer.new ≡ (metered words.now (rows_in rows.old) buffer.old).buffer }
 {
     let heading = layout::head(words);
     if heading.ready_attempts > 65535 {
@@ -197,9 +197,9 @@ fn serve_list(stepped: bool, words: &[u32], rows: &mut [u64], buffer: &mut [u8])
 // The calls of a list, on the script.
 #[unsafe(no_mangle)]
 pub extern "C" fn boresacu_meter_calls(words: &[u32], rows: &mut [u64], buffer: &mut [u8]) -> u64
-    ensures told { result ≡ (metered words.now (rowsIn rows.old) buffer.old).told }
-    ensures listed { rowsIn rows.new ≡ (metered words.now (rowsIn rows.old) buffer.old).list }
-    ensures filled { buffer.new ≡ (metered words.now (rowsIn rows.old) buffer.old).buffer }
+    ensures told { result ≡ (metered words.now (rows_in rows.old) buffer.old).told }
+    ensures listed { rows_in rows.new ≡ (metered words.now (rows_in rows.old) buffer.old).list }
+    ensures filled { buffer.new ≡ (metered words.now (rows_in rows.old) buffer.old).buffer }
 {
     serve_list(false, words, rows, buffer)
 }
@@ -207,9 +207,9 @@ pub extern "C" fn boresacu_meter_calls(words: &[u32], rows: &mut [u64], buffer: 
 // The calls of a list, one answer at a time.
 #[unsafe(no_mangle)]
 pub extern "C" fn boresacu_meter_steps(words: &[u32], rows: &mut [u64], buffer: &mut [u8]) -> u64
-    ensures told { result ≡ (metered words.now (rowsIn rows.old) buffer.old).told }
-    ensures listed { rowsIn rows.new ≡ (metered words.now (rowsIn rows.old) buffer.old).list }
-    ensures filled { buffer.new ≡ (metered words.now (rowsIn rows.old) buffer.old).buffer }
+    ensures told { result ≡ (metered words.now (rows_in rows.old) buffer.old).told }
+    ensures listed { rows_in rows.new ≡ (metered words.now (rows_in rows.old) buffer.old).list }
+    ensures filled { buffer.new ≡ (metered words.now (rows_in rows.old) buffer.old).buffer }
 {
     serve_list(true, words, rows, buffer)
 }

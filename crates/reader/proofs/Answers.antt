@@ -37,8 +37,8 @@ module _ (R : RattleType) where
   }
 
   module _ (answer : List ℕ → ℕ → R.Denot) {M : Type 1} (𝓤 : Ura M) where
-    abbrev pub fromPlace : Clauses 𝓤 FromPlace
-    fromPlace κs a = record { ghost = Unit {0}; requires = λ _. emp 𝓤; ensures = λ _ r _. fact 𝓤 (r ≡ answer a.0.now a.1.0) }
+    abbrev pub from_place : Clauses 𝓤 FromPlace
+    from_place κs a = record { ghost = Unit {0}; requires = λ _. emp 𝓤; ensures = λ _ r _. fact 𝓤 (r ≡ answer a.0.now a.1.0) }
 
-    abbrev pub fromReader : Clauses 𝓤 FromReader
-    fromReader κs a = record { ghost = Unit {0}; requires = λ _. emp 𝓤; ensures = λ _ r _. fact 𝓤 (r ≡ answer a.0.script.now a.0.place) }
+    abbrev pub from_reader : Clauses 𝓤 FromReader
+    from_reader κs a = record { ghost = Unit {0}; requires = λ _. emp 𝓤; ensures = λ _ r _. fact 𝓤 (r ≡ answer a.0.script.now a.0.place) }

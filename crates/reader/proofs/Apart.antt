@@ -36,7 +36,7 @@ use denote.Triple.Walked.{says, Stays, stay_none, walk_of, Goes-none, Walks, end
 use denote.Exit.{yes}
 use denote.Triple.Clauses.{ensured, lasts, closing}
 use Rattle.reader.specs.declared.Reader.{Reader}
-use Rattle.reader.proofs.Answers.{Held, FromPlace, FromReader, fromPlace, fromReader}
+use Rattle.reader.proofs.Answers.{Held, FromPlace, FromReader, from_place, from_reader}
 use Rattle.reader.specs.contracts.Reader as T
 use Rattle.reader.proofs.Reader.TheLaws as T'
 
@@ -61,7 +61,7 @@ module _ {M : Type 1} {𝓤 : Ura M} (𝓛 : Logic 𝓤) (R : RattleType) (answe
   open 𝓛 use {H}
 
   abbrev Callee : Contract 𝓤
-  Callee = triple_of 𝓛 (FromPlace R).signature (closing 𝓛 (FromPlace R) (fromPlace R answer 𝓤))
+  Callee = triple_of 𝓛 (FromPlace R).signature (closing 𝓛 (FromPlace R) (from_place R answer 𝓤))
 
   abbrev stayed : Stays (FromReader R).signature.params (FromReader R).kept
   stayed = (stay_none Held yes, tt)
@@ -78,7 +78,7 @@ module _ {M : Type 1} {𝓤 : Ura M} (𝓛 : Logic 𝓤) (R : RattleType) (answe
     found = answer d.script.now d.place
 
     abbrev Post : Val → SProp 𝓤
-    Post = (walk_of 𝓛 (FromReader R) stayed (fromReader R answer 𝓤)).post (((κ, tt), (q, tt), tt, (d, tt), (mach ∷ [], tt)), tt)
+    Post = (walk_of 𝓛 (FromReader R) stayed (from_reader R answer 𝓤)).post (((κ, tt), (q, tt), tt, (d, tt), (mach ∷ [], tt)), tt)
 
     abbrev Token : Item 𝓤
     Token = ‵ (flft κ q) ⊛ ‵ ftrue
@@ -116,13 +116,13 @@ module _ {M : Type 1} {𝓤 : Ura M} (𝓛 : Logic 𝓤) (R : RattleType) (answe
         move ! (2 ∷ 0 ∷ []) $ use2 𝓛 (raw (Callee.pre to)) asked $ frame ! $ done !)
 
     -- the callee has no `&mut`, so of what it ensures its clause is all
-    said : (r : R.Denot) → ent 𝓤 (ensured 𝓛 (FromPlace R) (fromPlace R answer 𝓤) (κ, tt) fields tt r) (fact 𝓤 (r ≡ found))
+    said : (r : R.Denot) → ent 𝓤 (ensured 𝓛 (FromPlace R) (from_place R answer 𝓤) (κ, tt) fields tt r) (fact 𝓤 (r ≡ found))
     said r = ex_e 𝓤 _ (λ ws. snd∗ 𝓤 (sem 𝓛 (lasts (FromPlace R) (κ, tt) fields ws)) (fact 𝓤 (r ≡ found)))
 
     exits : (r : R.Denot) (v : Val) → r ≡ found → ent 𝓤 (⋆ 𝓛 (‵ (R.own_val r (v ∷ [])) ∷ Token ∷ ‵ Own ∷ [])) (Post v)
     exits r v e =
         qed 𝓛 (‵ (R.own_val r (v ∷ [])) ∷ Token ∷ ‵ Own ∷ []) ∵
-        suffices ! _ (ends_at 𝓛 (FromReader R) stayed (fromReader R answer 𝓤) (((κ, tt), (q, tt), tt, (d, tt), (mach ∷ [], tt)), tt) v r (tt, tt) (tt, tt)) $ says ! e $
+        suffices ! _ (ends_at 𝓛 (FromReader R) stayed (from_reader R answer 𝓤) (((κ, tt), (q, tt), tt, (d, tt), (mach ∷ [], tt)), tt) v r (tt, tt) (tt, tt)) $ says ! e $
         move ! (1 ∷ []) $ frame ! $ nothing ! $ move ! (2 ∷ 0 ∷ []) $ fjoin ! $ frame ! $ done !
 
     module _ (C : Calls 𝓤 H) (Λ : Loops 𝓤 H) (fm : FmC 𝓤 H 𝓛.laws C) (callee : Name) (known : Triple 𝓤 (C callee) Callee) where
@@ -134,22 +134,22 @@ module _ {M : Type 1} {𝓤 : Ura M} (𝓛 : Logic 𝓤) (R : RattleType) (answe
           assigns ! (of_opd ! (load ! (from ! (fld ! refl (stop !))) (look_in ! 4 (sub ! 1 refl (whole !))))) (from ! (stop !)) (init ! 0 refl (tt, wt.1.1.0)) $
           move ! (8 ∷ []) $ use1 𝓛 (raw (Callee.pre to) ⊛ ‵ Own) (apart wt.1.1.0.fits) $ split ! $
           calls_at ! fm Callee known to (and_then ! (load ! (from ! (stop !)) (look ! 4 refl)) (and_then ! (load ! (from ! (stop !)) (look ! 2 refl)) (no_more !))) (λ v.
-          use1 𝓛 (later (some (λ (r : R.Denot). (Token ⊛ ‵ (R.own_val r (v ∷ []))) ⊛ raw (ensured 𝓛 (FromPlace R) (fromPlace R answer 𝓤) (κ, tt) fields tt r)))) (id⊢ 𝓤 _) $ await ! tt $ pick ! (λ r.
+          use1 𝓛 (later (some (λ (r : R.Denot). (Token ⊛ ‵ (R.own_val r (v ∷ []))) ⊛ raw (ensured 𝓛 (FromPlace R) (from_place R answer 𝓤) (κ, tt) fields tt r)))) (id⊢ 𝓤 _) $ await ! tt $ pick ! (λ r.
           split ! $ move ! (1 ∷ []) $ use1 𝓛 (raw (fact 𝓤 (r ≡ found))) (said r) $ heard ! (r ≡ found) (λ e. split ! $ move ! (1 ∷ []) $
           -- [the result; the token; what the reader owns; _3; …; _2; …; _1; …; room for _0; …]
           peeks ! R (Is R) (shows 𝓛 R) r (v ∷ []) (λ is. land ! (from ! (stop !)) (init ! 9 refl (typed r v is)) $
           returns ! (look ! 9 refl) $ forget ! 3 refl $ forget ! 5 refl $ forget ! 7 refl $ forget ! 9 refl $
           move ! (9 ∷ 10 ∷ []) $ free1 ! $ move ! (7 ∷ 8 ∷ []) $ free1 ! $ move ! (5 ∷ 6 ∷ []) $ free1 ! $ move ! (3 ∷ 4 ∷ []) $ free1 ! $ free0 ! $ by ! (exits r v e)))))))))
 
-  walks : (C : Calls 𝓤 H) (Λ : Loops 𝓤 H) → FmC 𝓤 H 𝓛.laws C → (callee : Name) → Triple 𝓤 (C callee) Callee → Walks 𝓛 (FromReader R) stayed (WpFn 𝓤 H C Λ (function τ callee)) (fromReader R answer 𝓤)
+  walks : (C : Calls 𝓤 H) (Λ : Loops 𝓤 H) → FmC 𝓤 H 𝓛.laws C → (callee : Name) → Triple 𝓤 (C callee) Callee → Walks 𝓛 (FromReader R) stayed (WpFn 𝓤 H C Λ (function τ callee)) (from_reader R answer 𝓤)
   walks C Λ fm callee known =
-      walked 𝓛 (FromReader R) stayed (fromReader R answer 𝓤) (WpFn 𝓤 H C Λ (function τ callee))
+      walked 𝓛 (FromReader R) stayed (from_reader R answer 𝓤) (WpFn 𝓤 H C Λ (function τ callee))
       (λ κs. (LL.vals (T.the_type (named_lft 1 0 tt κs)) (T'.the_laws (named_lft 1 0 tt κs)), tt)) (λ κs. (LL.tells (T.the_type (named_lft 1 0 tt κs)) (T'.the_laws (named_lft 1 0 tt κs)), tt))
       (λ κs qs bounds a g are. via 𝓤 _ (fst∗ 𝓤 _ (emp 𝓤))
       (walk κs.0 qs.0 a.0 C Λ fm callee known ((LL.lawful (T.the_type (named_lft 1 0 tt κs)) (T'.the_laws (named_lft 1 0 tt κs)) 𝓛).typed a.0 _ are.0).0))
 
   pub meets : (𝓣 : Tables 𝓤 H) (callee : Name) → Triple 𝓤 (𝓣.C callee) Callee
-      → Meets 𝓛 (FromReader R).signature (WpFn 𝓤 H 𝓣.C 𝓣.Λ (function τ callee)) (closing 𝓛 (FromReader R) (fromReader R answer 𝓤))
+      → Meets 𝓛 (FromReader R).signature (WpFn 𝓤 H 𝓣.C 𝓣.Λ (function τ callee)) (closing 𝓛 (FromReader R) (from_reader R answer 𝓤))
   meets 𝓣 callee known =
-      walk_Meets 𝓛 (FromReader R) stayed (Goes-none 𝓛 1 Held yes (λ κs x f. refl), tt) (fromReader R answer 𝓤)
+      walk_Meets 𝓛 (FromReader R) stayed (Goes-none 𝓛 1 Held yes (λ κs x f. refl), tt) (from_reader R answer 𝓤)
       (WpFn 𝓤 H 𝓣.C 𝓣.Λ (function τ callee)) (WpFn-mono 𝓤 H 𝓛.laws 𝓣 (function τ callee)) (walks 𝓣.C 𝓣.Λ (fm_of 𝓤 H 𝓛.laws 𝓣) callee known)

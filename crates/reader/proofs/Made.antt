@@ -35,9 +35,9 @@ use denote.Triple.Spec.{Meets, triple_of}
 use denote.Triple.Walked.{says, Stays, stay_none, stay_none_slice, walk_of, Goes-none, Goes-none_slice, Walks, ends_at, walked, walk_Meets}
 use denote.Exit.{yes}
 use denote.Triple.Clauses.{ensured, lasts, closing}
-use Rattle.reader.specs.Place.{readerAt}
+use Rattle.reader.specs.Place.{reader_at}
 use Rattle.reader.specs.declared.Reader.{Reader}
-use Rattle.reader.proofs.Answers.{Held, FromPlace, FromReader, fromPlace, fromReader}
+use Rattle.reader.proofs.Answers.{Held, FromPlace, FromReader, from_place, from_reader}
 use Rattle.reader.specs.contracts.Reader as T
 use Rattle.reader.proofs.Reader.TheLaws as T'
 use Rattle.reader.specs.contracts.Reader.new as new
@@ -74,7 +74,7 @@ module _ {M : Type 1} {𝓤 : Ura M} (𝓛 : Logic 𝓤) (mem : Memory → SProp
   open 𝓛 use {H}
 
   abbrev Callee : Contract 𝓤
-  Callee = triple_of 𝓛 (FromReader R).signature (closing 𝓛 (FromReader R) (fromReader R answer 𝓤))
+  Callee = triple_of 𝓛 (FromReader R).signature (closing 𝓛 (FromReader R) (from_reader R answer 𝓤))
 
   abbrev stayed : Stays (FromPlace R).signature.params (FromPlace R).kept
   stayed = (stay_none_slice (0 ∷ []) tt (plain (λ _. u32)) yes, (stay_none (λ _. usize) yes, tt))
@@ -88,13 +88,13 @@ module _ {M : Type 1} {𝓤 : Ura M} (𝓛 : Logic 𝓤) (mem : Memory → SProp
     found = answer s.now n
 
     abbrev start : Reader
-    start = readerAt s 0
+    start = reader_at s 0
 
     abbrev placed : Reader
-    placed = readerAt s n
+    placed = reader_at s n
 
     abbrev Post : Val → SProp 𝓤
-    Post = (walk_of 𝓛 (FromPlace R) stayed (fromPlace R answer 𝓤)).post (((κ, tt), (q, tt), tt, (s, (n, tt)), (lent ∷ [], (vint w64 n ∷ [], tt))), tt)
+    Post = (walk_of 𝓛 (FromPlace R) stayed (from_place R answer 𝓤)).post (((κ, tt), (q, tt), tt, (s, (n, tt)), (lent ∷ [], (vint w64 n ∷ [], tt))), tt)
 
     abbrev Token : Item 𝓤
     Token = ‵ (flft κ q) ⊛ ‵ ftrue
@@ -114,22 +114,22 @@ module _ {M : Type 1} {𝓤 : Ura M} (𝓛 : Logic 𝓤) (mem : Memory → SProp
 
     -- The three calls: what each is made with, that it is had, and what is known of what it gives. No callee has a `&mut`, so
     -- of what it ensures its clause is all.
-    abbrev to-new : (New 𝓛 mem run).Ghost
-    to-new = (((κ, tt), (q, tt), tt, (s, tt), (lent ∷ [], tt)), tt)
+    abbrev to_new : (New 𝓛 mem run).Ghost
+    to_new = (((κ, tt), (q, tt), tt, (s, tt), (lent ∷ [], tt)), tt)
 
-    asks-new : ent 𝓤 (on_entry 𝓛 new.signature (κ, tt) (q, tt) (s, tt) (lent ∷ [], tt)) ((New 𝓛 mem run).pre to-new)
-    asks-new = qed 𝓛 (Token ∷ ‵ (owns (ShrSlice (named 0) κ u32 ∷ []) (s, tt) (lent ∷ [], tt)) ∷ []) ∵ join ! $ frame ! $ done !
+    asks_new : ent 𝓤 (on_entry 𝓛 new.signature (κ, tt) (q, tt) (s, tt) (lent ∷ [], tt)) ((New 𝓛 mem run).pre to_new)
+    asks_new = qed 𝓛 (Token ∷ ‵ (owns (ShrSlice (named 0) κ u32 ∷ []) (s, tt) (lent ∷ [], tt)) ∷ []) ∵ join ! $ frame ! $ done !
 
     -- the script is lent by `&`, so what it owns goes to `new` and stays for the exit
-    goes-new : ent 𝓤 (on_entry 𝓛 (FromPlace R).signature (κ, tt) (q, tt) (s, (n, tt)) (lent ∷ [], (vint w64 n ∷ [], tt))) (sep 𝓤 ((New 𝓛 mem run).pre to-new) (sem 𝓛 Own))
-    goes-new =
+    goes_new : ent 𝓤 (on_entry 𝓛 (FromPlace R).signature (κ, tt) (q, tt) (s, (n, tt)) (lent ∷ [], (vint w64 n ∷ [], tt))) (sep 𝓤 ((New 𝓛 mem run).pre to_new) (sem 𝓛 Own))
+    goes_new =
         qed 𝓛 (Token ∷ ‵ (owns (ShrSlice (named 0) κ u32 ∷ usize ∷ []) (s, (n, tt)) (lent ∷ [], (vint w64 n ∷ [], tt))) ∷ []) ∵
         move ! (1 ∷ []) $ fsplit ! $ move ! (1 ∷ []) $ drop ! $ use1 𝓛 (‵ Own ⊛ ‵ Own) ((shr_slice_copy 𝓛 (named 0) κ u32).twice s (lent ∷ [])) $ split ! $
         -- [what the script owns; the same; the token]
-        nothing ! $ move ! (1 ∷ 0 ∷ []) $ fjoin ! $ move ! (2 ∷ 0 ∷ []) $ use2 𝓛 (raw ((New 𝓛 mem run).pre to-new)) asks-new $ frame ! $ done !
+        nothing ! $ move ! (1 ∷ 0 ∷ []) $ fjoin ! $ move ! (2 ∷ 0 ∷ []) $ use2 𝓛 (raw ((New 𝓛 mem run).pre to_new)) asks_new $ frame ! $ done !
 
-    new-said : (d : Reader) → ent 𝓤 (ensured 𝓛 new.ended (new.clauses 𝓛 mem run) (κ, tt) (s, tt) tt d) (fact 𝓤 (d ≡ start))
-    new-said d = ex_e 𝓤 _ (λ ws. snd∗ 𝓤 (sem 𝓛 (lasts new.ended (κ, tt) (s, tt) ws)) (fact 𝓤 (d ≡ start)))
+    new_said : (d : Reader) → ent 𝓤 (ensured 𝓛 new.ended (new.clauses 𝓛 mem run) (κ, tt) (s, tt) tt d) (fact 𝓤 (d ≡ start))
+    new_said d = ex_e 𝓤 _ (λ ws. snd∗ 𝓤 (sem 𝓛 (lasts new.ended (κ, tt) (s, tt) ws)) (fact 𝓤 (d ≡ start)))
 
     abbrev to-moved : Val → (Moved 𝓛 mem run).Ghost
     to-moved u = (((κ, tt), (q, tt), tt, (start, (n, tt)), (u ∷ [], (vint w64 n ∷ [], tt))), tt)
@@ -148,13 +148,13 @@ module _ {M : Type 1} {𝓤 : Ura M} (𝓛 : Logic 𝓤) (mem : Memory → SProp
     goes : (u : Val) → ent 𝓤 (⋆ 𝓛 (Token ∷ Reads placed u ∷ [])) (Callee.pre (to u))
     goes u = qed 𝓛 (Token ∷ Reads placed u ∷ []) ∵ nothing ! $ move ! (2 ∷ 0 ∷ []) $ fjoin ! $ move ! (1 ∷ 0 ∷ []) $ join ! $ frame ! $ done !
 
-    said : (r : R.Denot) → ent 𝓤 (ensured 𝓛 (FromReader R) (fromReader R answer 𝓤) (κ, tt) (placed, tt) tt r) (fact 𝓤 (r ≡ found))
+    said : (r : R.Denot) → ent 𝓤 (ensured 𝓛 (FromReader R) (from_reader R answer 𝓤) (κ, tt) (placed, tt) tt r) (fact 𝓤 (r ≡ found))
     said r = ex_e 𝓤 _ (λ ws. snd∗ 𝓤 (sem 𝓛 (lasts (FromReader R) (κ, tt) (placed, tt) ws)) (fact 𝓤 (r ≡ found)))
 
     exits : (r : R.Denot) (v : Val) → r ≡ found → ent 𝓤 (⋆ 𝓛 (‵ (R.own_val r (v ∷ [])) ∷ Token ∷ ‵ Own ∷ [])) (Post v)
     exits r v e =
         qed 𝓛 (‵ (R.own_val r (v ∷ [])) ∷ Token ∷ ‵ Own ∷ []) ∵
-        suffices ! _ (ends_at 𝓛 (FromPlace R) stayed (fromPlace R answer 𝓤) (((κ, tt), (q, tt), tt, (s, (n, tt)), (lent ∷ [], (vint w64 n ∷ [], tt))), tt) v r (tt, (tt, tt)) (tt, (tt, tt))) $ says ! e $
+        suffices ! _ (ends_at 𝓛 (FromPlace R) stayed (from_place R answer 𝓤) (((κ, tt), (q, tt), tt, (s, (n, tt)), (lent ∷ [], (vint w64 n ∷ [], tt))), tt) v r (tt, (tt, tt)) (tt, (tt, tt))) $ says ! e $
         move ! (1 ∷ []) $ frame ! $ nothing ! $ owned ! usize (Is usize) (uint_Makes 𝓛 w64) n _ (refl, fits) $ fjoin ! $ move ! (2 ∷ 0 ∷ []) $ fjoin ! $ frame ! $ done !
 
     module _ (C : Calls 𝓤 H) (Λ : Loops 𝓤 H) (fm : FmC 𝓤 H 𝓛.laws C) (known-new : Triple 𝓤 (C #new) (New 𝓛 mem run)) (known-moved : Triple 𝓤 (C #moved) (Moved 𝓛 mem run)) (callee : Name) (known : Triple 𝓤 (C callee) Callee) where
@@ -164,11 +164,11 @@ module _ {M : Type 1} {𝓤 : Ura M} (𝓛 : Logic 𝓤) (mem : Memory → SProp
           qed 𝓛 (raw (on_entry 𝓛 (FromPlace R).signature (κ, tt) (q, tt) (s, (n, tt)) (lent ∷ [], (vint w64 n ∷ [], tt))) ∷ []) ∵ enter ! C Λ (function τ callee) (lent ∷ vint w64 n ∷ []) _ $
           alloc1 ! (λ l₀. alloc1 ! (λ l₁. alloc1 ! (λ l₂. alloc1 ! (λ l₃. alloc1 ! (λ l₄. alloc0 ! $ params1 ! $
           pass1 ! (init ! 6 refl ((shr_slice_Lawful 𝓛 (named 0) κ u32).typed s (lent ∷ []) p).0) $ pass1 ! (init ! 4 refl (tt, record { fits = fits })) $ pass0 ! $
-          move ! (10 ∷ []) $ use1 𝓛 (raw ((New 𝓛 mem run).pre to-new) ⊛ ‵ Own) goes-new $ split ! $
+          move ! (10 ∷ []) $ use1 𝓛 (raw ((New 𝓛 mem run).pre to_new) ⊛ ‵ Own) goes_new $ split ! $
           -- [what `new` asks; what the script owns; room for _4; …; room for _3; …; _2; …; _1; …; room for _0; …]
-          calls_at ! fm (New 𝓛 mem run) known-new to-new (and_then ! (load ! (from ! (stop !)) (look ! 8 refl)) (no_more !)) (λ u.
+          calls_at ! fm (New 𝓛 mem run) known-new to_new (and_then ! (load ! (from ! (stop !)) (look ! 8 refl)) (no_more !)) (λ u.
           use1 𝓛 (later (some (λ (d : Reader). (Token ⊛ Reads d u) ⊛ raw (ensured 𝓛 new.ended (new.clauses 𝓛 mem run) (κ, tt) (s, tt) tt d)))) (id⊢ 𝓤 _) $ await ! tt $ pick ! (λ d.
-          split ! $ move ! (1 ∷ []) $ use1 𝓛 (raw (fact 𝓤 (d ≡ start))) (new-said d) $ heard ! (d ≡ start) (λ e. split ! $ rewrite ! 1 (λ (h : Reader). Reads h u) e refl $ move ! (1 ∷ []) $
+          split ! $ move ! (1 ∷ []) $ use1 𝓛 (raw (fact 𝓤 (d ≡ start))) (new_said d) $ heard ! (d ≡ start) (λ e. split ! $ rewrite ! 1 (λ (h : Reader). Reads h u) e refl $ move ! (1 ∷ []) $
           -- [what the reader owns; the token; what the script owns; room for _4; …; room for _3; …; _2; …; _1; …; room for _0; …]
           peeks ! (Held (κ, tt)) (Is (Held (κ, tt))) (shows 𝓛 (Held (κ, tt))) start (u ∷ []) (λ is. land ! (from ! (stop !)) (init ! 3 refl (local_typed start u is)) $
           move ! (1 ∷ 0 ∷ []) $ use2 𝓛 (raw ((Moved 𝓛 mem run).pre (to-moved u))) (goes_moved u) $
@@ -178,7 +178,7 @@ module _ {M : Type 1} {𝓤 : Ura M} (𝓛 : Logic 𝓤) (mem : Memory → SProp
           peeks ! (Held (κ, tt)) (Is (Held (κ, tt))) (shows 𝓛 (Held (κ, tt))) placed (u' ∷ []) (λ is'. land ! (from ! (stop !)) (init ! 5 refl (local_typed placed u' is')) $
           move ! (1 ∷ 0 ∷ []) $ use2 𝓛 (raw (Callee.pre (to u'))) (goes u') $
           calls_at ! fm Callee known (to u') (and_then ! (load ! (from ! (stop !)) (look ! 4 refl)) (no_more !)) (λ v.
-          use1 𝓛 (later (some (λ (r : R.Denot). (Token ⊛ ‵ (R.own_val r (v ∷ []))) ⊛ raw (ensured 𝓛 (FromReader R) (fromReader R answer 𝓤) (κ, tt) (placed, tt) tt r)))) (id⊢ 𝓤 _) $ await ! tt $ pick ! (λ r.
+          use1 𝓛 (later (some (λ (r : R.Denot). (Token ⊛ ‵ (R.own_val r (v ∷ []))) ⊛ raw (ensured 𝓛 (FromReader R) (from_reader R answer 𝓤) (κ, tt) (placed, tt) tt r)))) (id⊢ 𝓤 _) $ await ! tt $ pick ! (λ r.
           split ! $ move ! (1 ∷ []) $ use1 𝓛 (raw (fact 𝓤 (r ≡ found))) (said r) $ heard ! (r ≡ found) (λ e''. split ! $ move ! (1 ∷ []) $
           -- [the result; the token; what the script owns; _4; …; _3; …; _2; …; _1; …; room for _0; …]
           peeks ! R (Is R) (shows 𝓛 R) r (v ∷ []) (λ is''. land ! (from ! (stop !)) (init ! 11 refl (typed r v is'')) $
@@ -186,13 +186,13 @@ module _ {M : Type 1} {𝓤 : Ura M} (𝓛 : Logic 𝓤) (mem : Memory → SProp
           move ! (11 ∷ 12 ∷ []) $ free1 ! $ move ! (9 ∷ 10 ∷ []) $ free1 ! $ move ! (7 ∷ 8 ∷ []) $ free1 ! $ move ! (5 ∷ 6 ∷ []) $ free1 ! $ move ! (3 ∷ 4 ∷ []) $ free1 ! $ free0 ! $ by ! (exits r v e''))))))))))))))))))
 
   walks : (C : Calls 𝓤 H) (Λ : Loops 𝓤 H) → FmC 𝓤 H 𝓛.laws C → Triple 𝓤 (C #new) (New 𝓛 mem run) → Triple 𝓤 (C #moved) (Moved 𝓛 mem run) → (callee : Name) → Triple 𝓤 (C callee) Callee
-      → Walks 𝓛 (FromPlace R) stayed (WpFn 𝓤 H C Λ (function τ callee)) (fromPlace R answer 𝓤)
+      → Walks 𝓛 (FromPlace R) stayed (WpFn 𝓤 H C Λ (function τ callee)) (from_place R answer 𝓤)
   walks C Λ fm known-new known-moved callee known =
-      walked 𝓛 (FromPlace R) stayed (fromPlace R answer 𝓤) (WpFn 𝓤 H C Λ (function τ callee)) (λ κs. (shr_slice_vals, (uint_vals w64, tt))) (λ κs. (shr_slice_Tells (named 0) κs.0 u32, (uint_Tells w64, tt)))
+      walked 𝓛 (FromPlace R) stayed (from_place R answer 𝓤) (WpFn 𝓤 H C Λ (function τ callee)) (λ κs. (shr_slice_vals, (uint_vals w64, tt))) (λ κs. (shr_slice_Tells (named 0) κs.0 u32, (uint_Tells w64, tt)))
       (λ κs qs bounds a g are. via 𝓤 _ (fst∗ 𝓤 _ (emp 𝓤)) (walk κs.0 qs.0 a.0 a.1.0 are.1.0.1 C Λ fm known-new known-moved callee known are.0))
 
   pub meets : (𝓣 : Tables 𝓤 H) → Triple 𝓤 (𝓣.C #new) (New 𝓛 mem run) → Triple 𝓤 (𝓣.C #moved) (Moved 𝓛 mem run) → (callee : Name) → Triple 𝓤 (𝓣.C callee) Callee
-      → Meets 𝓛 (FromPlace R).signature (WpFn 𝓤 H 𝓣.C 𝓣.Λ (function τ callee)) (closing 𝓛 (FromPlace R) (fromPlace R answer 𝓤))
+      → Meets 𝓛 (FromPlace R).signature (WpFn 𝓤 H 𝓣.C 𝓣.Λ (function τ callee)) (closing 𝓛 (FromPlace R) (from_place R answer 𝓤))
   meets 𝓣 known-new known-moved callee known =
-      walk_Meets 𝓛 (FromPlace R) stayed (Goes-none_slice 𝓛 1 (0 ∷ []) tt (plain (λ _. u32)) yes, (Goes-none 𝓛 1 (λ _. usize) yes (λ κs x f. refl), tt)) (fromPlace R answer 𝓤)
+      walk_Meets 𝓛 (FromPlace R) stayed (Goes-none_slice 𝓛 1 (0 ∷ []) tt (plain (λ _. u32)) yes, (Goes-none 𝓛 1 (λ _. usize) yes (λ κs x f. refl), tt)) (from_place R answer 𝓤)
       (WpFn 𝓤 H 𝓣.C 𝓣.Λ (function τ callee)) (WpFn-mono 𝓤 H 𝓛.laws 𝓣 (function τ callee)) (walks 𝓣.C 𝓣.Λ (fm_of 𝓤 H 𝓛.laws 𝓣) known-new known-moved callee known)

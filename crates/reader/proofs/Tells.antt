@@ -8,7 +8,7 @@ use native.Mathlib.Decide.{dec_lt}
 use borrow.Author.Tests.{le-ltb, lt-ltb}
 use Rattle.reader.specs.declared.Found.{Found}
 use Rattle.reader.specs.declared.Found.TheVariants.{Word, End}
-use Rattle.reader.specs.Place.{wordAt}
+use Rattle.reader.specs.Place.{word_at}
 
 -- the word, or 0 at the end
 abbrev value_of : Found → ℕ
@@ -16,15 +16,15 @@ value_of (Word w) = w
 value_of End = 0
 
 module _ (s : List ℕ) (n : ℕ) where
-  there : n < length s → wordAt s n ≡ Word (get_or s n 0)
-  unfolding wordAt
+  there : n < length s → word_at s n ≡ Word (get_or s n 0)
+  unfolding word_at
   there h = rw (lt-ltb n (length s) h)
 
-  past : length s ≤ n → wordAt s n ≡ End
-  unfolding wordAt
+  past : length s ≤ n → word_at s n ≡ End
+  unfolding word_at
   past h = rw (le-ltb n (length s) h)
 
-  pub inside : (w : ℕ) → Word w ≡ wordAt s n → n < length s
+  pub inside : (w : ℕ) → Word w ≡ word_at s n → n < length s
   inside w e = by (dec_lt n (length s))
     where
       by : Dec (n < length s) → n < length s
@@ -33,10 +33,10 @@ module _ (s : List ℕ) (n : ℕ) where
           let clash : Word w ≡ End = e ∙ past (omega arith) in
           let z : ◌≡◌ {A = ℕ} 0 1 = cc in absurd (omega arith)
 
-  pub is_word : (w : ℕ) → Word w ≡ wordAt s n → w ≡ get_or s n 0
+  pub is_word : (w : ℕ) → Word w ≡ word_at s n → w ≡ get_or s n 0
   is_word w e = ap value_of (e ∙ there (inside w e))
 
-  pub outside : End ≡ wordAt s n → length s ≤ n
+  pub outside : End ≡ word_at s n → length s ≤ n
   outside e = by (dec_lt n (length s))
     where
       by : Dec (n < length s) → length s ≤ n

@@ -6,13 +6,13 @@ use Rattle.reader.specs.declared.Found.TheVariants.{Word, End}
 use Rattle.reader.specs.declared.Reader.{Reader}
 
 -- the reader of this lent script at this place
-abbrev pub readerAt : Bor (List ℕ) → ℕ → Reader
-readerAt script place = record { script = script; place = place }
+abbrev pub reader_at : Bor (List ℕ) → ℕ → Reader
+reader_at script place = record { script = script; place = place }
 
 -- the word at this place of a script, or its end
-unfoldable pub wordAt : List ℕ → ℕ → Found
-wordAt script place = cond (ltb place (length script)) (Word (get_or script place 0)) End
+unfoldable pub word_at : List ℕ → ℕ → Found
+word_at script place = cond (ltb place (length script)) (Word (get_or script place 0)) End
 
 -- how many words are left from this place on: none past the end, where the difference is 0
-abbrev pub leftAt : List ℕ → ℕ → ℕ
-leftAt script place = length script - place
+abbrev pub left_at : List ℕ → ℕ → ℕ
+left_at script place = length script - place

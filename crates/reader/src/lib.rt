@@ -1,6 +1,6 @@
 // A reader keeps a lent script of readings beside its place in it.
 ghost use Rattle.std.specs.Prelude.{◌≡◌};
-ghost use Rattle.reader.specs.Place.{readerAt, wordAt, leftAt};
+ghost use Rattle.reader.specs.Place.{reader_at, word_at, left_at};
 
 #[derive(Drop)]
 pub struct Reader<'a> {
@@ -17,7 +17,7 @@ pub enum Found {
 
 // The word at this place.
 fn word_at(script: &[u32], place: usize) -> Found
-    ensures { result ≡ wordAt script.now place }
+    ensures { result ≡ word_at script.now place }
 {
     if place < script.len() {
         Found::Word(script[place])
@@ -28,7 +28,7 @@ fn word_at(script: &[u32], place: usize) -> Found
 
 // How many words are left from this place on, none past the end.
 fn left_at(script: &[u32], place: usize) -> usize
-    ensures { result ≡ leftAt script.now place }
+    ensures { result ≡ left_at script.now place }
 {
     if place < script.len() {
         script.len() - place
@@ -42,14 +42,14 @@ fn left_at(script: &[u32], place: usize) -> usize
 impl<'a> Reader<'a> {
     // At the script's start.
     pub fn new(script: &'a [u32]) -> Reader<'a>
-        ensures { result ≡ readerAt script.entry 0 }
+        ensures { result ≡ reader_at script.entry 0 }
     {
         Reader { script, place: 0 }
     }
 
     // The same script, at another place.
     pub fn moved(self, place: usize) -> Reader<'a>
-        ensures { result ≡ readerAt self.entry.script place }
+        ensures { result ≡ reader_at self.entry.script place }
     {
         Reader {
             script: self.script,
@@ -59,14 +59,14 @@ impl<'a> Reader<'a> {
 
     // The word at the reader's place.
     pub fn here(self) -> Found
-        ensures { result ≡ wordAt self.entry.script.now self.entry.place }
+        ensures { result ≡ word_at self.entry.script.now self.entry.place }
     {
         word_at(self.script, self.place)
     }
 
     // How many words are left from its place on.
     pub fn left(self) -> usize
-        ensures { result ≡ leftAt self.entry.script.now self.entry.place }
+        ensures { result ≡ left_at self.entry.script.now self.entry.place }
     {
         left_at(self.script, self.place)
     }
@@ -74,14 +74,14 @@ impl<'a> Reader<'a> {
 
 // What a reader of this script finds at this place. Whoever calls this function or the next holds no reader, and is covered.
 pub fn word(script: &[u32], place: usize) -> Found
-    ensures { result ≡ wordAt script.now place }
+    ensures { result ≡ word_at script.now place }
 {
     Reader::new(script).moved(place).here()
 }
 
 // How many words a reader of this script has left from this place on.
 pub fn left_from(script: &[u32], place: usize) -> usize
-    ensures { result ≡ leftAt script.now place }
+    ensures { result ≡ left_at script.now place }
 {
     Reader::new(script).moved(place).left()
 }

@@ -16,27 +16,27 @@ use Rattle.tape.specs.declared.progress.Pace.TheVariants.{Going, Stopped}
 use Rattle.tape.specs.declared.rows.Row.{Row}
 use Rattle.tape.proofs.Laws.{run-handle}
 use Rattle.tape.specs.Plan.{Nothing, Cause, failed, ended, Plan, give, refuse, read, write, look, hold, handle, ◌then◌, refusing, guard}
-use Rattle.tape.proofs.Room.{isFull, free, full-exactly, laid-between, run_fits}
+use Rattle.tape.proofs.Room.{is_full, free, full_exactly, laid-between, run_fits}
 use Rattle.tape.specs.Rows.{ARG, CLKCR, CMD, DCTRL, DCTRL2, DLEN, DTIMER, ICR, MASK, POWER}
-use Rattle.tape.specs.Run.{State, at, After, after, noted, haltOf, run, run_from, next_at}
-use Rattle.tape.specs.Steps.{row, resetController}
+use Rattle.tape.specs.Run.{State, at, After, after, noted, halt_of, run, run_from, next_at}
+use Rattle.tape.specs.Steps.{row, reset_controller}
 
-abbrev rowTo : ℕ → ℕ → Row
-rowTo register value = record { register = register; value = value }
+abbrev row_to : ℕ → ℕ → Row
+row_to register value = record { register = register; value = value }
 
 -- 'Reset rows, in order: MASK, DCTRL2, DCTRL, CMD, POWER, CLKCR, ARG, DTIMER, DLEN, all 0, then ICR 0x00c007ff'
-abbrev pub resetRows : List Row
-resetRows =
-    rowTo MASK 0 ∷ rowTo DCTRL2 0 ∷ rowTo DCTRL 0 ∷ rowTo CMD 0 ∷ rowTo POWER 0 ∷ rowTo CLKCR 0 ∷ rowTo ARG 0 ∷ rowTo DTIMER 0
-    ∷ rowTo DLEN 0 ∷ rowTo ICR 0x00c0_07ff ∷ []
+abbrev pub reset_rows : List Row
+reset_rows =
+    row_to MASK 0 ∷ row_to DCTRL2 0 ∷ row_to DCTRL 0 ∷ row_to CMD 0 ∷ row_to POWER 0 ∷ row_to CLKCR 0 ∷ row_to ARG 0 ∷ row_to DTIMER 0
+    ∷ row_to DLEN 0 ∷ row_to ICR 0x00c0_07ff ∷ []
 
 -- CLKCR reads 0 after them; clock, signalling and gate stand
-abbrev pub clkcrCleared : Line → Line
-clkcrCleared h = record { clkcr = 0; gated = h.gated; clock = h.clock; signalling = h.signalling }
+abbrev pub clkcr_cleared : Line → Line
+clkcr_cleared h = record { clkcr = 0; gated = h.gated; clock = h.clock; signalling = h.signalling }
 
 -- the reset rows in a list of which n rows are written
-abbrev pub resetLaid : List Row → ℕ → List Row
-resetLaid l n = take n l ++ resetRows ++ drop (n + 10) l
+abbrev pub reset_laid : List Row → ℕ → List Row
+reset_laid l n = take n l ++ reset_rows ++ drop (n + 10) l
 
 -- w' is w and then the ten reset rows, all of them; no word is used, and it goes or has stopped as before
 pub record ThenReset (w w' : State) : Type 0 where
@@ -44,44 +44,44 @@ pub record ThenReset (w w' : State) : Type 0 where
   pub pace : w'.progress.pace ≡ w.progress.pace
   pub used : w'.progress.used ≡ w.progress.used
   pub rows : w'.progress.rows ≡ w.progress.rows + 10
-  pub line : w'.progress.line ≡ clkcrCleared w.progress.line
-  pub list : w'.list ≡ resetLaid w.list w.progress.rows
+  pub line : w'.progress.line ≡ clkcr_cleared w.progress.line
+  pub list : w'.list ≡ reset_laid w.list w.progress.rows
 
 -- what the reset rows come to: all ten, or no room for them
 data Reset (s : List ℕ) (u n : ℕ) (h : Line) (l : List Row) : Type 0 where
-  whole : n + 10 ≤ length l → run s (tt {0}) resetController u n h l ≡ after tt Going u (n + 10) (clkcrCleared h) (resetLaid l n) → Reset s u n h l
-  full : (run s (tt {0}) resetController u n h l).state.progress.pace ≡ Stopped TraceFull → Reset s u n h l
+  whole : n + 10 ≤ length l → run s (tt {0}) reset_controller u n h l ≡ after tt Going u (n + 10) (clkcr_cleared h) (reset_laid l n) → Reset s u n h l
+  full : (run s (tt {0}) reset_controller u n h l).state.progress.pace ≡ Stopped TraceFull → Reset s u n h l
 
-is-full : (q : Pace) → isFull q ≡ true → q ≡ Stopped TraceFull
+is-full : (q : Pace) → is_full q ≡ true → q ≡ Stopped TraceFull
 is-full Going e = let z : ◌≡◌ {A = ℕ} 0 1 = cc in absurd (omega arith)
 is-full (Stopped (Refused x)) e = let z : ◌≡◌ {A = ℕ} 0 1 = cc in absurd (omega arith)
 is-full (Stopped ScriptEnded) e = let z : ◌≡◌ {A = ℕ} 0 1 = cc in absurd (omega arith)
 is-full (Stopped TraceFull) e = refl
 
 reset : (s : List ℕ) (u n : ℕ) (h : Line) (l : List Row) → Reset s u n h l
-unfolding resetController row handle run free noted
+unfolding reset_controller row handle run free noted
 reset s u n h l = by (dec_le (n + 10) (length l)) (dec_le n (length l))
   where
     by : Dec (n + 10 ≤ length l) → Dec (n ≤ length l) → Reset s u n h l
     by (yes fits) before =
-        let x = free s (tt {0}) resetController u h in
+        let x = free s (tt {0}) reset_controller u h in
         whole fits
-        (run_fits s (tt {0}) resetController u n h l fits
-        ∙ ap (λ (k : List Row). after (tt {0}) Going u (n + 10) (clkcrCleared h) k) (laid-between l n x.rows fits))
+        (run_fits s (tt {0}) reset_controller u n h l fits
+        ∙ ap (λ (k : List Row). after (tt {0}) Going u (n + 10) (clkcr_cleared h) k) (laid-between l n x.rows fits))
     by (no over) (yes before) =
-        full (is-full _ (full-exactly s (tt {0}) resetController u n h l before ∙ lt-ltb (length l) (n + 10) (omega arith)))
+        full (is-full _ (full_exactly s (tt {0}) reset_controller u n h l before ∙ lt-ltb (length l) (n + 10) (omega arith)))
     by (no over) (no before) = full (rw (le-ltb n (length l) (omega arith)))
 
 -- a cause is not that it goes on, nor want of room; and two that stop a call alike are one
-not_going : (e : Cause) → Going ≡ Stopped (haltOf e) → ⊥
+not_going : (e : Cause) → Going ≡ Stopped (halt_of e) → ⊥
 not_going (failed x) r = let z : ◌≡◌ {A = ℕ} 0 1 = cc in omega arith
 not_going ended r = let z : ◌≡◌ {A = ℕ} 0 1 = cc in omega arith
 
-not_full : (e : Cause) → Stopped TraceFull ≡ Stopped (haltOf e) → ⊥
+not_full : (e : Cause) → Stopped TraceFull ≡ Stopped (halt_of e) → ⊥
 not_full (failed x) r = let z : ◌≡◌ {A = ℕ} 0 1 = cc in omega arith
 not_full ended r = let z : ◌≡◌ {A = ℕ} 0 1 = cc in omega arith
 
-pub one-cause : (x e : Cause) → Stopped (haltOf x) ≡ Stopped (haltOf e) → x ≡ e
+pub one-cause : (x e : Cause) → Stopped (halt_of x) ≡ Stopped (halt_of e) → x ≡ e
 one-cause (failed x) (failed e) r = let same : x ≡ e = cc in ap failed same
 one-cause (failed x) ended r = let z : ◌≡◌ {A = ℕ} 0 1 = cc in absurd (omega arith)
 one-cause ended (failed e) r = let z : ◌≡◌ {A = ℕ} 0 1 = cc in absurd (omega arith)
@@ -89,13 +89,13 @@ one-cause ended ended r = refl
 
 -- a plan was refused for e at w, and at w' the reset rows have followed
 pub record Guarded (e : Cause) (w w' : State) : Type 0 where
-  pub refused : w.progress.pace ≡ Stopped (haltOf e)
+  pub refused : w.progress.pace ≡ Stopped (halt_of e)
   pub reset : ThenReset w w'
 
 module _ (s : List ℕ) {A : Type 0} (d : A) where
-  refusing-reset : (x e : Cause) (w : State) → w.progress.pace ≡ Stopped (haltOf x)
-      → (run_from s d (refusing resetController x) w).state.progress.pace ≡ Stopped (haltOf e)
-      → Guarded e w (run_from s d (refusing resetController x) w).state
+  refusing-reset : (x e : Cause) (w : State) → w.progress.pace ≡ Stopped (halt_of x)
+      → (run_from s d (refusing reset_controller x) w).state.progress.pace ≡ Stopped (halt_of e)
+      → Guarded e w (run_from s d (refusing reset_controller x) w).state
   unfolding run next_at
   refusing-reset x e w g r = rw law (by (reset s u n w.progress.line w.list) (rw law at r))
     where
@@ -108,11 +108,11 @@ module _ (s : List ℕ) {A : Type 0} (d : A) where
       on : After Nothing → After A
       on y = next_at s d (λ (_ : Nothing). refuse x) refuse tt y.state.progress.pace y.state
 
-      law : run_from s d (refusing resetController x) w ≡ on (run_from s (tt {0}) resetController w)
-      law = run-handle s (tt {0}) d (λ _. refuse x) refuse resetController u n w.progress.line w.list
+      law : run_from s d (refusing reset_controller x) w ≡ on (run_from s (tt {0}) reset_controller w)
+      law = run-handle s (tt {0}) d (λ _. refuse x) refuse reset_controller u n w.progress.line w.list
 
-      all : (y : After Nothing) → n + 10 ≤ length w.list → y ≡ after tt Going u (n + 10) (clkcrCleared w.progress.line) (resetLaid w.list n)
-          → (on y).state.progress.pace ≡ Stopped (haltOf e) → Guarded e w (on y).state
+      all : (y : After Nothing) → n + 10 ≤ length w.list → y ≡ after tt Going u (n + 10) (clkcr_cleared w.progress.line) (reset_laid w.list n)
+          → (on y).state.progress.pace ≡ Stopped (halt_of e) → Guarded e w (on y).state
       all y fits same r =
           let r' = rw same at r in
           rw same
@@ -122,30 +122,30 @@ module _ (s : List ℕ) {A : Type 0} (d : A) where
           })
 
       short : (y : After Nothing) → y.state.progress.pace ≡ Stopped TraceFull
-          → (on y).state.progress.pace ≡ Stopped (haltOf e) → Guarded e w (on y).state
+          → (on y).state.progress.pace ≡ Stopped (halt_of e) → Guarded e w (on y).state
       short y f r = let r' = rw f at r in absurd (not_full e r')
 
-      by : Reset s u n w.progress.line w.list → (on (run_from s (tt {0}) resetController w)).state.progress.pace ≡ Stopped (haltOf e)
-          → Guarded e w (on (run_from s (tt {0}) resetController w)).state
-      by (whole fits same) r = all (run_from s (tt {0}) resetController w) fits same r
-      by (full f) r = short (run_from s (tt {0}) resetController w) f r
+      by : Reset s u n w.progress.line w.list → (on (run_from s (tt {0}) reset_controller w)).state.progress.pace ≡ Stopped (halt_of e)
+          → Guarded e w (on (run_from s (tt {0}) reset_controller w)).state
+      by (whole fits same) r = all (run_from s (tt {0}) reset_controller w) fits same r
+      by (full f) r = short (run_from s (tt {0}) reset_controller w) f r
 
   -- THE LAW of the guard: where a guarded plan is refused, the plan was, for the same cause, and the reset rows followed
   pub guard-refused : (p : Plan A) (u n : ℕ) (h : Line) (l : List Row) (e : Cause)
-      → (run s d (guard resetController p) u n h l).state.progress.pace ≡ Stopped (haltOf e)
-      → Guarded e (run s d p u n h l).state (run s d (guard resetController p) u n h l).state
+      → (run s d (guard reset_controller p) u n h l).state.progress.pace ≡ Stopped (halt_of e)
+      → Guarded e (run s d p u n h l).state (run s d (guard reset_controller p) u n h l).state
   unfolding run next_at
   guard-refused p u n h l e r = rw law (by y.state.progress.pace refl (rw law at r))
     where
       y : After A
       y = run s d p u n h l
 
-      law : run s d (guard resetController p) u n h l ≡ next_at s d give (refusing resetController) y.value y.state.progress.pace y.state
-      law = run-handle s d d give (refusing resetController) p u n h l
+      law : run s d (guard reset_controller p) u n h l ≡ next_at s d give (refusing reset_controller) y.value y.state.progress.pace y.state
+      law = run-handle s d d give (refusing reset_controller) p u n h l
 
       by : (q : Pace) → y.state.progress.pace ≡ q
-          → (next_at s d give (refusing resetController) y.value q y.state).state.progress.pace ≡ Stopped (haltOf e)
-          → Guarded e y.state (next_at s d give (refusing resetController) y.value q y.state).state
+          → (next_at s d give (refusing reset_controller) y.value q y.state).state.progress.pace ≡ Stopped (halt_of e)
+          → Guarded e y.state (next_at s d give (refusing reset_controller) y.value q y.state).state
       by Going g r = absurd (not_going e r)
       by (Stopped (Refused x)) g r = refusing-reset (failed x) e y.state g r
       by (Stopped ScriptEnded) g r = refusing-reset ended e y.state g r
@@ -175,13 +175,13 @@ same-state s {A} d d' (write r p) u n h l =
 same-state s d d' (look k) u n h l = same-state s d d' (k h) u n h l
 same-state s d d' (hold h' p) u n h l = same-state s d d' p u n h' l
 
-module _ (s : List ℕ) {B : Type 0} (d' : B) (q : Plan B) (w' : State) (x : Cause) (r : (run_from s d' q w').state.progress.pace ≡ Stopped (haltOf x)) where
-  passed : {A C : Type 0} (d : C) (f : A → Plan C) (v : A) (w : State) → w.progress.pace ≡ Stopped (haltOf x)
+module _ (s : List ℕ) {B : Type 0} (d' : B) (q : Plan B) (w' : State) (x : Cause) (r : (run_from s d' q w').state.progress.pace ≡ Stopped (halt_of x)) where
+  passed : {A C : Type 0} (d : C) (f : A → Plan C) (v : A) (w : State) → w.progress.pace ≡ Stopped (halt_of x)
       → (next_at s d f refuse v w.progress.pace w).state ≡ w
   unfolding next_at run
   passed {A} d f v w g = by x g
     where
-      by : (x : Cause) → w.progress.pace ≡ Stopped (haltOf x) → (next_at s d f refuse v w.progress.pace w).state ≡ w
+      by : (x : Cause) → w.progress.pace ≡ Stopped (halt_of x) → (next_at s d f refuse v w.progress.pace w).state ≡ w
       by (failed e) g = rw g (rw (← g))
       by ended g = rw g (rw (← g))
 

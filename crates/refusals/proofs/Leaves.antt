@@ -14,27 +14,27 @@ use Rattle.types.specs.declared.clock.ClockAnswer.TheVariants as Clocked
 use Rattle.types.specs.declared.error.Answer.TheVariants as Answered
 use Rattle.types.specs.declared.error.Error.{Error}
 use Rattle.types.specs.declared.error.Error.TheVariants as E
-use Rattle.types.specs.Leaf.{clockOf}
+use Rattle.types.specs.Leaf.{clock_of}
 use Rattle.types.specs.Words.{bytes_of}
 use Rattle.tape.specs.declared.progress.Halt.TheVariants.{Refused, ScriptEnded, TraceFull}
 use Rattle.tape.specs.declared.progress.Pace.{Pace}
 use Rattle.tape.specs.declared.progress.Pace.TheVariants.{Going, Stopped}
 use Rattle.tape.specs.declared.rows.Row.{Row}
-use Rattle.tape.specs.Layout.{rowsIn}
+use Rattle.tape.specs.Layout.{rows_in}
 use Rattle.tape.specs.Plan.{Nothing, Plan}
 use Rattle.tape.specs.Run.{State, at, run, run_from}
 use Rattle.tape.proofs.Laws.{by_cases, from-going}
 use Rattle.tape.proofs.Room.{Kept, WordsKept, keeps, words-kept}
 use Rattle.tape.proofs.Words.{within-script}
 use Rattle.host.proofs.Ran.{begun}
-use Rattle.bus.specs.Command.{appCommand}
-use Rattle.bus.specs.Ready.{waitReady}
+use Rattle.bus.specs.Command.{app_command}
+use Rattle.bus.specs.Ready.{wait_ready}
 use Rattle.bus.specs.Transfer.{Buffer}
-use Rattle.init.specs.Initialise.{source_of, limitOf, noCard}
+use Rattle.init.specs.Initialise.{source_of, limit_of, no_card}
 use Rattle.init.specs.Initialise.{initialise}
-use Rattle.host.specs.Calls.{Came, untouched, holding, dropped, kept, ends, freshLine, initFrom, initialised}
-use Rattle.host.specs.Calls.{transferred, approached, served, blocksNext, blocksPlan, blocks_from, blocksJudged, sends, blocksCame}
-use Rattle.host.specs.Calls.{statusNext, statusPlan, statusCame, bufferOf, blocksFilled}
+use Rattle.host.specs.Calls.{Came, untouched, holding, dropped, kept, ends, fresh_line, init_from, initialised}
+use Rattle.host.specs.Calls.{transferred, approached, served, blocks_next, blocks_plan, blocks_from, blocks_judged, sends, blocks_came}
+use Rattle.host.specs.Calls.{status_next, status_plan, status_came, buffer_of, blocks_filled}
 use Rattle.host.specs.declared.host.Sdmmc.{Sdmmc}
 
 -- Line 6, as request P3 changes it: '22: rows so far, host as before' (21 is in lines 3 to 5), and what follows the table: 'The block buffer is written only when the whole
@@ -50,8 +50,8 @@ pub record Leaves (host : Sdmmc) (s : List ℕ) (l : List Row) (x : Came) : Type
   pub settings : x.host.settings ≡ host.settings
 
 -- so of the words of the list that it was lent
-pub words_left : {host : Sdmmc} {s ws ws' : List ℕ} {x : Came} → Leaves host s (rowsIn ws) x → rowsIn ws' ≡ x.list → WordsKept 0 ws x.rows ws'
-words_left {ws = ws} {x = x} left e = words-kept (subst (Kept 0 (rowsIn ws) x.rows) (sym e) left.rows)
+pub words_left : {host : Sdmmc} {s ws ws' : List ℕ} {x : Came} → Leaves host s (rows_in ws) x → rows_in ws' ≡ x.list → WordsKept 0 ws x.rows ws'
+words_left {ws = ws} {x = x} left e = words-kept (subst (Kept 0 (rows_in ws) x.rows) (sym e) left.rows)
 
 untouched-leaves : (host : Sdmmc) (e : Error) (s : List ℕ) (l : List Row) → Leaves host s l (untouched host e l)
 untouched-leaves host e s l =
@@ -138,36 +138,36 @@ served-leaves host plan transfer next s l same = by w.progress.pace refl
     by (Stopped h) g = ends-leaves host (kept host w) host [] s l (Stopped h) w refl refl used start
 
 pub initialise-leaves : (host : Sdmmc) (frequency : ℕ) (s : List ℕ) (l : List Row) → Leaves host s l (initialised host frequency s l)
-unfolding initialised initFrom
+unfolding initialised init_from
 initialise-leaves host frequency s l =
     by_cases (Leaves host s l) (eqb frequency 0 || ltb 50_000_000 frequency) _ _ (untouched-leaves host E.BadClock s l)
-    (by (clockOf (source_of host.settings) 400_000 false))
+    (by (clock_of (source_of host.settings) 400_000 false))
   where
-    by : (a : ClockAnswer) → Leaves host s l (initFrom host frequency a s l)
+    by : (a : ClockAnswer) → Leaves host s l (init_from host frequency a s l)
     by (Clocked.Refused e) = untouched-leaves host e s l
     by (Clocked.Set c) =
-        let x = run s noCard (initialise host.settings c frequency) 0 0 (freshLine c.frequency) l in
+        let x = run s no_card (initialise host.settings c frequency) 0 0 (fresh_line c.frequency) l in
         ends-leaves host (dropped host x.state) (holding host x.state x.value) [] s l x.state.progress.pace x.state refl refl
-        (going-within s noCard (initialise host.settings c frequency) (at (begun (freshLine c.frequency)) l) refl (omega arith))
-        (going-kept s noCard (initialise host.settings c frequency) (at (begun (freshLine c.frequency)) l) refl)
+        (going-within s no_card (initialise host.settings c frequency) (at (begun (fresh_line c.frequency)) l) refl (omega arith))
+        (going-kept s no_card (initialise host.settings c frequency) (at (begun (fresh_line c.frequency)) l) refl)
 
-pub blocks-leaves : (host : Sdmmc) (buffer : Buffer) (index bytes : ℕ) (s : List ℕ) (l : List Row) → Leaves host s l (blocksCame host buffer index bytes s l)
-unfolding blocksCame blocks_from
-blocks-leaves host buffer index bytes s l = by (blocksJudged host (sends buffer) index bytes)
+pub blocks-leaves : (host : Sdmmc) (buffer : Buffer) (index bytes : ℕ) (s : List ℕ) (l : List Row) → Leaves host s l (blocks_came host buffer index bytes s l)
+unfolding blocks_came blocks_from
+blocks-leaves host buffer index bytes s l = by (blocks_judged host (sends buffer) index bytes)
   where
     by : (a : AddressAnswer) → Leaves host s l (blocks_from host buffer (bytes / 512) a s l)
     by (Address.Refused e) = untouched-leaves host e s l
     by (Address.Address a) =
-        served-leaves host (waitReady (source_of host.settings) host.settings.config host.card.rca) (blocksPlan host buffer a (bytes / 512)) (blocksNext host) s l (λ w ws. refl)
+        served-leaves host (wait_ready (source_of host.settings) host.settings.config host.card.rca) (blocks_plan host buffer a (bytes / 512)) (blocks_next host) s l (λ w ws. refl)
 
-pub status-leaves : (host : Sdmmc) (s : List ℕ) (l : List Row) → Leaves host s l (statusCame host s l)
-unfolding statusCame
+pub status-leaves : (host : Sdmmc) (s : List ℕ) (l : List Row) → Leaves host s l (status_came host s l)
+unfolding status_came
 status-leaves host s l =
     by_cases (Leaves host s l) host.known _ _
-    (served-leaves host (appCommand (limitOf host.settings) host.card.rca) (statusPlan host) (statusNext host) s l (λ w ws. refl))
+    (served-leaves host (app_command (limit_of host.settings) host.card.rca) (status_plan host) (status_next host) s l (λ w ws. refl))
     (untouched-leaves host E.NoCard s l)
 
 -- a call with no data words leaves the buffer as it was
-pub buffer-stays : (x : Came) (buffer : List ℕ) → x.taken ≡ [] → bufferOf x buffer ≡ buffer
-unfolding blocksFilled bytes_of
+pub buffer-stays : (x : Came) (buffer : List ℕ) → x.taken ≡ [] → buffer_of x buffer ≡ buffer
+unfolding blocks_filled bytes_of
 buffer-stays x buffer e = let none : min 0 (length buffer / 512) ≡ 0 = omega arith in rw (e, none)

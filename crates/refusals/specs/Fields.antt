@@ -4,9 +4,9 @@ use Rattle.std.specs.Prelude.{ℕ, List, ◌≡◌}
 use Rattle.types.specs.declared.error.Answer.TheVariants.{Refused}
 use Rattle.types.specs.declared.error.Error.TheVariants.{UnsupportedCardType}
 use Rattle.types.specs.declared.error.Field.{Field}
-use Rattle.bus.specs.Sent.{lastSent}
+use Rattle.bus.specs.Sent.{last_sent}
 use Rattle.init.specs.Fields.{Blames}
 use Rattle.host.specs.Calls.{Came}
 
 abbrev pub CarriesField : List ℕ → Came → Type 0
-CarriesField s x = (field : Field) → x.answer ≡ Refused (UnsupportedCardType field) → Blames s x.words (lastSent x.rows x.list) field
+CarriesField s x = (field : Field) → x.answer ≡ Refused (UnsupportedCardType field) → Blames s x.words (last_sent x.rows x.list) field

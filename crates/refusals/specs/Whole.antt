@@ -9,40 +9,40 @@ use Rattle.types.specs.declared.clock.ClockAnswer.TheVariants as Clocked
 use Rattle.types.specs.declared.error.Answer.{Answer}
 use Rattle.types.specs.declared.error.Answer.TheVariants as Answered
 use Rattle.types.specs.declared.error.Error.TheVariants as E
-use Rattle.types.specs.Leaf.{clockOf}
+use Rattle.types.specs.Leaf.{clock_of}
 use Rattle.tape.specs.declared.progress.Halt.TheVariants.{Refused, ScriptEnded, TraceFull}
 use Rattle.tape.specs.declared.progress.Pace.{Pace}
 use Rattle.tape.specs.declared.progress.Pace.TheVariants.{Going, Stopped}
 use Rattle.tape.specs.Plan.{Plan, hold, fail, ◌then◌}
 use Rattle.tape.specs.Run.{After}
-use Rattle.bus.specs.Command.{appCommand}
-use Rattle.bus.specs.Ready.{waitReady}
+use Rattle.bus.specs.Command.{app_command}
+use Rattle.bus.specs.Ready.{wait_ready}
 use Rattle.bus.specs.Transfer.{Buffer}
-use Rattle.init.specs.Initialise.{source_of, limitOf, initialise}
+use Rattle.init.specs.Initialise.{source_of, limit_of, initialise}
 use Rattle.host.specs.declared.host.Sdmmc.{Sdmmc}
-use Rattle.host.specs.Calls.{Came, freshLine, blocksJudged, sends, blocksPlan, statusPlan}
+use Rattle.host.specs.Calls.{Came, fresh_line, blocks_judged, sends, blocks_plan, status_plan}
 
 -- an initialisation holds a fresh line before its first row
-unfoldable pub initAt : Sdmmc → ℕ → ClockAnswer → Plan Card
-initAt host frequency (Clocked.Refused e) = fail e
-initAt host frequency (Clocked.Set c) = hold (freshLine c.frequency) (initialise host.settings c frequency)
+unfoldable pub init_at : Sdmmc → ℕ → ClockAnswer → Plan Card
+init_at host frequency (Clocked.Refused e) = fail e
+init_at host frequency (Clocked.Set c) = hold (fresh_line c.frequency) (initialise host.settings c frequency)
 
-unfoldable pub initWhole : Sdmmc → ℕ → Plan Card
-initWhole host frequency =
+unfoldable pub init_whole : Sdmmc → ℕ → Plan Card
+init_whole host frequency =
     cond (eqb frequency 0 || ltb 50_000_000 frequency) (fail E.BadClock)
-    (initAt host frequency (clockOf (source_of host.settings) 400_000 false))
+    (init_at host frequency (clock_of (source_of host.settings) 400_000 false))
 
-unfoldable pub blocksAt : Sdmmc → Buffer → ℕ → AddressAnswer → Plan (List ℕ)
-blocksAt host buffer blocks (Address.Refused e) = fail e
-blocksAt host buffer blocks (Address.Address a) =
-    waitReady (source_of host.settings) host.settings.config host.card.rca then λ _. blocksPlan host buffer a blocks
+unfoldable pub blocks_at : Sdmmc → Buffer → ℕ → AddressAnswer → Plan (List ℕ)
+blocks_at host buffer blocks (Address.Refused e) = fail e
+blocks_at host buffer blocks (Address.Address a) =
+    wait_ready (source_of host.settings) host.settings.config host.card.rca then λ _. blocks_plan host buffer a blocks
 
-unfoldable pub blocksWhole : Sdmmc → Buffer → ℕ → ℕ → Plan (List ℕ)
-blocksWhole host buffer index bytes = blocksAt host buffer (bytes / 512) (blocksJudged host (sends buffer) index bytes)
+unfoldable pub blocks_whole : Sdmmc → Buffer → ℕ → ℕ → Plan (List ℕ)
+blocks_whole host buffer index bytes = blocks_at host buffer (bytes / 512) (blocks_judged host (sends buffer) index bytes)
 
-unfoldable pub statusWhole : Sdmmc → Plan (List ℕ)
-statusWhole host =
-    cond host.known (appCommand (limitOf host.settings) host.card.rca then λ _. statusPlan host) (fail E.NoCard)
+unfoldable pub status_whole : Sdmmc → Plan (List ℕ)
+status_whole host =
+    cond host.known (app_command (limit_of host.settings) host.card.rca then λ _. status_plan host) (fail E.NoCard)
 
 -- the answer of a call whose plan has come so far
 abbrev pub answer_of : Pace → Answer

@@ -1,49 +1,49 @@
 -- Lines, computed from the definitions.
 use Rattle.std.specs.Prelude.{true, false, [], ◌∷◌, ◌≡◌, refl}
-use Rattle.text.specs.Digits.{decimalIn, decimalOf, hexOf}
+use Rattle.text.specs.Digits.{decimal_in, decimal_of, hex_of}
 use Rattle.text.specs.Typed.{typed}
-use Rattle.types.specs.Answer.{errorTold, answerTold}
+use Rattle.types.specs.Answer.{error_told, answer_told}
 use Rattle.types.specs.declared.card.Signalling.TheVariants.{SDR25}
 use Rattle.types.specs.declared.card.CardCapacity.TheVariants.{SDHC}
 use Rattle.types.specs.declared.error.Answer.TheVariants.{Accepted, Refused}
 use Rattle.types.specs.declared.error.Error.TheVariants.{CardStatus, Timeout}
-use Rattle.tape.specs.Layout.{rowsIn}
-use Rattle.report.specs.Report.{rowsText, carriedText, wordsText, recordText, lineText, heldText, bytesText}
+use Rattle.tape.specs.Layout.{rows_in}
+use Rattle.report.specs.Report.{rows_text, carried_text, words_text, record_text, line_text, held_text, bytes_text}
 
-two-rows : rowsText 2 (rowsIn (0x34_0000_0000 ∷ 0x4_0000_0100 ∷ [])) ≡ typed "row 52 0\nrow 4 256\n"
-unfolding rowsText rowsIn decimalIn decimalOf
-two-rows = refl
+two_rows : rows_text 2 (rows_in (0x34_0000_0000 ∷ 0x4_0000_0100 ∷ [])) ≡ typed "row 52 0\nrow 4 256\n"
+unfolding rows_text rows_in decimal_in decimal_of
+two_rows = refl
 
 -- the list ends before the rows do
-row_cut : rowsText 2 (rowsIn (0x34_0000_0007 ∷ [])) ≡ typed "row 52 7\nrow 0 0\n"
-unfolding rowsText rowsIn decimalIn decimalOf
+row_cut : rows_text 2 (rows_in (0x34_0000_0007 ∷ [])) ≡ typed "row 52 7\nrow 0 0\n"
+unfolding rows_text rows_in decimal_in decimal_of
 row_cut = refl
 
-carries : carriedText (Refused (CardStatus 0x80000900)) ≡ typed "carried 80000900\n"
-unfolding errorTold answerTold hexOf
+carries : carried_text (Refused (CardStatus 0x80000900)) ≡ typed "carried 80000900\n"
+unfolding error_told answer_told hex_of
 carries = refl
 
-timeout : carriedText (Refused Timeout) ≡ []
-unfolding errorTold answerTold
+timeout : carried_text (Refused Timeout) ≡ []
+unfolding error_told answer_told
 timeout = refl
 
-accepted : carriedText Accepted ≡ []
-unfolding answerTold
+accepted : carried_text Accepted ≡ []
+unfolding answer_told
 accepted = refl
 
-joined : wordsText 2 (1 ∷ 0x20 ∷ 0xabc ∷ []) ≡ typed "00000001:00000020:00000abc"
-unfolding wordsText hexOf
+joined : words_text 2 (1 ∷ 0x20 ∷ 0xabc ∷ []) ≡ typed "00000001:00000020:00000abc"
+unfolding words_text hex_of
 joined = refl
 
-line : lineText (record { clkcr = 16640; gated = true; clock = record { 0 = 400 }; signalling = SDR25 }) ≡ typed "state clock=400 signalling=SDR25 gated=1 clkcr=16640"
-unfolding decimalIn decimalOf
+line : line_text (record { clkcr = 16640; gated = true; clock = record { 0 = 400 }; signalling = SDR25 }) ≡ typed "state clock=400 signalling=SDR25 gated=1 clkcr=16640"
+unfolding decimal_in decimal_of
 line = refl
 
-bytes : bytesText 3 1 (0 ∷ 0x12 ∷ 0xab ∷ []) ≡ typed "12ab00"
-unfolding bytesText hexOf
+bytes : bytes_text 3 1 (0 ∷ 0x12 ∷ 0xab ∷ []) ≡ typed "12ab00"
+unfolding bytes_text hex_of
 bytes = refl
 
-none : heldText false (record {
+none : held_text false (record {
   card_type = SDHC;
   ocr = 0;
   rca = 0;
@@ -56,7 +56,7 @@ none : heldText false (record {
 }) ≡ typed " record=none"
 none = refl
 
-held : recordText (record {
+held : record_text (record {
   card_type = SDHC;
   ocr = 0xc0ff8000;
   rca = 0xaaaa;
@@ -67,5 +67,5 @@ held : recordText (record {
   block_count = record { 0 = 3904 };
   protection = record { permanent = true; temporary = false };
 }) ≡ typed "SDHC,c0ff8000,aaaa,0123456789abcdef0000000000000001,400e00325b5900000edc7f800a406001,0235800000000000,80000000:00000002:00000000:00000000:00000000:00000000:00000000:00000000:00000000:00000000:00000000:00000000:00000000:00000000:00000000:00000000,3904,protect=2"
-unfolding recordText wordsText hexOf decimalIn decimalOf
+unfolding record_text words_text hex_of decimal_in decimal_of
 held = refl

@@ -1,7 +1,7 @@
 // The blocks that a read laid down.
 ghost use Rattle.std.specs.Prelude.{◌≡◌, ◌+◌, ◌*◌, ◌<◌, get_or};
 ghost use Rattle.text.specs.Ink.{Laid};
-ghost use Rattle.report.specs.Report.{bytesText, block_line, blocksText};
+ghost use Rattle.report.specs.Report.{bytes_text, block_line, blocks_text};
 
 use text::pen;
 
@@ -22,7 +22,7 @@ fn block_byte(buffer: &[u8], i: usize, k: usize) -> u8
 
 // The bytes of block i, two digits each.
 fn put_bytes(out: &mut [u8], at: usize, buffer: &[u8], i: usize) -> usize
-    ensures { Laid at (bytesText 512 (512 * i) buffer.now) out.old result out.new }
+    ensures { Laid at (bytes_text 512 (512 * i) buffer.now) out.old result out.new }
 {
     let mut place = pen::least(at, out.len());
     let mut k = 0;
@@ -43,7 +43,7 @@ fn put_block(out: &mut [u8], at: usize, buffer: &[u8], i: usize) -> usize
 
 // The first n blocks of the buffer.
 pub fn put_blocks(out: &mut [u8], at: usize, buffer: &[u8], n: usize) -> usize
-    ensures { Laid at (blocksText n buffer.now) out.old result out.new }
+    ensures { Laid at (blocks_text n buffer.now) out.old result out.new }
 {
     let mut place = pen::least(at, out.len());
     let mut i = 0;

@@ -1,16 +1,16 @@
 // The rows that a call wrote, and the word that its answer carries.
 ghost use Rattle.std.specs.Prelude.{◌≡◌, ◌++◌, get_or};
-ghost use Rattle.text.specs.Digits.{decimalOf};
+ghost use Rattle.text.specs.Digits.{decimal_of};
 ghost use Rattle.text.specs.Ink.{Laid};
-ghost use Rattle.tape.specs.Layout.{row_of, rowsIn};
-ghost use Rattle.report.specs.Report.{rowText, row_line, rowsText, carriedText};
+ghost use Rattle.tape.specs.Layout.{row_of, rows_in};
+ghost use Rattle.report.specs.Report.{row_text, row_line, rows_text, carried_text};
 
 use tape::rows::Row;
 use text::pen;
 use types::error::Answer;
 
 pub fn put_named(out: &mut [u8], at: usize, name: &[u8], n: u64) -> usize
-    ensures { Laid at (name.now ++ decimalOf n) out.old result out.new }
+    ensures { Laid at (name.now ++ decimal_of n) out.old result out.new }
 {
     let place = pen::put(out, at, name);
     pen::put_decimal(out, place, n)
@@ -18,7 +18,7 @@ pub fn put_named(out: &mut [u8], at: usize, name: &[u8], n: u64) -> usize
 
 // Row i, of zeros where it is past the list.
 fn row_at(rows: &[u64], i: usize) -> Row
-    ensures { result ≡ get_or (rowsIn rows.now) i (row_of 0) }
+    ensures { result ≡ get_or (rows_in rows.now) i (row_of 0) }
 {
     if rows.len() <= i {
         return Row::of(0);
@@ -27,7 +27,7 @@ fn row_at(rows: &[u64], i: usize) -> Row
 }
 
 pub fn put_row(out: &mut [u8], at: usize, register: u32, value: u32) -> usize
-    ensures { Laid at (rowText register value) out.old result out.new }
+    ensures { Laid at (row_text register value) out.old result out.new }
 {
     let named = put_named(out, at, b"row ", register as u64);
     put_named(out, named, b" ", value as u64)
@@ -42,7 +42,7 @@ fn put_line(out: &mut [u8], at: usize, register: u32, value: u32) -> usize
 
 // The first n rows of the list.
 pub fn put_rows(out: &mut [u8], at: usize, rows: &[u64], n: usize) -> usize
-    ensures { Laid at (rowsText n (rowsIn rows.now)) out.old result out.new }
+    ensures { Laid at (rows_text n (rows_in rows.now)) out.old result out.new }
 {
     let mut place = pen::least(at, out.len());
     let mut i = 0;
@@ -56,7 +56,7 @@ pub fn put_rows(out: &mut [u8], at: usize, rows: &[u64], n: usize) -> usize
 
 // The card's status word, at the answer that carries one; nothing at any other.
 pub fn put_carried(out: &mut [u8], at: usize, answer: Answer) -> usize
-    ensures { Laid at (carriedText answer) out.old result out.new }
+    ensures { Laid at (carried_text answer) out.old result out.new }
 {
     if answer.number() == 10 {
         let named = pen::put(out, at, b"carried ");

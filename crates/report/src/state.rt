@@ -3,7 +3,7 @@ ghost use Rattle.std.specs.Prelude.{◌≡◌, ◌++◌};
 ghost use Rattle.types.specs.Answer.{flag};
 ghost use Rattle.text.specs.Ink.{Laid};
 ghost use Rattle.text.specs.Typed.{typed};
-ghost use Rattle.report.specs.Report.{signallingText, lineText, heldText, stateText};
+ghost use Rattle.report.specs.Report.{signalling_text, line_text, held_text, state_text};
 
 use crate::{record, rows};
 use host::host::Sdmmc;
@@ -18,7 +18,7 @@ fn digit(on: bool) -> u64
 }
 
 fn put_signalling(out: &mut [u8], at: usize, signalling: Signalling) -> usize
-    ensures { Laid at (typed " signalling=" ++ signallingText signalling) out.old result out.new }
+    ensures { Laid at (typed " signalling=" ++ signalling_text signalling) out.old result out.new }
 {
     match signalling {
         Signalling::SDR12 => pen::put(out, at, b" signalling=SDR12"),
@@ -27,7 +27,7 @@ fn put_signalling(out: &mut [u8], at: usize, signalling: Signalling) -> usize
 }
 
 fn put_line(out: &mut [u8], at: usize, line: Line) -> usize
-    ensures { Laid at (lineText line) out.old result out.new }
+    ensures { Laid at (line_text line) out.old result out.new }
 {
     let clock = line.clock;
     let signalling = line.signalling;
@@ -38,7 +38,7 @@ fn put_line(out: &mut [u8], at: usize, line: Line) -> usize
 }
 
 fn put_held(out: &mut [u8], at: usize, known: bool, card: Card) -> usize
-    ensures { Laid at (heldText known card) out.old result out.new }
+    ensures { Laid at (held_text known card) out.old result out.new }
 {
     let place = pen::put(out, at, b" record=");
     if known {
@@ -49,7 +49,7 @@ fn put_held(out: &mut [u8], at: usize, known: bool, card: Card) -> usize
 }
 
 pub fn put_state(out: &mut [u8], at: usize, host: Sdmmc) -> usize
-    ensures { Laid at (stateText host) out.old result out.new }
+    ensures { Laid at (state_text host) out.old result out.new }
 {
     let line = host.line;
     let card = host.card;

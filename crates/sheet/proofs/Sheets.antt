@@ -11,7 +11,7 @@ use borrow.Author.Tests.{le-leb, lt-leb}
 use Rattle.text.specs.Ink.{Laid, inked, next}
 use Rattle.text.proofs.Orders.{either}
 use Rattle.sheet.specs.declared.sheet.Sheet.{Sheet}
-use Rattle.sheet.specs.Sheet.{Fits, placeFor, Tells}
+use Rattle.sheet.specs.Sheet.{Fits, place_for, Tells}
 
 pub never : {A : Type 0} → false ≡ true → A
 never e = let z : ◌≡◌ {A = ℕ} 0 1 = cc in absurd (omega arith)
@@ -21,16 +21,16 @@ pub not-off : (b : Bool) → not b ≡ false → b ≡ true
 not-off true e = refl
 not-off false e = never (sym e)
 
-pub behind : (size at : ℕ) → 512 ≤ size - at → at ≡ placeFor size at
-unfolding placeFor
+pub behind : (size at : ℕ) → 512 ≤ size - at → at ≡ place_for size at
+unfolding place_for
 behind size at h = rw (le-leb 512 (size - at) h) refl
 
-pub anew : (size at : ℕ) → size - at < 512 → 0 ≡ placeFor size at
-unfolding placeFor
+pub anew : (size at : ℕ) → size - at < 512 → 0 ≡ place_for size at
+unfolding place_for
 anew size at h = rw (lt-leb 512 (size - at) h) refl
 
 -- so there is room for it
-room : (size at : ℕ) → 512 ≤ size → placeFor size at + 512 ≤ size
+room : (size at : ℕ) → 512 ≤ size → place_for size at + 512 ≤ size
 room size at h =
     ⊎_elim (λ (k : 512 ≤ size - at). rw (sym (behind size at k)) (omega (arith, k)))
     (λ (k : size - at < 512). rw (sym (anew size at k)) (omega (arith, h)))
@@ -47,10 +47,10 @@ stands {at} {text} {before} {place} {after} laid h =
 
 -- what each telling does: the sheet has room, the line is laid in there, and the sheet ends behind it
 pub told : {line before after : List ℕ} {sheet turned r : Sheet} {place : ℕ}
-    → Fits sheet before → turned.at ≡ placeFor (length before) sheet.at → (turned.written ≡ true → sheet.written ≡ true) → Laid turned.at line before place after
+    → Fits sheet before → turned.at ≡ place_for (length before) sheet.at → (turned.written ≡ true → sheet.written ≡ true) → Laid turned.at line before place after
     → r ≡ record { at = place; written = turned.written } → Tells line sheet before r after
 told {line} {before} {after} {sheet} {turned} {r} {place} fits at kept laid ends =
-    let there : Laid (placeFor (length before) sheet.at) line before r.at after = rw (ends, sym at) laid in
+    let there : Laid (place_for (length before) sheet.at) line before r.at after = rw (ends, sym at) laid in
     record {
       laid = there;
       whole = λ short. stands there (omega (arith, room (length before) sheet.at fits.1, short));

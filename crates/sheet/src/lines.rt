@@ -1,10 +1,10 @@
 // The lines of a call, each on a sheet that has room for it.
 ghost use Rattle.text.specs.Ink.{Laid};
-ghost use Rattle.book.specs.Lines.{callLine};
-ghost use Rattle.report.specs.Report.{stateText};
-ghost use Rattle.events.specs.Event.{eventText};
+ghost use Rattle.book.specs.Lines.{call_line};
+ghost use Rattle.report.specs.Report.{state_text};
+ghost use Rattle.events.specs.Event.{event_text};
 ghost use Rattle.sheet.specs.Sheet.{Fits, Tells};
-ghost use Rattle.sheet.specs.Lines.{beginsText};
+ghost use Rattle.sheet.specs.Lines.{begins_text};
 
 use crate::sheet::Sheet;
 use book::layout::Asked;
@@ -17,7 +17,7 @@ use text::pen;
 
 // Number, kind, a and b: what a call begins with.
 fn put_begins(out: &mut [u8], at: usize, number: u32, asked: Asked) -> usize
-    ensures { Laid at (beginsText number asked) out.old result out.new }
+    ensures { Laid at (begins_text number asked) out.old result out.new }
 {
     let counted = pen::put_decimal(out, at, number as u64);
     let kind = rows::put_named(out, counted, b" ", asked.kind as u64);
@@ -28,7 +28,7 @@ fn put_begins(out: &mut [u8], at: usize, number: u32, asked: Asked) -> usize
 
 pub fn tell_begins(sheet: Sheet, number: u32, asked: Asked, out: &mut [u8]) -> Sheet
     requires { Fits sheet out.old }
-    ensures { Tells (beginsText number asked) sheet out.old result out.new }
+    ensures { Tells (begins_text number asked) sheet out.old result out.new }
 {
     let turned = sheet.turned(out);
     let at = put_begins(out, turned.at, number, asked);
@@ -37,7 +37,7 @@ pub fn tell_begins(sheet: Sheet, number: u32, asked: Asked, out: &mut [u8]) -> S
 
 pub fn tell_event(sheet: Sheet, event: Event, out: &mut [u8]) -> Sheet
     requires { Fits sheet out.old }
-    ensures { Tells (eventText event) sheet out.old result out.new }
+    ensures { Tells (event_text event) sheet out.old result out.new }
 {
     let turned = sheet.turned(out);
     let at = event::put_event(out, turned.at, event);
@@ -47,7 +47,7 @@ pub fn tell_event(sheet: Sheet, event: Event, out: &mut [u8]) -> Sheet
 // The line of a call of this kind that came to this.
 pub fn tell_called(sheet: Sheet, number: u32, kind: u32, called: Called, out: &mut [u8]) -> Sheet
     requires { Fits sheet out.old }
-    ensures { Tells (callLine number kind called.answer called.words called.rows called.host.card.protection) sheet out.old result out.new }
+    ensures { Tells (call_line number kind called.answer called.words called.rows called.host.card.protection) sheet out.old result out.new }
 {
     let answer = called.answer;
     let next = called.host;
@@ -69,7 +69,7 @@ pub fn tell_called(sheet: Sheet, number: u32, kind: u32, called: Called, out: &m
 
 pub fn tell_state(sheet: Sheet, host: Sdmmc, out: &mut [u8]) -> Sheet
     requires { Fits sheet out.old }
-    ensures { Tells (stateText host) sheet out.old result out.new }
+    ensures { Tells (state_text host) sheet out.old result out.new }
 {
     let turned = sheet.turned(out);
     let at = state::put_state(out, turned.at, host);

@@ -1,6 +1,6 @@
 // A sheet: the text in a lent buffer that is still to be written.
 ghost use Rattle.std.specs.Prelude.{true, ◌≡◌, ◌≤◌, length};
-ghost use Rattle.sheet.specs.Sheet.{placeFor};
+ghost use Rattle.sheet.specs.Sheet.{place_for};
 
 use libc::STDOUT_FILENO;
 
@@ -37,7 +37,7 @@ impl Sheet {
     // With room for a line.
     pub fn turned(self, out: &[u8]) -> Sheet
         requires { self.at ≤ length out.now }
-        ensures roomy { result.at ≡ placeFor (length out.now) self.at }
+        ensures roomy { result.at ≡ place_for (length out.now) self.at }
         ensures kept { result.written ≡ true → self.written ≡ true }
     {
         if Sheet::LINE <= out.len() - self.at {

@@ -2,8 +2,8 @@
 use Prim.Native.Nat.{ℕ, suc, ◌*◌, ◌^◌}
 use mathlib.Core.Path.{◌≡◌, refl, ap, sym, ◌∙◌}
 use mathlib.Core.Bool.{Bool, true, false, cond}
-use Rattle.types.specs.Leaf.{roundedUp}
-use Rattle.types.specs.Sd.{readyOf}
+use Rattle.types.specs.Leaf.{rounded_up}
+use Rattle.types.specs.Sd.{ready_of}
 use Rattle.types.specs.declared.error.Error.TheVariants as E
 use Rattle.tape.specs.declared.progress.Line.{Line}
 use Rattle.tape.specs.Plan.{Nothing, failed, give, fail, ◌then◌, handle, until}
@@ -11,13 +11,13 @@ use Rattle.tape.specs.Rows.{DELAY}
 use Rattle.tape.specs.Run.{noted}
 use Rattle.tape.specs.Steps.{row}
 use Rattle.bus.specs.declared.response.Response.TheVariants.{R1}
-use Rattle.bus.specs.Ready.{retryDelay, readStatus, tryReady, waitReady}
-use Rattle.step.specs.Next.{Next, over, refused, next, told, wantOf, waits, lineAfter}
-use Rattle.step.specs.Context.{Context, plug, plugNext, next-plug}
-use Rattle.step.specs.Command.{commandPlan, commandNext, endNext, list_of, begunPlan, begunNext}
-use Rattle.step.specs.Why.{causeOf}
+use Rattle.bus.specs.Ready.{retry_delay, read_status, try_ready, wait_ready}
+use Rattle.step.specs.Next.{Next, over, refused, next, told, want_of, waits, line_after}
+use Rattle.step.specs.Context.{Context, plug, plug_next, next_plug}
+use Rattle.step.specs.Command.{command_plan, command_next, end_next, list_of, begun_plan, begun_next}
+use Rattle.step.specs.Why.{cause_of}
 use Rattle.step.specs.declared.why.Why.{Why}
-use Rattle.step.specs.Ready.{limitAt, attempts, tried, asked, readyPlan, readyNext}
+use Rattle.step.specs.Ready.{limit_at, attempts, tried, asked, ready_plan, ready_next}
 use Rattle.step.specs.declared.command.Begun.TheVariants as B
 use Rattle.step.specs.declared.command.Command.{Command}
 use Rattle.step.specs.declared.command.CommandStep.TheVariants as C
@@ -32,75 +32,75 @@ use Rattle.step.proofs.Inside.{same-plug, command-waits, inside-waits, inside-li
 use Rattle.step.proofs.Parts as parts
 
 module _ (bus : Bus) (h : Line) where
-  pub attempt-over : refused h (failed E.SoftwareTimeout) ≡ next (attempts bus 0) h
+  pub attempt_over : refused h (failed E.SoftwareTimeout) ≡ next (attempts bus 0) h
   unfolding attempts until handle next
-  attempt-over = refl
+  attempt_over = refl
 
   module _ (n : ℕ) (gated : Bool) (gate : h.gated ≡ gated) where
-    begins : next (plug (asked bus n) (begunPlan (limitAt bus) 13 (bus.rca * 2 ^ 16) R1 gated)) h ≡ next (attempts bus (suc n)) h
-    unfolding asked attempts until tryReady readStatus handle plug
-    begins = same-plug (asked bus n) _ _ h (parts.begins (limitAt bus) 13 (bus.rca * 2 ^ 16) R1 gated h (sym gate))
+    begins : next (plug (asked bus n) (begun_plan (limit_at bus) 13 (bus.rca * 2 ^ 16) R1 gated)) h ≡ next (attempts bus (suc n)) h
+    unfolding asked attempts until try_ready read_status handle plug
+    begins = same-plug (asked bus n) _ _ h (parts.begins (limit_at bus) 13 (bus.rca * 2 ^ 16) R1 gated h (sym gate))
 
-    pub attempt-on : (c : Command) → begunNext (B.On c) h ≡ next (begunPlan (limitAt bus) 13 (bus.rca * 2 ^ 16) R1 gated) h
-        → next (readyPlan bus (R.Asks n c)) h ≡ next (attempts bus (suc n)) h
-    unfolding readyPlan begunNext
-    attempt-on c e = same-plug (asked bus n) _ _ h e ∙ begins
+    pub attempt_on : (c : Command) → begun_next (B.On c) h ≡ next (begun_plan (limit_at bus) 13 (bus.rca * 2 ^ 16) R1 gated) h
+        → next (ready_plan bus (R.Asks n c)) h ≡ next (attempts bus (suc n)) h
+    unfolding ready_plan begun_next
+    attempt_on c e = same-plug (asked bus n) _ _ h e ∙ begins
 
-    pub attempt-failed : begunNext B.Spent h ≡ next (begunPlan (limitAt bus) 13 (bus.rca * 2 ^ 16) R1 gated) h
+    pub attempt_failed : begun_next B.Spent h ≡ next (begun_plan (limit_at bus) 13 (bus.rca * 2 ^ 16) R1 gated) h
         → refused h (failed E.SoftwareTimeout) ≡ next (attempts bus (suc n)) h
-    unfolding begunNext asked handle plug next
-    attempt-failed e = same-plug (asked bus n) (fail E.SoftwareTimeout) (begunPlan (limitAt bus) 13 (bus.rca * 2 ^ 16) R1 gated) h e ∙ begins
+    unfolding begun_next asked handle plug next
+    attempt_failed e = same-plug (asked bus n) (fail E.SoftwareTimeout) (begun_plan (limit_at bus) 13 (bus.rca * 2 ^ 16) R1 gated) h e ∙ begins
 
-  pub wait-begins : next (attempts bus bus.config.card_ready_attempts) h ≡ next (waitReady bus.source.0 bus.config bus.rca) h
-  unfolding attempts waitReady
-  wait-begins = refl
+  pub wait_begins : next (attempts bus bus.config.card_ready_attempts) h ≡ next (wait_ready bus.source.0 bus.config bus.rca) h
+  unfolding attempts wait_ready
+  wait_begins = refl
 
   module _ (n : ℕ) where
     abbrev looked : Bool → Next Nothing
-    looked b = next (plug (tried bus n) (cond b (give true) (retryDelay bus.source.0 then λ _. give false))) h
+    looked b = next (plug (tried bus n) (cond b (give true) (retry_delay bus.source.0 then λ _. give false))) h
 
-    pub answered-ready : (w : Words) → readyOf w.a ≡ true → over h tt ≡ next (plug (asked bus n) (give (list_of w))) h
+    pub answered-ready : (w : Words) → ready_of w.a ≡ true → over h tt ≡ next (plug (asked bus n) (give (list_of w))) h
     unfolding asked handle plug next
     answered-ready w e = ap looked (sym e)
 
-    pub answered-not : (w : Words) → readyOf w.a ≡ false → next (readyPlan bus (R.Delay n)) h ≡ next (plug (asked bus n) (give (list_of w))) h
-    unfolding readyPlan asked handle plug
+    pub answered-not : (w : Words) → ready_of w.a ≡ false → next (ready_plan bus (R.Delay n)) h ≡ next (plug (asked bus n) (give (list_of w))) h
+    unfolding ready_plan asked handle plug
     answered-not w e = ap looked (sym e)
 
-    pub asking-on : (c : Command) → next (readyPlan bus (R.Asks n c)) h ≡ plugNext (asked bus n) (commandNext (C.On c) h)
-    unfolding readyPlan commandNext
-    asking-on c = next-plug (asked bus n) (commandPlan c) h
+    pub asking-on : (c : Command) → next (ready_plan bus (R.Asks n c)) h ≡ plug_next (asked bus n) (command_next (C.On c) h)
+    unfolding ready_plan command_next
+    asking-on c = next_plug (asked bus n) (command_plan c) h
 
-    pub asking-well : (w : Words) → next (plug (asked bus n) (give (list_of w))) h ≡ plugNext (asked bus n) (commandNext (C.Over (X.Well w)) h)
-    unfolding commandNext endNext plugNext next
-    asking-well w = refl
+    pub asking_well : (w : Words) → next (plug (asked bus n) (give (list_of w))) h ≡ plug_next (asked bus n) (command_next (C.Over (X.Well w)) h)
+    unfolding command_next end_next plug_next next
+    asking_well w = refl
 
-    pub asking-badly : (e : Why) → refused h (causeOf e) ≡ plugNext (asked bus n) (commandNext (C.Over (X.Badly e)) h)
-    unfolding commandNext endNext plugNext asked handle plug next
-    asking-badly e = refl
+    pub asking_badly : (e : Why) → refused h (cause_of e) ≡ plug_next (asked bus n) (command_next (C.Over (X.Badly e)) h)
+    unfolding command_next end_next plug_next asked handle plug next
+    asking_badly e = refl
 
-    pub delay-wants : W.Write (record { register = DELAY; value = roundedUp bus.source.0 1000 }) ≡ wantOf (next (readyPlan bus (R.Delay n)) h)
-    unfolding readyPlan retryDelay row handle plug next wantOf
-    delay-wants = refl
+    pub delay_wants : W.Write (record { register = DELAY; value = rounded_up bus.source.0 1000 }) ≡ want_of (next (ready_plan bus (R.Delay n)) h)
+    unfolding ready_plan retry_delay row handle plug next want_of
+    delay_wants = refl
 
-    pub delay-told : next (attempts bus n) (lineAfter (next (readyPlan bus (R.Delay n)) h)) ≡ told (next (readyPlan bus (R.Delay n)) h)
-    unfolding readyPlan attempts retryDelay row handle plug next lineAfter told
+    pub delay-told : next (attempts bus n) (line_after (next (ready_plan bus (R.Delay n)) h)) ≡ told (next (ready_plan bus (R.Delay n)) h)
+    unfolding ready_plan attempts retry_delay row handle plug next line_after told
     delay-told = refl
 
-    pub delay-gated : (lineAfter (next (readyPlan bus (R.Delay n)) h)).gated ≡ h.gated
-    unfolding readyPlan retryDelay row handle plug next lineAfter noted
+    pub delay-gated : (line_after (next (ready_plan bus (R.Delay n)) h)).gated ≡ h.gated
+    unfolding ready_plan retry_delay row handle plug next line_after noted
     delay-gated = refl
 
   -- it always waits for something
-  pub ready-waits : (r : Ready) → waits (next (readyPlan bus r) h) ≡ true
-  unfolding readyPlan retryDelay row handle plug next waits
-  ready-waits (R.Asks n c) = inside-waits (asked bus n) (commandPlan c) h (command-waits c h)
+  pub ready-waits : (r : Ready) → waits (next (ready_plan bus r) h) ≡ true
+  unfolding ready_plan retry_delay row handle plug next waits
+  ready-waits (R.Asks n c) = inside-waits (asked bus n) (command_plan c) h (command-waits c h)
   ready-waits (R.Delay n) = refl
 
   -- in a context, after its row
   pub ready-goes : {B : Type 0} (k : Context B Nothing) (r : Ready) (s : ReadyStep)
-      → readyNext bus s (lineAfter (next (readyPlan bus r) h)) ≡ told (next (readyPlan bus r) h)
-      → plugNext k (readyNext bus s (lineAfter (next (plug k (readyPlan bus r)) h))) ≡ told (next (plug k (readyPlan bus r)) h)
+      → ready_next bus s (line_after (next (ready_plan bus r) h)) ≡ told (next (ready_plan bus r) h)
+      → plug_next k (ready_next bus s (line_after (next (plug k (ready_plan bus r)) h))) ≡ told (next (plug k (ready_plan bus r)) h)
   ready-goes k r s e =
-      ap (λ (l : Line). plugNext k (readyNext bus s l)) (inside-line k (readyPlan bus r) h (ready-waits r))
-      ∙ ap (plugNext k) e ∙ inside-told k (readyPlan bus r) h (ready-waits r)
+      ap (λ (l : Line). plug_next k (ready_next bus s l)) (inside-line k (ready_plan bus r) h (ready-waits r))
+      ∙ ap (plug_next k) e ∙ inside-told k (ready_plan bus r) h (ready-waits r)

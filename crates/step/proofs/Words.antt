@@ -9,8 +9,8 @@ use lib.Seq.{take_all}
 use Rattle.tape.specs.declared.script.Reading.{Reading}
 use Rattle.tape.specs.declared.script.Reading.TheVariants as Reading
 use Rattle.tape.specs.Plan.{Plan, give, refuse, read, write, look, hold, handle}
-use Rattle.step.specs.Next.{Lent, Handed, HandedBy, handedTo, handed}
-use Rattle.step.specs.Transfer.{blocksOf, transferOf, place_of, put_at}
+use Rattle.step.specs.Next.{Lent, Handed, HandedBy, handed_to, handed}
+use Rattle.step.specs.Transfer.{blocks_of, transfer_of, place_of, put_at}
 use Rattle.step.specs.declared.wants.Wants.{Wants}
 use Rattle.step.specs.declared.wants.Wants.TheVariants as Wa
 use Rattle.step.specs.declared.phase.Phase.{Phase}
@@ -28,14 +28,14 @@ appends f ws w (write r p) = ap (write r) (appends f ws w p)
 appends f ws w (look k) = λ i. look (λ h. appends f ws w (k h) i)
 appends f ws w (hold h p) = ap (hold h) (appends f ws w p)
 
-pub then-give : {A : Type 0} (p : Plan A) → handle give refuse p ≡ p
+pub then_give : {A : Type 0} (p : Plan A) → handle give refuse p ≡ p
 unfolding handle
-then-give (give a) = refl
-then-give (refuse c) = refl
-then-give (read r k z) = λ i. read r (λ v. then-give (k v) i) (then-give z i)
-then-give (write r p) = ap (write r) (then-give p)
-then-give (look k) = λ i. look (λ h. then-give (k h) i)
-then-give (hold h p) = ap (hold h) (then-give p)
+then_give (give a) = refl
+then_give (refuse c) = refl
+then_give (read r k z) = λ i. read r (λ v. then_give (k v) i) (then_give z i)
+then_give (write r p) = ap (write r) (then_give p)
+then_give (look k) = λ i. look (λ h. then_give (k h) i)
+then_give (hold h p) = ap (hold h) (then_give p)
 
 -- the words up to place k, and one more
 pub one_more : (k w : ℕ) (g : List ℕ) → take (k + 1) (take k g ++ (w ∷ [])) ≡ take k g ++ (w ∷ [])
@@ -43,22 +43,22 @@ one_more k w g = take_all (k + 1) (take k g ++ (w ∷ [])) (simp (length-append,
 
 -- a word set at its place
 pub held_more : (k w : ℕ) (held : List ℕ) → k < length held → take (k + 1) (set held k w) ≡ take k held ++ (w ∷ [])
-held_more zero w [] h = absurd (not-lt h)
+held_more zero w [] h = absurd (not_lt h)
   where
-    not-lt : 0 < 0 → ⊥
-    not-lt h = omega arith
+    not_lt : 0 < 0 → ⊥
+    not_lt h = omega arith
 held_more zero w (x ∷ xs) h = refl
-held_more (suc k) w [] h = absurd (not-lt h)
+held_more (suc k) w [] h = absurd (not_lt h)
   where
-    not-lt : suc k < 0 → ⊥
-    not-lt h = omega arith
+    not_lt : suc k < 0 → ⊥
+    not_lt h = omega arith
 held_more (suc k) w (x ∷ xs) h =
     let e : suc k + 1 ≡ suc (k + 1) = omega arith in
     rw e (ap (λ l. x ∷ l) (held_more k w xs (omega arith)))
 
 -- `handed` is one way to hand them out
 pub is-handed : (r : Reading) (w : ℕ) (g : Lent) → Handed r w g (handed r w g)
-unfolding Handed handedTo
+unfolding Handed handed_to
 is-handed Reading.Status w g = refl
 is-handed Reading.RespCmd w g = refl
 is-handed (Reading.Response i) w g = refl
@@ -67,8 +67,8 @@ is-handed Reading.DCount w g = refl
 is-handed (Reading.Data k) w g = (refl, one_more k w g.taken)
 
 -- a transfer has words
-pub some_words : (p : Phase) → 1 ≤ (transferOf p).words
-unfolding transferOf blocksOf
+pub some_words : (p : Phase) → 1 ≤ (transfer_of p).words
+unfolding transfer_of blocks_of
 some_words P.Scr = omega arith
 some_words P.Check = omega arith
 some_words P.Switch = omega arith
@@ -77,13 +77,13 @@ some_words (P.Blocks a n) = omega arith
 some_words (P.Sends a n) = omega arith
 
 -- a place is one of the transfer's
-pub place-fits : (p : Phase) (m : ℕ) → place_of p m < (transferOf p).words
+pub place-fits : (p : Phase) (m : ℕ) → place_of p m < (transfer_of p).words
 place-fits p m = let some = some_words p in omega arith
 
 -- a word that is kept, and one that was handed out
-pub put-more : (held : List ℕ) (k w : ℕ) → k < 16 → length held ≡ 16 → take (k + 1) (put_at held k w) ≡ take k held ++ (w ∷ [])
+pub put_more : (held : List ℕ) (k w : ℕ) → k < 16 → length held ≡ 16 → take (k + 1) (put_at held k w) ≡ take k held ++ (w ∷ [])
 unfolding put_at
-put-more held k w small long = rw (lt-ltb _ _ small) (held_more k w held (omega arith))
+put_more held k w small long = rw (lt-ltb _ _ small) (held_more k w held (omega arith))
 
 -- what is to be sent stays
 pub handed-sent : (v : Wants) (w : ℕ) (g g' : Lent) → HandedBy v w g g' → g'.sent ≡ g.sent

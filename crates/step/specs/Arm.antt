@@ -4,7 +4,7 @@ use Rattle.std.proofs.Math.Path.{refl}
 use Rattle.tape.specs.declared.rows.Row.{Row}
 use Rattle.tape.specs.Rows.{MASK, DCTRL, ICR, DTIMER, DLEN, DCTRL2}
 use Rattle.bus.specs.declared.transfer.Transfer.{Transfer}
-use Rattle.step.specs.Rows.{armRows, stopRows}
+use Rattle.step.specs.Rows.{arm_rows, stop_rows}
 use Rattle.step.specs.declared.arm.Arm.{Arm}
 use Rattle.step.specs.declared.arm.Arm.TheVariants as A
 use Rattle.step.specs.declared.arm.ArmStep.{ArmStep}
@@ -23,42 +23,42 @@ module _ (timeout : ℕ) (transfer : Transfer) where
   arm_row A.Dtimer = record { register = DTIMER; value = timeout }
   arm_row A.Dlen = record { register = DLEN; value = 4 * transfer.words }
 
-  unfoldable pub armRest : Arm → List Row
-  armRest A.Dctrl2 = arm_row A.Mask ∷ arm_row A.Off ∷ arm_row A.Icr ∷ arm_row A.Dtimer ∷ arm_row A.Dlen ∷ []
-  armRest A.Mask = arm_row A.Off ∷ arm_row A.Icr ∷ arm_row A.Dtimer ∷ arm_row A.Dlen ∷ []
-  armRest A.Off = arm_row A.Icr ∷ arm_row A.Dtimer ∷ arm_row A.Dlen ∷ []
-  armRest A.Icr = arm_row A.Dtimer ∷ arm_row A.Dlen ∷ []
-  armRest A.Dtimer = arm_row A.Dlen ∷ []
-  armRest A.Dlen = []
+  unfoldable pub arm_rest : Arm → List Row
+  arm_rest A.Dctrl2 = arm_row A.Mask ∷ arm_row A.Off ∷ arm_row A.Icr ∷ arm_row A.Dtimer ∷ arm_row A.Dlen ∷ []
+  arm_rest A.Mask = arm_row A.Off ∷ arm_row A.Icr ∷ arm_row A.Dtimer ∷ arm_row A.Dlen ∷ []
+  arm_rest A.Off = arm_row A.Icr ∷ arm_row A.Dtimer ∷ arm_row A.Dlen ∷ []
+  arm_rest A.Icr = arm_row A.Dtimer ∷ arm_row A.Dlen ∷ []
+  arm_rest A.Dtimer = arm_row A.Dlen ∷ []
+  arm_rest A.Dlen = []
 
-  abbrev pub armLeft : Arm → List Row
-  armLeft a = arm_row a ∷ armRest a
+  abbrev pub arm_left : Arm → List Row
+  arm_left a = arm_row a ∷ arm_rest a
 
-  unfoldable pub armNext : ArmStep → List Row
-  armNext (AS.At a) = armLeft a
-  armNext AS.Done = []
+  unfoldable pub arm_next : ArmStep → List Row
+  arm_next (AS.At a) = arm_left a
+  arm_next AS.Done = []
 
-  pub all_arm : armLeft A.Dctrl2 ≡ armRows timeout transfer
-  unfolding arm_row armRest
+  pub all_arm : arm_left A.Dctrl2 ≡ arm_rows timeout transfer
+  unfolding arm_row arm_rest
   all_arm = refl
 
-unfoldable pub stopRow : Stop → Row
-stopRow S.Mask = record { register = MASK; value = 0 }
-stopRow S.Dctrl = record { register = DCTRL; value = 0 }
-stopRow S.Icr = record { register = ICR; value = 0x73a }
+unfoldable pub stop_row : Stop → Row
+stop_row S.Mask = record { register = MASK; value = 0 }
+stop_row S.Dctrl = record { register = DCTRL; value = 0 }
+stop_row S.Icr = record { register = ICR; value = 0x73a }
 
-unfoldable pub stopRest : Stop → List Row
-stopRest S.Mask = stopRow S.Dctrl ∷ stopRow S.Icr ∷ []
-stopRest S.Dctrl = stopRow S.Icr ∷ []
-stopRest S.Icr = []
+unfoldable pub stop_rest : Stop → List Row
+stop_rest S.Mask = stop_row S.Dctrl ∷ stop_row S.Icr ∷ []
+stop_rest S.Dctrl = stop_row S.Icr ∷ []
+stop_rest S.Icr = []
 
-abbrev pub stopLeft : Stop → List Row
-stopLeft s = stopRow s ∷ stopRest s
+abbrev pub stop_left : Stop → List Row
+stop_left s = stop_row s ∷ stop_rest s
 
-unfoldable pub stopNext : StopStep → List Row
-stopNext (SS.At s) = stopLeft s
-stopNext SS.Done = []
+unfoldable pub stop_next : StopStep → List Row
+stop_next (SS.At s) = stop_left s
+stop_next SS.Done = []
 
-pub all-stop : stopLeft S.Mask ≡ stopRows
-unfolding stopRow stopRest
-all-stop = refl
+pub all_stop : stop_left S.Mask ≡ stop_rows
+unfolding stop_row stop_rest
+all_stop = refl

@@ -1,16 +1,16 @@
 -- The wait until the card is ready, under way: what is ahead of it at each of its places. It is the plan of the bus, from that
 -- place on.
 use Rattle.std.specs.Prelude.{ℕ, Bool, true, false, cond, List}
-use Rattle.types.specs.Sd.{readyOf}
+use Rattle.types.specs.Sd.{ready_of}
 use Rattle.types.specs.declared.error.Error.TheVariants as E
 use Rattle.tape.specs.declared.progress.Line.{Line}
 use Rattle.tape.specs.Plan.{Nothing, Plan, failed, give, ◌then◌, until}
 use Rattle.bus.specs.Command.{first_of}
-use Rattle.bus.specs.Ready.{retryDelay, tryReady}
+use Rattle.bus.specs.Ready.{retry_delay, try_ready}
 use Rattle.step.specs.Next.{Next, over, refused, next}
 use Rattle.step.specs.Context.{Context, whole, plug, and_then}
-use Rattle.step.specs.Command.{commandPlan}
-use Rattle.step.specs.Why.{causeOf}
+use Rattle.step.specs.Command.{command_plan}
+use Rattle.step.specs.Why.{cause_of}
 use Rattle.step.specs.declared.ready.Bus.{Bus}
 use Rattle.step.specs.declared.ready.Ready.{Ready}
 use Rattle.step.specs.declared.ready.Ready.TheVariants as R
@@ -20,11 +20,11 @@ use Rattle.step.specs.declared.ready.Waits.{Waits}
 use Rattle.step.specs.declared.ready.Waits.TheVariants as B
 
 module _ (bus : Bus) where
-  abbrev pub limitAt : ℕ
-  limitAt = bus.config.poll_limit
+  abbrev pub limit_at : ℕ
+  limit_at = bus.config.poll_limit
 
   abbrev pub try : Plan Bool
-  try = tryReady bus.source.0 limitAt bus.rca
+  try = try_ready bus.source.0 limit_at bus.rca
 
   -- so many attempts
   unfoldable pub attempts : ℕ → Plan Nothing
@@ -38,17 +38,17 @@ module _ (bus : Bus) where
   unfoldable pub asked : ℕ → Context Nothing (List ℕ)
   asked n =
       and_then (λ ws. give (first_of ws))
-      (and_then (λ status. cond (readyOf status) (give true) (retryDelay bus.source.0 then λ _. give false)) (tried n))
+      (and_then (λ status. cond (ready_of status) (give true) (retry_delay bus.source.0 then λ _. give false)) (tried n))
 
-  unfoldable pub readyPlan : Ready → Plan Nothing
-  readyPlan (R.Asks n c) = plug (asked n) (commandPlan c)
-  readyPlan (R.Delay n) = plug (tried n) (retryDelay bus.source.0 then λ _. give false)
+  unfoldable pub ready_plan : Ready → Plan Nothing
+  ready_plan (R.Asks n c) = plug (asked n) (command_plan c)
+  ready_plan (R.Delay n) = plug (tried n) (retry_delay bus.source.0 then λ _. give false)
 
-  unfoldable pub readyNext : ReadyStep → Line → Next Nothing
-  readyNext (S.On r) h = next (readyPlan r) h
-  readyNext S.Done h = over h tt
-  readyNext (S.Failed why) h = refused h (causeOf why)
+  unfoldable pub ready_next : ReadyStep → Line → Next Nothing
+  ready_next (S.On r) h = next (ready_plan r) h
+  ready_next S.Done h = over h tt
+  ready_next (S.Failed why) h = refused h (cause_of why)
 
-  unfoldable pub waitsNext : Waits → Line → Next Nothing
-  waitsNext (B.On r) h = next (readyPlan r) h
-  waitsNext B.Spent h = refused h (failed E.SoftwareTimeout)
+  unfoldable pub waits_next : Waits → Line → Next Nothing
+  waits_next (B.On r) h = next (ready_plan r) h
+  waits_next B.Spent h = refused h (failed E.SoftwareTimeout)

@@ -12,15 +12,15 @@ unfoldable pub rows_from : List Row → Plan Nothing
 rows_from [] = give tt
 rows_from (r ∷ rs) = write r (rows_from rs)
 
-abbrev pub resetRows : List Row
-resetRows =
+abbrev pub reset_rows : List Row
+reset_rows =
     row_of MASK 0 ∷ row_of DCTRL2 0 ∷ row_of DCTRL 0 ∷ row_of CMD 0 ∷ row_of POWER 0 ∷ row_of CLKCR 0 ∷ row_of ARG 0 ∷ row_of DTIMER 0
     ∷ row_of DLEN 0 ∷ row_of ICR 0x00c0_07ff ∷ []
 
-abbrev pub armRows : ℕ → Transfer → List Row
-armRows timeout transfer =
+abbrev pub arm_rows : ℕ → Transfer → List Row
+arm_rows timeout transfer =
     row_of DCTRL2 0 ∷ row_of MASK 0 ∷ row_of DCTRL 0 ∷ row_of ICR 0x73a ∷ row_of DTIMER timeout ∷ row_of DLEN (4 * transfer.words)
     ∷ []
 
-abbrev pub stopRows : List Row
-stopRows = row_of MASK 0 ∷ row_of DCTRL 0 ∷ row_of ICR 0x73a ∷ []
+abbrev pub stop_rows : List Row
+stop_rows = row_of MASK 0 ∷ row_of DCTRL 0 ∷ row_of ICR 0x73a ∷ []

@@ -3,6 +3,6 @@ use Rattle.tape.specs.Plan.{Cause, failed, ended}
 use Rattle.step.specs.declared.why.Why.{Why}
 use Rattle.step.specs.declared.why.Why.TheVariants.{Failed, NoWord}
 
-abbrev pub causeOf : Why → Cause
-causeOf (Failed e) = failed e
-causeOf NoWord = ended
+abbrev pub cause_of : Why → Cause
+cause_of (Failed e) = failed e
+cause_of NoWord = ended

@@ -2,7 +2,7 @@
 ghost use Rattle.std.specs.Prelude.{◌≡◌, cond, ◌*◌, ◌<◌, eqb, length};
 ghost use Rattle.tape.specs.declared.script.Reading.TheVariants as Reading;
 ghost use Rattle.step.specs.Next.{Lent, Handed};
-ghost use Rattle.step.specs.Transfer.{blocksOf, transferOf, sendsOf, top_of, place_of, wordsBy, put_at, keptBy};
+ghost use Rattle.step.specs.Transfer.{blocks_of, transfer_of, sends_of, top_of, place_of, words_by, put_at, kept_by};
 
 use bus::transfer::Transfer;
 
@@ -33,7 +33,7 @@ fn put(held: [u32; 16], place: u16, word: u32) -> [u32; 16]
 
 // 1 to 511 blocks.
 fn blocks(n: u16) -> u16
-    ensures { result ≡ blocksOf n }
+    ensures { result ≡ blocks_of n }
 {
     if n == 0 {
         return 1;
@@ -43,7 +43,7 @@ fn blocks(n: u16) -> u16
 
 // One command for one block, another for more.
 fn move_blocks(one: u8, more: u8, address: u32, n: u16) -> Transfer
-    ensures { result ≡ record { index = cond (eqb (blocksOf n) 1) one more; argument = address; block_size = 9; words = 128 * blocksOf n } }
+    ensures { result ≡ record { index = cond (eqb (blocks_of n) 1) one more; argument = address; block_size = 9; words = 128 * blocks_of n } }
 {
     let count = blocks(n);
     if count == 1 {
@@ -66,7 +66,7 @@ fn move_blocks(one: u8, more: u8, address: u32, n: u16) -> Transfer
 impl Phase {
     // What it asks for.
     pub fn transfer(self) -> Transfer
-        ensures { result ≡ transferOf self }
+        ensures { result ≡ transfer_of self }
     {
         match self {
             Phase::Scr => Transfer {
@@ -100,7 +100,7 @@ impl Phase {
 
     // Whether its words go to the card.
     pub fn sends(self) -> bool
-        ensures { result ≡ sendsOf self }
+        ensures { result ≡ sends_of self }
     {
         match self {
             Phase::Scr => false,
@@ -131,8 +131,8 @@ impl Phase {
 
     // The words that a call keeps, with the one at this place; a read's are not kept.
     pub fn kept(self, place: u16, held: [u32; 16], word: u32) -> [u32; 16]
-        ensures set { result ≡ keptBy self place held word }
-        ensures more { (g g' : Lent) → place < (transferOf self).words → Handed (Reading.Data place) word g g' → Handed (Reading.Data place) word (wordsBy self held g) (wordsBy self (keptBy self place held word) g') }
+        ensures set { result ≡ kept_by self place held word }
+        ensures more { (g g' : Lent) → place < (transfer_of self).words → Handed (Reading.Data place) word g g' → Handed (Reading.Data place) word (words_by self held g) (words_by self (kept_by self place held word) g') }
     {
         match self {
             Phase::Scr => put(held, place, word),

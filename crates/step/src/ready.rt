@@ -2,11 +2,11 @@
 ghost use Rattle.std.specs.Prelude.{◌≡◌};
 ghost use Rattle.tape.specs.declared.progress.Line.{Line};
 ghost use Rattle.tape.specs.Plan.{give};
-ghost use Rattle.bus.specs.Ready.{waitReady};
-ghost use Rattle.step.specs.Next.{next, wantOf, heard, told, missed, lineAfter};
-ghost use Rattle.step.specs.Context.{plug, plugNext};
-ghost use Rattle.step.specs.Command.{commandNext, list_of};
-ghost use Rattle.step.specs.Ready.{attempts, asked, readyPlan, readyNext, waitsNext};
+ghost use Rattle.bus.specs.Ready.{wait_ready};
+ghost use Rattle.step.specs.Next.{next, want_of, heard, told, missed, line_after};
+ghost use Rattle.step.specs.Context.{plug, plug_next};
+ghost use Rattle.step.specs.Command.{command_next, list_of};
+ghost use Rattle.step.specs.Ready.{attempts, asked, ready_plan, ready_next, waits_next};
 
 use crate::command::{Begun, Command, CommandStep, Ended, Words};
 use crate::wants::Wants;
@@ -53,7 +53,7 @@ pub enum ReadyStep {
 impl Bus {
     // The wait with so many attempts, where the clock is gated or not.
     fn attempt(self, gated: bool, left: u32) -> Waits
-        ensures { (h : Line) → h.gated ≡ gated → waitsNext self result h ≡ next (attempts self left) h }
+        ensures { (h : Line) → h.gated ≡ gated → waits_next self result h ≡ next (attempts self left) h }
     {
         if left == 0 {
             return Waits::Spent;
@@ -70,7 +70,7 @@ impl Bus {
 
     // The wait at its start.
     pub fn wait_ready(self, gated: bool) -> Waits
-        ensures { (h : Line) → h.gated ≡ gated → waitsNext self result h ≡ next (waitReady self.source.0 self.config self.rca) h }
+        ensures { (h : Line) → h.gated ≡ gated → waits_next self result h ≡ next (wait_ready self.source.0 self.config self.rca) h }
     {
         let left = self.config.card_ready_attempts;
         self.attempt(gated, left as u32)
@@ -78,7 +78,7 @@ impl Bus {
 
     // A ready wait before an attempt, as one after an answer.
     pub fn tries(self, waits: Waits) -> ReadyStep
-        ensures { (h : Line) → readyNext self result h ≡ waitsNext self waits h }
+        ensures { (h : Line) → ready_next self result h ≡ waits_next self waits h }
     {
         match waits {
             Waits::On(ready) => ReadyStep::On(ready),
@@ -88,7 +88,7 @@ impl Bus {
 
     // The card's status came.
     fn answered(self, left: u32, words: Words) -> ReadyStep
-        ensures { (h : Line) → readyNext self result h ≡ next (plug (asked self left) (give (list_of words))) h }
+        ensures { (h : Line) → ready_next self result h ≡ next (plug (asked self left) (give (list_of words))) h }
     {
         let status = CardStatus(words.a);
         if status.ready() {
@@ -100,7 +100,7 @@ impl Bus {
 
     // CMD13 after an answer.
     fn asking(self, left: u32, step: CommandStep) -> ReadyStep
-        ensures { (h : Line) → readyNext self result h ≡ plugNext (asked self left) (commandNext step h) }
+        ensures { (h : Line) → ready_next self result h ≡ plug_next (asked self left) (command_next step h) }
     {
         match step {
             CommandStep::On(command) => ReadyStep::On(Ready::Asks(left, command)),
@@ -115,7 +115,7 @@ impl Bus {
 impl Ready {
     // What it waits for.
     pub fn wants(self, bus: Bus, line: Line) -> Wants
-        ensures { result ≡ wantOf (next (readyPlan bus self) line) }
+        ensures { result ≡ want_of (next (ready_plan bus self) line) }
     {
         match self {
             Ready::Asks(_, command) => command.wants(line),
@@ -131,7 +131,7 @@ impl Ready {
 
     // After the word that it asked for; unasked, as it was.
     pub fn fed(self, bus: Bus, word: u32) -> ReadyStep
-        ensures { (h : Line) → readyNext bus result h ≡ heard (next (readyPlan bus self) h) word }
+        ensures { (h : Line) → ready_next bus result h ≡ heard (next (ready_plan bus self) h) word }
     {
         match self {
             Ready::Asks(left, command) => bus.asking(left, command.fed(word)),
@@ -141,7 +141,7 @@ impl Ready {
 
     // Where no word will come; unasked, as it was.
     pub fn missed(self, bus: Bus) -> ReadyStep
-        ensures { (h : Line) → readyNext bus result h ≡ missed (next (readyPlan bus self) h) }
+        ensures { (h : Line) → ready_next bus result h ≡ missed (next (ready_plan bus self) h) }
     {
         match self {
             Ready::Asks(left, command) => bus.asking(left, command.missed()),
@@ -151,7 +151,7 @@ impl Ready {
 
     // After its row was written; with none to write, as it was.
     pub fn went(self, bus: Bus, gated: bool) -> ReadyStep
-        ensures { (h : Line) → h.gated ≡ gated → readyNext bus result (lineAfter (next (readyPlan bus self) h)) ≡ told (next (readyPlan bus self) h) }
+        ensures { (h : Line) → h.gated ≡ gated → ready_next bus result (line_after (next (ready_plan bus self) h)) ≡ told (next (ready_plan bus self) h) }
     {
         match self {
             Ready::Asks(left, command) => bus.asking(left, command.went()),

@@ -6,11 +6,11 @@ ghost use Rattle.types.specs.Bits.{clear};
 ghost use Rattle.tape.specs.declared.progress.Line.{Line};
 ghost use Rattle.tape.specs.Plan.{give};
 ghost use Rattle.bus.specs.Transfer.{landed};
-ghost use Rattle.step.specs.Next.{next, wantOf, heard, told, missed, lineAfter, Lent, filledIn, Handed};
-ghost use Rattle.step.specs.Context.{plug, plugNext};
-ghost use Rattle.step.specs.Command.{commandNext};
-ghost use Rattle.step.specs.Ready.{readyNext};
-ghost use Rattle.step.specs.Transfer.{transferOf, bufferOf, place_of, after_of, wordsBy, heldBy, phasePlan, refusal, idling, polling, armed, ordered, startSite, received, sending, stopSite, ending, stopped, unclocked, readsPlan, readingAt, toldPlan, row_at, dataPlan, dataNext, HandedAt};
+ghost use Rattle.step.specs.Next.{next, want_of, heard, told, missed, line_after, Lent, filled_in, Handed};
+ghost use Rattle.step.specs.Context.{plug, plug_next};
+ghost use Rattle.step.specs.Command.{command_next};
+ghost use Rattle.step.specs.Ready.{ready_next};
+ghost use Rattle.step.specs.Transfer.{transfer_of, buffer_of, place_of, after_of, words_by, held_by, phase_plan, refusal, idling, polling, armed, ordered, start_site, received, sending, stop_site, ending, stopped, unclocked, reads_plan, reading_at, told_plan, row_at, data_plan, data_next, HandedAt};
 
 use crate::arm::{Arm, ArmStep, Stop, StopStep};
 use crate::command::{Begun, Command, CommandStep, Ended};
@@ -85,7 +85,7 @@ fn unfinished(status: u32) -> bool
 impl Phase {
     // What a reading of it reads.
     fn reading(self, reads: Reads) -> Reading
-        ensures { result ≡ readingAt self reads }
+        ensures { result ≡ reading_at self reads }
     {
         match reads {
             Reads::Idle(_) => Reading::Status,
@@ -136,21 +136,21 @@ impl Bus {
 
     // A refusal: the reset rows come first.
     fn drops(self, phase: Phase, why: Why) -> Data
-        ensures { (ws : Lent) (h : Line) → next (dataPlan self phase ws result) h ≡ next (refusal self phase why) h }
+        ensures { (ws : Lent) (h : Line) → next (data_plan self phase ws result) h ≡ next (refusal self phase why) h }
     {
         Data::Tells(Writes::Reset(Reset::Mask, why))
     }
 
     // The same with an error of its own.
     fn refuses(self, phase: Phase, error: Error) -> Data
-        ensures { (ws : Lent) (h : Line) → next (dataPlan self phase ws result) h ≡ next (refusal self phase (Why.Failed error)) h }
+        ensures { (ws : Lent) (h : Line) → next (data_plan self phase ws result) h ≡ next (refusal self phase (Why.Failed error)) h }
     {
         self.drops(phase, Why::Failed(error))
     }
 
     // The idle wait, with so many polls.
     fn idles(self, phase: Phase, polls: u32) -> Data
-        ensures { (ws : Lent) (h : Line) → next (dataPlan self phase ws result) h ≡ next (idling self phase ws polls) h }
+        ensures { (ws : Lent) (h : Line) → next (data_plan self phase ws result) h ≡ next (idling self phase ws polls) h }
     {
         if polls == 0 {
             self.refuses(phase, Error::SoftwareTimeout)
@@ -162,7 +162,7 @@ impl Bus {
 
     // The polls, with so many left.
     fn polls(self, phase: Phase, polls: u32) -> Data
-        ensures { (ws : Lent) (h : Line) → next (dataPlan self phase ws result) h ≡ next (polling self phase ws polls) h }
+        ensures { (ws : Lent) (h : Line) → next (data_plan self phase ws result) h ≡ next (polling self phase ws polls) h }
     {
         if polls == 0 {
             self.refuses(phase, Error::SoftwareTimeout)
@@ -174,7 +174,7 @@ impl Bus {
 
     // A data phase at its start.
     pub fn begin_data(self, phase: Phase) -> Data
-        ensures { (ws : Lent) (h : Line) → next (dataPlan self phase ws result) h ≡ next (phasePlan self phase ws.sent) h }
+        ensures { (ws : Lent) (h : Line) → next (data_plan self phase ws result) h ≡ next (phase_plan self phase ws.sent) h }
     {
         let limit = self.config.poll_limit;
         self.idles(phase, limit)
@@ -182,7 +182,7 @@ impl Bus {
 
     // The data command, which opens no gate of its own.
     fn starts(self, phase: Phase) -> Data
-        ensures { (ws : Lent) (h : Line) → next (dataPlan self phase ws result) h ≡ next (toldPlan self phase ws Writes.Open) h }
+        ensures { (ws : Lent) (h : Line) → next (data_plan self phase ws result) h ≡ next (told_plan self phase ws Writes.Open) h }
     {
         let transfer = phase.transfer();
         let limit = self.config.poll_limit;
@@ -201,7 +201,7 @@ impl Bus {
 
     // After the data command: the polls, or first DCTRL and the words that are sent.
     fn ordered(self, phase: Phase) -> Data
-        ensures { (ws : Lent) (h : Line) → next (dataPlan self phase ws result) h ≡ next (plug (ordered self phase ws) (give tt)) h }
+        ensures { (ws : Lent) (h : Line) → next (data_plan self phase ws result) h ≡ next (plug (ordered self phase ws) (give tt)) h }
     {
         if phase.sends() {
             Data::Tells(Writes::Control)
@@ -212,7 +212,7 @@ impl Bus {
 
     // The data command after an answer.
     fn starting(self, phase: Phase, step: CommandStep) -> Data
-        ensures { (ws : Lent) (h : Line) → next (dataPlan self phase ws result) h ≡ plugNext (startSite self phase ws) (commandNext step h) }
+        ensures { (ws : Lent) (h : Line) → next (data_plan self phase ws result) h ≡ plug_next (start_site self phase ws) (command_next step h) }
     {
         match step {
             CommandStep::On(command) => Data::Start(command),
@@ -225,7 +225,7 @@ impl Bus {
 
     // The closing ready wait after an answer.
     fn waiting(self, phase: Phase, step: ReadyStep) -> DataStep
-        ensures { (ws : Lent) (h : Line) → dataNext self phase ws result h ≡ plugNext (ending self phase ws) (readyNext self step h) }
+        ensures { (ws : Lent) (h : Line) → data_next self phase ws result h ≡ plug_next (ending self phase ws) (ready_next self step h) }
     {
         match step {
             ReadyStep::On(ready) => DataStep::On(Data::Ready(ready)),
@@ -236,7 +236,7 @@ impl Bus {
 
     // CMD12 after an answer.
     fn stopping(self, phase: Phase, gated: bool, step: CommandStep) -> DataStep
-        ensures { (ws : Lent) (h : Line) → h.gated ≡ gated → dataNext self phase ws result h ≡ plugNext (stopSite self phase ws) (commandNext step h) }
+        ensures { (ws : Lent) (h : Line) → h.gated ≡ gated → data_next self phase ws result h ≡ plug_next (stop_site self phase ws) (command_next step h) }
     {
         match step {
             CommandStep::On(command) => DataStep::On(Data::Stop(command)),
@@ -249,7 +249,7 @@ impl Bus {
 
     // After the row that closes the clock: CMD12 after CMD18 and CMD25, and the ready wait.
     fn stops(self, phase: Phase, gated: bool) -> DataStep
-        ensures { (ws : Lent) (h : Line) → h.gated ≡ gated → dataNext self phase ws result h ≡ next (plug (unclocked self phase ws) (give tt)) h }
+        ensures { (ws : Lent) (h : Line) → h.gated ≡ gated → data_next self phase ws result h ≡ next (plug (unclocked self phase ws) (give tt)) h }
     {
         let transfer = phase.transfer();
         if of_many(transfer.index) {
@@ -265,7 +265,7 @@ impl Bus {
 
     // After the rows that stop the data path: the clock is closed where it is gated.
     fn closes(self, phase: Phase, gated: bool) -> DataStep
-        ensures { (ws : Lent) (h : Line) → h.gated ≡ gated → dataNext self phase ws result h ≡ next (stopped self phase ws) h }
+        ensures { (ws : Lent) (h : Line) → h.gated ≡ gated → data_next self phase ws result h ≡ next (stopped self phase ws) h }
     {
         if gated {
             DataStep::On(Data::Tells(Writes::Gate))
@@ -276,7 +276,7 @@ impl Bus {
 
     // After the rows that ready the data path: DCTRL, or the data command.
     fn readied(self, phase: Phase) -> Data
-        ensures { (ws : Lent) (h : Line) → next (dataPlan self phase ws result) h ≡ next (plug (armed self phase ws) (give tt)) h }
+        ensures { (ws : Lent) (h : Line) → next (data_plan self phase ws result) h ≡ next (plug (armed self phase ws) (give tt)) h }
     {
         if phase.sends() {
             Data::Tells(Writes::Open)
@@ -287,7 +287,7 @@ impl Bus {
 
     // After DCTRL: the data command, or the words that are sent.
     fn controls(self, phase: Phase) -> Data
-        ensures { (ws : Lent) (h : Line) → next (dataPlan self phase ws result) h ≡ next (toldPlan self phase ws Writes.Control) h }
+        ensures { (ws : Lent) (h : Line) → next (data_plan self phase ws result) h ≡ next (told_plan self phase ws Writes.Control) h }
     {
         if phase.sends() {
             let top = phase.top();
@@ -299,7 +299,7 @@ impl Bus {
 
     // After a word that was sent: the next one, or the polls.
     fn sent(self, phase: Phase, after: u16) -> Data
-        ensures { (ws : Lent) (h : Line) → next (dataPlan self phase ws result) h ≡ next (sending self phase ws (place_of phase after + 1) (after_of phase after)) h }
+        ensures { (ws : Lent) (h : Line) → next (data_plan self phase ws result) h ≡ next (sending self phase ws (place_of phase after + 1) (after_of phase after)) h }
     {
         let place = phase.place(after);
         let top = phase.top();
@@ -313,7 +313,7 @@ impl Bus {
 
     // After a row.
     fn goes(self, phase: Phase, gated: bool, writes: Writes) -> DataStep
-        ensures { (ws : Lent) (h : Line) → h.gated ≡ gated → dataNext self phase ws result h ≡ next (toldPlan self phase ws writes) h }
+        ensures { (ws : Lent) (h : Line) → h.gated ≡ gated → data_next self phase ws result h ≡ next (told_plan self phase ws writes) h }
     {
         match writes {
             Writes::Reset(reset, why) => {
@@ -345,7 +345,7 @@ impl Bus {
 
     // After a data word: the next one, or the rows that stop the data path.
     fn takes(self, phase: Phase, after: u16) -> Data
-        ensures { (ws ws' : Lent) (h : Line) (word : ℕ) → Handed (readingAt phase (Reads.Word after)) word ws ws' → next (dataPlan self phase ws' result) h ≡ heard (next (readsPlan self phase ws (Reads.Word after)) h) word }
+        ensures { (ws ws' : Lent) (h : Line) (word : ℕ) → Handed (reading_at phase (Reads.Word after)) word ws ws' → next (data_plan self phase ws' result) h ≡ heard (next (reads_plan self phase ws (Reads.Word after)) h) word }
     {
         let place = phase.place(after);
         let top = phase.top();
@@ -359,7 +359,7 @@ impl Bus {
 
     // After the status word that opens a poll.
     fn opens(self, phase: Phase, more: u32, word: u32) -> Data
-        ensures { (ws : Lent) (h : Line) → next (dataPlan self phase ws result) h ≡ heard (next (readsPlan self phase ws (Reads.First more)) h) word }
+        ensures { (ws : Lent) (h : Line) → next (data_plan self phase ws result) h ≡ heard (next (reads_plan self phase ws (Reads.First more)) h) word }
     {
         let answer = status::data_error(word);
         match answer {
@@ -370,7 +370,7 @@ impl Bus {
 
     // After its DMA word: while the channel runs it polls on.
     fn runs(self, phase: Phase, more: u32, status: u32, word: u32) -> Data
-        ensures { (ws : Lent) (h : Line) → next (dataPlan self phase ws result) h ≡ heard (next (readsPlan self phase ws (Reads.FirstDma more status)) h) word }
+        ensures { (ws : Lent) (h : Line) → next (data_plan self phase ws result) h ≡ heard (next (reads_plan self phase ws (Reads.FirstDma more status)) h) word }
     {
         if word & Dma::ERROR != 0 {
             return self.refuses(phase, Error::Dma);
@@ -384,7 +384,7 @@ impl Bus {
 
     // After the second status word.
     fn looks(self, phase: Phase, more: u32, word: u32) -> Data
-        ensures { (ws : Lent) (h : Line) → next (dataPlan self phase ws result) h ≡ heard (next (readsPlan self phase ws (Reads.Again more)) h) word }
+        ensures { (ws : Lent) (h : Line) → next (data_plan self phase ws result) h ≡ heard (next (reads_plan self phase ws (Reads.Again more)) h) word }
     {
         let answer = status::data_error(word);
         match answer {
@@ -395,7 +395,7 @@ impl Bus {
 
     // After the second DMA word: while the status says that the transfer is not over it polls on.
     fn settles(self, phase: Phase, more: u32, status: u32, word: u32) -> Data
-        ensures { (ws : Lent) (h : Line) → next (dataPlan self phase ws result) h ≡ heard (next (readsPlan self phase ws (Reads.AgainDma more status)) h) word }
+        ensures { (ws : Lent) (h : Line) → next (data_plan self phase ws result) h ≡ heard (next (reads_plan self phase ws (Reads.AgainDma more status)) h) word }
     {
         if word & Dma::ERROR != 0 {
             return self.refuses(phase, Error::Dma);
@@ -412,7 +412,7 @@ impl Bus {
 
     // After the poll that completes: the data words, or where they were sent the rows that stop the data path.
     fn lands(self, phase: Phase) -> Data
-        ensures { (ws : Lent) (h : Line) → next (dataPlan self phase ws result) h ≡ next (plug (received self phase) (landed (bufferOf phase ws.sent) (transferOf phase).words)) h }
+        ensures { (ws : Lent) (h : Line) → next (data_plan self phase ws result) h ≡ next (plug (received self phase) (landed (buffer_of phase ws.sent) (transfer_of phase).words)) h }
     {
         if phase.sends() {
             Data::Tells(Writes::Stop(Stop::Mask))
@@ -424,7 +424,7 @@ impl Bus {
 
     // After DCOUNT.
     fn counts(self, phase: Phase, more: u32, word: u32) -> Data
-        ensures { (ws : Lent) (h : Line) → next (dataPlan self phase ws result) h ≡ heard (next (readsPlan self phase ws (Reads.Count more)) h) word }
+        ensures { (ws : Lent) (h : Line) → next (data_plan self phase ws result) h ≡ heard (next (reads_plan self phase ws (Reads.Count more)) h) word }
     {
         if word == 0 {
             self.lands(phase)
@@ -435,7 +435,7 @@ impl Bus {
 
     // After the word that a reading asked for.
     fn hears(self, phase: Phase, reads: Reads, word: u32) -> Data
-        ensures { (ws ws' : Lent) (h : Line) → Handed (readingAt phase reads) word ws ws' → next (dataPlan self phase ws' result) h ≡ heard (next (readsPlan self phase ws reads) h) word }
+        ensures { (ws ws' : Lent) (h : Line) → Handed (reading_at phase reads) word ws ws' → next (data_plan self phase ws' result) h ≡ heard (next (reads_plan self phase ws reads) h) word }
     {
         match reads {
             Reads::Idle(more) => {
@@ -458,8 +458,8 @@ impl Bus {
 impl Data {
     // The words that a call keeps, with this one where it is a data word.
     pub fn keeps(self, phase: Phase, held: [u32; 16], word: u32) -> [u32; 16]
-        ensures kept { result ≡ heldBy phase self held word }
-        ensures handed { (g g' : Lent) → HandedAt phase self word g g' → HandedAt phase self word (wordsBy phase held g) (wordsBy phase (heldBy phase self held word) g') }
+        ensures kept { result ≡ held_by phase self held word }
+        ensures handed { (g g' : Lent) → HandedAt phase self word g g' → HandedAt phase self word (words_by phase held g) (words_by phase (held_by phase self held word) g') }
     {
         match self {
             Data::Asks(reads) => match reads {
@@ -481,7 +481,7 @@ impl Data {
 
     // What it waits for.
     pub fn wants(self, bus: Bus, phase: Phase, line: Line) -> Wants
-        ensures { (ws : Lent) → filledIn ws.sent result ≡ wantOf (next (dataPlan bus phase ws self) line) }
+        ensures { (ws : Lent) → filled_in ws.sent result ≡ want_of (next (data_plan bus phase ws self) line) }
     {
         match self {
             Data::Asks(reads) => Wants::Read(phase.reading(reads)),
@@ -498,7 +498,7 @@ impl Data {
 
     // After the word that it asked for; unasked, as it was.
     pub fn fed(self, bus: Bus, phase: Phase, gated: bool, word: u32) -> DataStep
-        ensures { (ws ws' : Lent) (h : Line) → h.gated ≡ gated → HandedAt phase self word ws ws' → dataNext bus phase ws' result h ≡ heard (next (dataPlan bus phase ws self) h) word }
+        ensures { (ws ws' : Lent) (h : Line) → h.gated ≡ gated → HandedAt phase self word ws ws' → data_next bus phase ws' result h ≡ heard (next (data_plan bus phase ws self) h) word }
     {
         match self {
             Data::Asks(reads) => DataStep::On(bus.hears(phase, reads, word)),
@@ -512,7 +512,7 @@ impl Data {
 
     // Where no word will come; unasked, as it was.
     pub fn missed(self, bus: Bus, phase: Phase, gated: bool) -> DataStep
-        ensures { (ws : Lent) (h : Line) → h.gated ≡ gated → dataNext bus phase ws result h ≡ missed (next (dataPlan bus phase ws self) h) }
+        ensures { (ws : Lent) (h : Line) → h.gated ≡ gated → data_next bus phase ws result h ≡ missed (next (data_plan bus phase ws self) h) }
     {
         match self {
             Data::Asks(_) => DataStep::On(bus.drops(phase, Why::NoWord)),
@@ -526,7 +526,7 @@ impl Data {
 
     // After its row was written; with none to write, as it was.
     pub fn went(self, bus: Bus, phase: Phase, gated: bool) -> DataStep
-        ensures { (ws : Lent) (h : Line) → h.gated ≡ gated → dataNext bus phase ws result (lineAfter (next (dataPlan bus phase ws self) h)) ≡ told (next (dataPlan bus phase ws self) h) }
+        ensures { (ws : Lent) (h : Line) → h.gated ≡ gated → data_next bus phase ws result (line_after (next (data_plan bus phase ws self) h)) ≡ told (next (data_plan bus phase ws self) h) }
     {
         match self {
             Data::Asks(_) => DataStep::On(self),

@@ -3,12 +3,12 @@ use Rattle.std.specs.Prelude.{ℕ, true, false, List, []}
 use Rattle.types.specs.declared.card.Card.{Card}
 use Rattle.types.specs.declared.error.Answer.{Answer}
 use Rattle.types.specs.declared.error.Answer.TheVariants as Answered
-use Rattle.types.specs.Words.{sdStatusOf}
+use Rattle.types.specs.Words.{sd_status_of}
 use Rattle.tape.specs.declared.progress.Line.{Line}
 use Rattle.tape.specs.Plan.{Plan, Cause, give, look}
-use Rattle.init.specs.Initialise.{noCard}
+use Rattle.init.specs.Initialise.{no_card}
 use Rattle.host.specs.declared.host.Sdmmc.{Sdmmc}
-use Rattle.host.specs.Calls.{answerFor, hostOf, withStatus}
+use Rattle.host.specs.Calls.{answer_for, host_of, with_status}
 
 pub record Closing : Type 0 where
   pub answer : Answer
@@ -21,21 +21,21 @@ closing answer host taken = record { answer = answer; host = host; taken = taken
 module _ (host : Sdmmc) where
   -- a refusal: the record stays, or there is none
   unfoldable pub keeping : Cause → Plan Closing
-  keeping c = look (λ line. give (closing (answerFor c) (hostOf host.settings line host.known host.card) []))
+  keeping c = look (λ line. give (closing (answer_for c) (host_of host.settings line host.known host.card) []))
 
   unfoldable pub dropping : Cause → Plan Closing
-  dropping c = look (λ line. give (closing (answerFor c) (hostOf host.settings line false noCard) []))
+  dropping c = look (λ line. give (closing (answer_for c) (host_of host.settings line false no_card) []))
 
   -- a card was found; words were read
   unfoldable pub finding : Card → Plan Closing
-  finding card = look (λ line. give (closing Answered.Accepted (hostOf host.settings line true card) []))
+  finding card = look (λ line. give (closing Answered.Accepted (host_of host.settings line true card) []))
 
   unfoldable pub accepting : (Line → List ℕ → Sdmmc) → List ℕ → Plan Closing
   accepting next ws = look (λ line. give (closing Answered.Accepted (next line ws) ws))
 
   -- the next host of a read or a write, and that of a status call
-  abbrev pub blocksHost : Line → List ℕ → Sdmmc
-  blocksHost line ws = hostOf host.settings line host.known host.card
+  abbrev pub blocks_host : Line → List ℕ → Sdmmc
+  blocks_host line ws = host_of host.settings line host.known host.card
 
-  abbrev pub statusHost : Line → List ℕ → Sdmmc
-  statusHost line ws = hostOf host.settings line true (withStatus host.card (sdStatusOf ws))
+  abbrev pub status_host : Line → List ℕ → Sdmmc
+  status_host line ws = host_of host.settings line true (with_status host.card (sd_status_of ws))

@@ -1,7 +1,7 @@
 // A call under way: what it goes by, and where it stands.
 ghost use Rattle.std.specs.Prelude.{◌≡◌};
-ghost use Rattle.init.specs.Initialise.{noClock, withScr};
-ghost use Rattle.stepping.specs.Ahead.{cardBy, initialOf, frequencyOf, phaseOf, busWith, rcaOf, waitRca};
+ghost use Rattle.init.specs.Initialise.{no_clock, with_scr};
+ghost use Rattle.stepping.specs.Ahead.{card_by, initial_of, frequency_of, phase_of, bus_with, rca_of, wait_rca};
 
 use bus::response::Response;
 use host::host::Sdmmc;
@@ -157,7 +157,7 @@ pub struct Stand {
 impl Known {
     // The record of a card that said this of itself, with its SCR.
     pub fn card(self) -> Card
-        ensures { result ≡ withScr (cardBy self) self.scr.0 }
+        ensures { result ≡ with_scr (card_by self) self.scr.0 }
     {
         let cid = self.cid;
         let csd = self.csd;
@@ -183,7 +183,7 @@ impl Known {
 impl Asked {
     // The clock of identification of an initialisation.
     pub fn initial(self) -> Clock
-        ensures { result ≡ initialOf self }
+        ensures { result ≡ initial_of self }
     {
         match self {
             Asked::Card(clock, _) => clock,
@@ -195,7 +195,7 @@ impl Asked {
 
     // The asked frequency of an initialisation.
     pub fn frequency(self) -> u32
-        ensures { result ≡ frequencyOf self }
+        ensures { result ≡ frequency_of self }
     {
         match self {
             Asked::Card(_, frequency) => frequency,
@@ -207,7 +207,7 @@ impl Asked {
 
     // What a data phase reads, or sends.
     pub fn phase(self, gets: Gets) -> Phase
-        ensures { result ≡ phaseOf self gets }
+        ensures { result ≡ phase_of self gets }
     {
         match gets {
             Gets::Asked => match self {
@@ -224,7 +224,7 @@ impl Asked {
 }
 
 fn no_clock() -> Clock
-    ensures { result ≡ noClock }
+    ensures { result ≡ no_clock }
 {
     Clock {
         divisor: 0,
@@ -236,7 +236,7 @@ fn no_clock() -> Clock
 impl Job {
     // What the steps behind a command go by, for the card of this address.
     pub fn bus(self, rca: u16) -> Bus
-        ensures { result ≡ busWith self rca }
+        ensures { result ≡ bus_with self rca }
     {
         let host = self.host;
         let settings = host.settings;
@@ -251,7 +251,7 @@ impl Job {
 
     // The card's address in a data phase.
     pub fn rca(self, known: Known, gets: Gets) -> u16
-        ensures { result ≡ rcaOf self known gets }
+        ensures { result ≡ rca_of self known gets }
     {
         match gets {
             Gets::Asked => self.host.card.rca,
@@ -263,7 +263,7 @@ impl Job {
 
     // The card's address in a ready wait.
     pub fn wait_rca(self, known: Known, waiting: Waiting) -> u16
-        ensures { result ≡ waitRca self known waiting }
+        ensures { result ≡ wait_rca self known waiting }
     {
         match waiting {
             Waiting::Blocks => self.host.card.rca,

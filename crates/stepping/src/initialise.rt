@@ -1,17 +1,17 @@
 // What follows each step of an initialisation, in the driver's order.
 ghost use Rattle.std.specs.Prelude.{◌≡◌, ◌*◌, ◌^◌, take, get_or};
-ghost use Rattle.types.specs.Leaf.{clockOf};
-ghost use Rattle.types.specs.Words.{scrOf};
+ghost use Rattle.types.specs.Leaf.{clock_of};
+ghost use Rattle.types.specs.Words.{scr_of};
 ghost use Rattle.tape.specs.declared.progress.Line.{Line};
 ghost use Rattle.tape.specs.Plan.{give, refuse};
-ghost use Rattle.init.specs.Initialise.{setClock, offered, switched};
+ghost use Rattle.init.specs.Initialise.{set_clock, offered, switched};
 ghost use Rattle.step.specs.Command.{list_of};
 ghost use Rattle.step.specs.Context.{plug};
 ghost use Rattle.step.specs.Next.{next, Lent};
 ghost use Rattle.step.specs.Transfer.{all_of};
-ghost use Rattle.step.specs.Why.{causeOf};
-ghost use Rattle.stepping.specs.Sites.{begun, opened, widened, clockSet, switchDelay};
-ghost use Rattle.stepping.specs.Ahead.{cardBy, initialOf, frequencyOf, excused, forgiven, phaseOf, sentSite, getsSite, powering, toldPlan, lineSet, resetOn, closeOn, followPlan, words_in, thenNext};
+ghost use Rattle.step.specs.Why.{cause_of};
+ghost use Rattle.stepping.specs.Sites.{begun, opened, widened, clock_set, switch_delay};
+ghost use Rattle.stepping.specs.Ahead.{card_by, initial_of, frequency_of, excused, forgiven, phase_of, sent_site, gets_site, powering, told_plan, line_set, reset_on, close_on, follow_plan, words_in, then_next};
 
 use crate::call::{Change, End, Follow, Gets, Job, Known, Sent, Then, Waiting, Writes};
 use bus::clock;
@@ -69,7 +69,7 @@ fn wide(attempts: u16) -> u32
 
 // The SCR that the first two words make.
 fn scr_of(held: [u32; 16]) -> Scr
-    ensures { result.0 ≡ scrOf (get_or held 0 0) (get_or held 1 0) }
+    ensures { result.0 ≡ scr_of (get_or held 0 0) (get_or held 1 0) }
 {
     words::scr_value(held[0], held[1])
 }
@@ -109,7 +109,7 @@ impl Known {
 impl Job {
     // So many attempts to power up.
     fn powers(self, known: Known, left: u32) -> Follow
-        ensures { (ws : Lent) (h : Line) → next (followPlan self known ws result) h ≡ next (powering self known.version2 left) h }
+        ensures { (ws : Lent) (h : Line) → next (follow_plan self known ws result) h ≡ next (powering self known.version2 left) h }
     {
         if left == 0 {
             return Follow::Refuses(Why::Failed(Error::SoftwareTimeout));
@@ -120,7 +120,7 @@ impl Job {
 
     // The card's version is known: all attempts to power up.
     fn versions(self, known: Known, version2: bool) -> Then
-        ensures { (ws : Lent) (h : Line) → thenNext self ws result h ≡ next (plug (begun self.host (initialOf self.asked) (frequencyOf self.asked)) (give version2)) h }
+        ensures { (ws : Lent) (h : Line) → then_next self ws result h ≡ next (plug (begun self.host (initial_of self.asked) (frequency_of self.asked)) (give version2)) h }
     {
         let mut found = known;
         found.version2 = version2;
@@ -130,7 +130,7 @@ impl Job {
 
     // The answer to CMD8.
     fn versioned(self, known: Known, words: Words) -> Then
-        ensures { (ws : Lent) (h : Line) → thenNext self ws result h ≡ next (plug (sentSite self known Sent.Cmd8) (give (list_of words))) h }
+        ensures { (ws : Lent) (h : Line) → then_next self ws result h ≡ next (plug (sent_site self known Sent.Cmd8) (give (list_of words))) h }
     {
         let word = words.a;
         if word == Interface::CONDITION {
@@ -145,7 +145,7 @@ impl Job {
 
     // The answer to CMD55: ACMD41.
     fn power_told(self, known: Known, left: u32, words: Words) -> Follow
-        ensures { (ws : Lent) (h : Line) → next (followPlan self known ws result) h ≡ next (plug (sentSite self known (Sent.Power55 left)) (give (list_of words))) h }
+        ensures { (ws : Lent) (h : Line) → next (follow_plan self known ws result) h ≡ next (plug (sent_site self known (Sent.Power55 left)) (give (list_of words))) h }
     {
         if words.a & CardStatus::APP_CMD == 0 {
             return Follow::Refuses(Why::Failed(Error::UnsupportedCardType(Field::AppCommand)));
@@ -156,7 +156,7 @@ impl Job {
 
     // The answer to ACMD41: the card's OCR.
     fn power_known(self, known: Known, left: u32, words: Words) -> Then
-        ensures { (ws : Lent) (h : Line) → thenNext self ws result h ≡ next (plug (sentSite self known (Sent.Power41 left)) (give (list_of words))) h }
+        ensures { (ws : Lent) (h : Line) → then_next self ws result h ≡ next (plug (sent_site self known (Sent.Power41 left)) (give (list_of words))) h }
     {
         let ocr = words.a;
         if ocr & Ocr::VOLTAGE == 0 {
@@ -174,7 +174,7 @@ impl Job {
 
     // The answer to CMD2: the card's CID.
     fn named(self, known: Known, words: Words) -> Then
-        ensures { (ws : Lent) (h : Line) → thenNext self ws result h ≡ next (plug (sentSite self known Sent.Cmd2) (give (list_of words))) h }
+        ensures { (ws : Lent) (h : Line) → then_next self ws result h ≡ next (plug (sent_site self known Sent.Cmd2) (give (list_of words))) h }
     {
         let mut found = known;
         found.cid = words;
@@ -183,7 +183,7 @@ impl Job {
 
     // The answer to CMD3: the card's address.
     fn addressed(self, known: Known, words: Words) -> Then
-        ensures { (ws : Lent) (h : Line) → thenNext self ws result h ≡ next (plug (sentSite self known Sent.Cmd3) (give (list_of words))) h }
+        ensures { (ws : Lent) (h : Line) → then_next self ws result h ≡ next (plug (sent_site self known Sent.Cmd3) (give (list_of words))) h }
     {
         let rca = identify::address(words.a);
         if rca == 0 {
@@ -196,7 +196,7 @@ impl Job {
 
     // The answer to CMD9: the card's CSD.
     fn described(self, known: Known, words: Words) -> Then
-        ensures { (ws : Lent) (h : Line) → thenNext self ws result h ≡ next (plug (sentSite self known Sent.Cmd9) (give (list_of words))) h }
+        ensures { (ws : Lent) (h : Line) → then_next self ws result h ≡ next (plug (sent_site self known Sent.Cmd9) (give (list_of words))) h }
     {
         let told = words::response_value(words.list());
         if identify::agree(known.ocr, told) {
@@ -222,7 +222,7 @@ impl Job {
 
     // The answer to CMD55: the SCR.
     fn scr_told(self, known: Known, words: Words) -> Follow
-        ensures { (ws : Lent) (h : Line) → next (followPlan self known ws result) h ≡ next (plug (sentSite self known Sent.Scr55) (give (list_of words))) h }
+        ensures { (ws : Lent) (h : Line) → next (follow_plan self known ws result) h ≡ next (plug (sent_site self known Sent.Scr55) (give (list_of words))) h }
     {
         if words.a & CardStatus::APP_CMD == 0 {
             return Follow::Refuses(Why::Failed(Error::UnsupportedCardType(Field::AppCommand)));
@@ -232,7 +232,7 @@ impl Job {
 
     // The answer to CMD55: ACMD6.
     fn width_told(self, known: Known, words: Words) -> Follow
-        ensures { (ws : Lent) (h : Line) → next (followPlan self known ws result) h ≡ next (plug (sentSite self known Sent.Width55) (give (list_of words))) h }
+        ensures { (ws : Lent) (h : Line) → next (follow_plan self known ws result) h ≡ next (plug (sent_site self known Sent.Width55) (give (list_of words))) h }
     {
         if words.a & CardStatus::APP_CMD == 0 {
             return Follow::Refuses(Why::Failed(Error::UnsupportedCardType(Field::AppCommand)));
@@ -243,7 +243,7 @@ impl Job {
 
     // The setting for a clock of at most this.
     fn clocks(self, requested: u32) -> ClockAnswer
-        ensures { result ≡ clockOf self.host.settings.source.0 requested self.host.settings.config.allow_clock_bypass }
+        ensures { result ≡ clock_of self.host.settings.source.0 requested self.host.settings.config.allow_clock_bypass }
     {
         let settings = self.host.settings;
         let source = settings.source;
@@ -253,7 +253,7 @@ impl Job {
 
     // A transfer clock of at most this.
     fn transfers_at(self, known: Known, requested: u32) -> Then
-        ensures { (ws : Lent) (h : Line) → thenNext self ws result h ≡ next (plug (clockSet self.host (initialOf self.asked) (frequencyOf self.asked) (cardBy known) known.scr) (setClock self.host.settings requested)) h }
+        ensures { (ws : Lent) (h : Line) → then_next self ws result h ≡ next (plug (clock_set self.host (initial_of self.asked) (frequency_of self.asked) (card_by known) known.scr) (set_clock self.host.settings requested)) h }
     {
         let answer = self.clocks(requested);
         match answer {
@@ -268,7 +268,7 @@ impl Job {
 
     // The transfer clock: the least of what is asked for, 25 MHz and the card's rate.
     fn transfers(self, known: Known) -> Then
-        ensures { (ws : Lent) (h : Line) → thenNext self ws result h ≡ next (plug (widened self.host (initialOf self.asked) (frequencyOf self.asked) (cardBy known) known.scr) (give tt)) h }
+        ensures { (ws : Lent) (h : Line) → then_next self ws result h ≡ next (plug (widened self.host (initial_of self.asked) (frequency_of self.asked) (card_by known) known.scr) (give tt)) h }
     {
         let told = known.csd;
         let csd = words::response_value(told.list());
@@ -285,7 +285,7 @@ impl Job {
 
     // The clock of SDR25, of at most what is asked for and 50 MHz.
     fn speeds(self, known: Known) -> Then
-        ensures { (ws : Lent) (h : Line) → thenNext self ws result h ≡ next (plug (switchDelay self.host (initialOf self.asked) (frequencyOf self.asked) (cardBy known) known.scr) (give tt)) h }
+        ensures { (ws : Lent) (h : Line) → then_next self ws result h ≡ next (plug (switch_delay self.host (initial_of self.asked) (frequency_of self.asked) (card_by known) known.scr) (give tt)) h }
     {
         let asked = self.asked;
         let answer = self.clocks(speed::lesser(asked.frequency(), Switch::SDR25));
@@ -301,7 +301,7 @@ impl Job {
 
     // The list of what follows each command of an initialisation.
     pub fn came(self, known: Known, sent: Sent, words: Words) -> Then
-        ensures { (ws : Lent) (h : Line) → thenNext self ws result h ≡ next (plug (sentSite self known sent) (give (list_of words))) h }
+        ensures { (ws : Lent) (h : Line) → then_next self ws result h ≡ next (plug (sent_site self known sent) (give (list_of words))) h }
     {
         match sent {
             Sent::Cmd0 => known.and(Follow::Sends(
@@ -326,7 +326,7 @@ impl Job {
 
     // A command of an initialisation failed: only CMD8 forgives, and Timeout alone.
     pub fn failed(self, known: Known, sent: Sent, why: Why) -> Then
-        ensures { (ws : Lent) (h : Line) → thenNext self ws result h ≡ next (plug (sentSite self known sent) (refuse (causeOf why))) h }
+        ensures { (ws : Lent) (h : Line) → then_next self ws result h ≡ next (plug (sent_site self known sent) (refuse (cause_of why))) h }
     {
         if forgives(sent, why) {
             self.versions(known, false)
@@ -337,7 +337,7 @@ impl Job {
 
     // The SCR was read: ACMD6, where the card has the lines that are connected.
     fn scr_read(self, known: Known, held: [u32; 16]) -> Then
-        ensures { (ws : Lent) (h : Line) → thenNext self ws result h ≡ next (plug (getsSite self known Gets.Scr) (give (take 2 held))) h }
+        ensures { (ws : Lent) (h : Line) → then_next self ws result h ≡ next (plug (gets_site self known Gets.Scr) (give (take 2 held))) h }
     {
         let scr = scr_of(held);
         if speed::fits(scr, self.host.settings.wide) {
@@ -351,7 +351,7 @@ impl Job {
 
     // A switch status was read: the switch, where the card has SDR25.
     fn checked(self, known: Known, held: [u32; 16]) -> Follow
-        ensures { (ws : Lent) (h : Line) → next (followPlan self known ws result) h ≡ next (plug (getsSite self known Gets.Check) (give (take 16 held))) h }
+        ensures { (ws : Lent) (h : Line) → next (follow_plan self known ws result) h ≡ next (plug (gets_site self known Gets.Check) (give (take 16 held))) h }
     {
         if offers(held) {
             Follow::Gets(Gets::Switch)
@@ -362,7 +362,7 @@ impl Job {
 
     // The switch status after the switch was read: 8 cycles of the clock that is still set.
     fn switched(self, known: Known, held: [u32; 16], clock: Hertz) -> Follow
-        ensures { (ws : Lent) (h : Line) → h.clock ≡ clock → next (followPlan self known ws result) h ≡ next (plug (getsSite self known Gets.Switch) (give (take 16 held))) h }
+        ensures { (ws : Lent) (h : Line) → h.clock ≡ clock → next (follow_plan self known ws result) h ≡ next (plug (gets_site self known Gets.Switch) (give (take 16 held))) h }
     {
         if took(held) {
             let answer = clock::delay(self.host.settings.source, clock, 8);
@@ -377,7 +377,7 @@ impl Job {
 
     // The list of what follows each data phase, of which the call keeps these words.
     pub fn got(self, known: Known, held: [u32; 16], gets: Gets, clock: Hertz) -> Then
-        ensures { (g : Lent) (h : Line) → h.clock ≡ clock → thenNext self (words_in self Gets.Asked held g) result h ≡ next (plug (getsSite self known gets) (give (all_of (phaseOf self.asked gets) (words_in self gets held g)))) h }
+        ensures { (g : Lent) (h : Line) → h.clock ≡ clock → then_next self (words_in self Gets.Asked held g) result h ≡ next (plug (gets_site self known gets) (give (all_of (phase_of self.asked gets) (words_in self gets held g)))) h }
     {
         match gets {
             Gets::Asked => known.and(Follow::Over(End::Accepted)),
@@ -389,7 +389,7 @@ impl Job {
 
     // A data phase was refused, behind its own reset rows: an initialisation's guard writes them once more.
     pub fn lost(self, known: Known, gets: Gets, why: Why) -> Follow
-        ensures { (ws : Lent) (h : Line) → next (followPlan self known ws result) h ≡ next (plug (getsSite self known gets) (refuse (causeOf why))) h }
+        ensures { (ws : Lent) (h : Line) → next (follow_plan self known ws result) h ≡ next (plug (gets_site self known gets) (refuse (cause_of why))) h }
     {
         match gets {
             Gets::Asked => Follow::Over(End::Dropping(why)),
@@ -401,7 +401,7 @@ impl Job {
 
     // The clock is on: 80 cycles of it.
     fn opens(self, known: Known) -> Follow
-        ensures { (ws : Lent) (h : Line) → next (followPlan self known ws result) h ≡ next (plug (opened self.host (initialOf self.asked) (frequencyOf self.asked)) (give tt)) h }
+        ensures { (ws : Lent) (h : Line) → next (follow_plan self known ws result) h ≡ next (plug (opened self.host (initial_of self.asked) (frequency_of self.asked)) (give tt)) h }
     {
         let asked = self.asked;
         let initial = asked.initial();
@@ -414,7 +414,7 @@ impl Job {
 
     // A clock is set: power after the initial one; SDR25 after the transfer clock, where it is asked for and the card has it.
     fn clocked(self, known: Known, change: Change) -> Follow
-        ensures { (ws : Lent) (h : Line) → next (followPlan self known ws result) (lineSet known (Writes.Clock change) h) ≡ next (toldPlan self known (Writes.Clock change)) h }
+        ensures { (ws : Lent) (h : Line) → next (follow_plan self known ws result) (line_set known (Writes.Clock change) h) ≡ next (told_plan self known (Writes.Clock change)) h }
     {
         match change {
             Change::Initial => Follow::Tells(Writes::Power),
@@ -432,7 +432,7 @@ impl Job {
 
     // The list of what follows each row of an initialisation.
     pub fn gone(self, known: Known, writes: Writes) -> Then
-        ensures { (ws : Lent) (h : Line) → thenNext self ws result (lineSet known writes h) ≡ next (toldPlan self known writes) h }
+        ensures { (ws : Lent) (h : Line) → then_next self ws result (line_set known writes h) ≡ next (told_plan self known writes) h }
     {
         match writes {
             Writes::Reset(reset) => known.and(reset_on(reset.after())),
@@ -449,7 +449,7 @@ impl Job {
 
 // After a row of the first reset: the next one, or the idle wait.
 fn reset_on(step: ResetStep) -> Follow
-    ensures { result ≡ resetOn step }
+    ensures { result ≡ reset_on step }
 {
     match step {
         ResetStep::At(reset) => Follow::Tells(Writes::Reset(reset)),
@@ -459,7 +459,7 @@ fn reset_on(step: ResetStep) -> Follow
 
 // After a row of the guard's reset: the next one, or the end.
 fn close_on(step: ResetStep, why: Why) -> Follow
-    ensures { result ≡ closeOn step why }
+    ensures { result ≡ close_on step why }
 {
     match step {
         ResetStep::At(reset) => Follow::Tells(Writes::Close(reset, why)),

@@ -3,14 +3,14 @@ ghost use Rattle.std.specs.Prelude.{◌≡◌, List, ℕ, suc};
 ghost use Rattle.tape.specs.declared.progress.Line.{Line};
 ghost use Rattle.tape.specs.Plan.{give, refuse};
 ghost use Rattle.bus.specs.Command.{command};
-ghost use Rattle.bus.specs.Ready.{waitReady};
-ghost use Rattle.step.specs.Command.{commandNext, list_of};
-ghost use Rattle.step.specs.Context.{plug, plugNext};
+ghost use Rattle.bus.specs.Ready.{wait_ready};
+ghost use Rattle.step.specs.Command.{command_next, list_of};
+ghost use Rattle.step.specs.Context.{plug, plug_next};
 ghost use Rattle.step.specs.Next.{next, heard, Lent};
-ghost use Rattle.step.specs.Ready.{readyNext};
-ghost use Rattle.step.specs.Transfer.{phasePlan, dataNext};
-ghost use Rattle.step.specs.Why.{causeOf};
-ghost use Rattle.stepping.specs.Ahead.{phaseOf, limitAt, busWith, refusal, words_in, rcaOf, waitRca, sentSite, siteOf, waitSite, getsSite, idling, followPlan, atPlan, thenNext, standNext};
+ghost use Rattle.step.specs.Ready.{ready_next};
+ghost use Rattle.step.specs.Transfer.{phase_plan, data_next};
+ghost use Rattle.step.specs.Why.{cause_of};
+ghost use Rattle.stepping.specs.Ahead.{phase_of, limit_at, bus_with, refusal, words_in, rca_of, wait_rca, sent_site, site_of, wait_site, gets_site, idling, follow_plan, at_plan, then_next, stand_next};
 
 use crate::call::{
     At, Change, End, Follow, Gets, Job, Known, Sent, Site, Stand, Then, Waiting, Writes,
@@ -31,7 +31,7 @@ use types::status::CardStatus;
 impl Job {
     // The card is ready.
     fn readied(self, known: Known, waiting: Waiting) -> Follow
-        ensures { (ws : Lent) (h : Line) → next (followPlan self known ws result) h ≡ next (plug (waitSite self known ws.sent waiting) (give tt)) h }
+        ensures { (ws : Lent) (h : Line) → next (follow_plan self known ws result) h ≡ next (plug (wait_site self known ws.sent waiting) (give tt)) h }
     {
         match waiting {
             Waiting::Blocks => Follow::Gets(Gets::Asked),
@@ -47,7 +47,7 @@ impl Job {
 
     // The card is not ready.
     fn unready(self, known: Known, waiting: Waiting, why: Why) -> Follow
-        ensures { (ws : Lent) (h : Line) → next (followPlan self known ws result) h ≡ next (plug (waitSite self known ws.sent waiting) (refuse (causeOf why))) h }
+        ensures { (ws : Lent) (h : Line) → next (follow_plan self known ws result) h ≡ next (plug (wait_site self known ws.sent waiting) (refuse (cause_of why))) h }
     {
         match waiting {
             Waiting::Blocks => Follow::Over(End::Keeping(why)),
@@ -57,7 +57,7 @@ impl Job {
 
     // A command came back: the SD status follows a status call's CMD55.
     fn answered(self, known: Known, site: Site, words: Words) -> Then
-        ensures { (ws : Lent) (h : Line) → thenNext self ws result h ≡ next (plug (siteOf self known ws.sent site) (give (list_of words))) h }
+        ensures { (ws : Lent) (h : Line) → then_next self ws result h ≡ next (plug (site_of self known ws.sent site) (give (list_of words))) h }
     {
         match site {
             Site::App => {
@@ -75,7 +75,7 @@ impl Job {
 
     // A command failed.
     fn refused(self, known: Known, site: Site, why: Why) -> Then
-        ensures { (ws : Lent) (h : Line) → thenNext self ws result h ≡ next (plug (siteOf self known ws.sent site) (refuse (causeOf why))) h }
+        ensures { (ws : Lent) (h : Line) → then_next self ws result h ≡ next (plug (site_of self known ws.sent site) (refuse (cause_of why))) h }
     {
         match site {
             Site::App => known.and(Follow::Over(End::Keeping(why))),
@@ -85,7 +85,7 @@ impl Job {
 
     // A refusal: the reset rows of the guard come first.
     pub fn closes(self, known: Known, why: Why) -> At
-        ensures { (held : List ℕ) (g : Lent) (h : Line) → next (atPlan self known held g result) h ≡ next (refusal self why) h }
+        ensures { (held : List ℕ) (g : Lent) (h : Line) → next (at_plan self known held g result) h ≡ next (refusal self why) h }
     {
         At::Tells(Writes::Close(Reset::Mask, why))
     }
@@ -100,7 +100,7 @@ impl Job {
         argument: u32,
         response: Response,
     ) -> At
-        ensures { (held : List ℕ) (g : Lent) (h : Line) → h.gated ≡ gated → next (atPlan self known held g result) h ≡ next (plug (sentSite self known sent) (command (limitAt self) index argument response)) h }
+        ensures { (held : List ℕ) (g : Lent) (h : Line) → h.gated ≡ gated → next (at_plan self known held g result) h ≡ next (plug (sent_site self known sent) (command (limit_at self) index argument response)) h }
     {
         let limit = self.host.settings.config.poll_limit;
         let begun = Command::begin(limit, index, argument, response, gated);
@@ -112,7 +112,7 @@ impl Job {
 
     // A ready wait at its start.
     pub fn waits(self, known: Known, gated: bool, waiting: Waiting) -> At
-        ensures { (held : List ℕ) (g : Lent) (h : Line) → h.gated ≡ gated → next (atPlan self known held g result) h ≡ next (plug (waitSite self known g.sent waiting) (waitReady self.host.settings.source.0 self.host.settings.config (waitRca self known waiting))) h }
+        ensures { (held : List ℕ) (g : Lent) (h : Line) → h.gated ≡ gated → next (at_plan self known held g result) h ≡ next (plug (wait_site self known g.sent waiting) (wait_ready self.host.settings.source.0 self.host.settings.config (wait_rca self known waiting))) h }
     {
         let bus = self.bus(self.wait_rca(known, waiting));
         let begun = bus.wait_ready(gated);
@@ -127,7 +127,7 @@ impl Job {
 
     // An idle wait before a clock row, with so many polls.
     fn idles(self, known: Known, change: Change, polls: u32) -> At
-        ensures { (held : List ℕ) (g : Lent) (h : Line) → next (atPlan self known held g result) h ≡ next (idling self known change polls) h }
+        ensures { (held : List ℕ) (g : Lent) (h : Line) → next (at_plan self known held g result) h ≡ next (idling self known change polls) h }
     {
         if polls == 0 {
             return self.closes(known, Why::Failed(Error::SoftwareTimeout));
@@ -138,7 +138,7 @@ impl Job {
 
     // A data phase at its start.
     fn gets(self, known: Known, gets: Gets) -> At
-        ensures { (held : List ℕ) (g : Lent) (h : Line) → next (atPlan self known held g result) h ≡ next (plug (getsSite self known gets) (phasePlan (busWith self (rcaOf self known gets)) (phaseOf self.asked gets) g.sent)) h }
+        ensures { (held : List ℕ) (g : Lent) (h : Line) → next (at_plan self known held g result) h ≡ next (plug (gets_site self known gets) (phase_plan (bus_with self (rca_of self known gets)) (phase_of self.asked gets) g.sent)) h }
     {
         let asked = self.asked;
         let phase = asked.phase(gets);
@@ -148,7 +148,7 @@ impl Job {
 
     // Where a call stands, by what follows.
     fn stands(self, known: Known, gated: bool, follow: Follow) -> At
-        ensures { (held : List ℕ) (g : Lent) (h : Line) → h.gated ≡ gated → next (atPlan self known held g result) h ≡ next (followPlan self known (words_in self Gets.Asked held g) follow) h }
+        ensures { (held : List ℕ) (g : Lent) (h : Line) → h.gated ≡ gated → next (at_plan self known held g result) h ≡ next (follow_plan self known (words_in self Gets.Asked held g) follow) h }
     {
         match follow {
             Follow::Sends(sent, index, argument, response) => self.sends(
@@ -169,7 +169,7 @@ impl Job {
 
     // The same, with what is known by then.
     pub fn follows(self, gated: bool, after: Then) -> Stand
-        ensures { (held : List ℕ) (g : Lent) (h : Line) → h.gated ≡ gated → standNext self held g result h ≡ thenNext self (words_in self Gets.Asked held g) after h }
+        ensures { (held : List ℕ) (g : Lent) (h : Line) → h.gated ≡ gated → stand_next self held g result h ≡ then_next self (words_in self Gets.Asked held g) after h }
     {
         let known = after.known;
         let follow = after.follow;
@@ -181,7 +181,7 @@ impl Job {
 
     // A command after an answer.
     pub fn commanded(self, known: Known, gated: bool, site: Site, step: CommandStep) -> Stand
-        ensures { (held : List ℕ) (g : Lent) (h : Line) → h.gated ≡ gated → standNext self held g result h ≡ plugNext (siteOf self known g.sent site) (commandNext step h) }
+        ensures { (held : List ℕ) (g : Lent) (h : Line) → h.gated ≡ gated → stand_next self held g result h ≡ plug_next (site_of self known g.sent site) (command_next step h) }
     {
         match step {
             CommandStep::On(command) => known.at(At::Command(site, command)),
@@ -194,7 +194,7 @@ impl Job {
 
     // A ready wait after an answer.
     pub fn waited(self, known: Known, gated: bool, waiting: Waiting, step: ReadyStep) -> Stand
-        ensures { (held : List ℕ) (g : Lent) (h : Line) → h.gated ≡ gated → standNext self held g result h ≡ plugNext (waitSite self known g.sent waiting) (readyNext (busWith self (waitRca self known waiting)) step h) }
+        ensures { (held : List ℕ) (g : Lent) (h : Line) → h.gated ≡ gated → stand_next self held g result h ≡ plug_next (wait_site self known g.sent waiting) (ready_next (bus_with self (wait_rca self known waiting)) step h) }
     {
         match step {
             ReadyStep::On(ready) => known.at(At::Ready(waiting, ready)),
@@ -216,7 +216,7 @@ impl Job {
         gets: Gets,
         step: DataStep,
     ) -> Stand
-        ensures { (g : Lent) → standNext self held g result line ≡ plugNext (getsSite self known gets) (dataNext (busWith self (rcaOf self known gets)) (phaseOf self.asked gets) (words_in self gets held g) step line) }
+        ensures { (g : Lent) → stand_next self held g result line ≡ plug_next (gets_site self known gets) (data_next (bus_with self (rca_of self known gets)) (phase_of self.asked gets) (words_in self gets held g) step line) }
     {
         let clock = line.clock;
         match step {
@@ -232,7 +232,7 @@ impl Job {
 
     // After a status word of an idle wait: the clock's row once nothing is under way.
     pub fn idled(self, known: Known, change: Change, more: u32, word: u32) -> Stand
-        ensures { (held : List ℕ) (g : Lent) (h : Line) → standNext self held g result h ≡ heard (next (idling self known change (suc more)) h) word }
+        ensures { (held : List ℕ) (g : Lent) (h : Line) → stand_next self held g result h ≡ heard (next (idling self known change (suc more)) h) word }
     {
         if word & Sta::BUSY == 0 {
             known.at(At::Tells(Writes::Clock(change)))

@@ -29,8 +29,8 @@ module _ {n : ℕ} {rest s : List ℕ} (part : Behind n rest s) where
     pub at-used : get_or s u 0 ≡ get_or rest (u - n) 0
     at-used = sym (ap (λ (k : ℕ). get_or s k 0) place) ∙ at_place (u - n)
 
-    pub in-used : u - n < length rest → u < length s
-    in-used e = omega (arith, h, e, long)
+    pub in_used : u - n < length rest → u < length s
+    in_used e = omega (arith, h, e, long)
 
     pub past-used : length rest ≤ u - n → length s ≤ u
     past-used e = omega (arith, h, e, long)

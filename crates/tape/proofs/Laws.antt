@@ -17,14 +17,14 @@ use Rattle.tape.specs.declared.progress.Progress.{Progress}
 use Rattle.tape.specs.declared.rows.Row.{Row}
 use Rattle.tape.specs.Plan.{Nothing, Cause, failed, ended, Plan, give, refuse, read, write, look, hold, handle, ◌then◌}
 use Rattle.tape.specs.Plan.{refusing, guard}
-use Rattle.tape.specs.Run.{State, at, After, stopped, noted, haltOf, kept_at, overAt, run, run_from, doesAt, does, next_at, next}
+use Rattle.tape.specs.Run.{State, at, After, stopped, noted, halt_of, kept_at, over_at, run, run_from, does_at, does, next_at, next}
 use Rattle.tape.specs.Run.{Behind, Gave, Did, Settled}
 use Rattle.tape.proofs.Behind.{some-script}
 
 -- a test before a function is a test inside it
-by-test : {X Y : Type 0} (g : X → Y) (b : Bool) {x y : X} {z z' : Y} → z ≡ g x → z' ≡ g y → cond b z z' ≡ g (cond b x y)
-by-test g true e e' = e
-by-test g false e e' = e'
+by_test : {X Y : Type 0} (g : X → Y) (b : Bool) {x y : X} {z z' : Y} → z ≡ g x → z' ≡ g y → cond b z z' ≡ g (cond b x y)
+by_test g true e e' = e
+by_test g false e e' = e'
 
 pub by_cases : {X : Type 0} (P : X → Type 0) (b : Bool) (x y : X) → P x → P y → P (cond b x y)
 by_cases P true x y e e' = e
@@ -39,10 +39,10 @@ module _ (s : List ℕ) where
   run-handle d d' f g (refuse (failed e)) u n h l = refl
   run-handle d d' f g (refuse ended) u n h l = refl
   run-handle {A} {B} d d' f g (read r k z) u n h l =
-      by-test (λ (x : After A). next s d' f g x.value x.state) (ltb u (length s))
+      by_test (λ (x : After A). next s d' f g x.value x.state) (ltb u (length s))
       (run-handle d d' f g (k (get_or s u 0)) (u + 1) n h l) (run-handle d d' f g z u n h l)
   run-handle {A} {B} d d' f g (write r p) u n h l =
-      by-test (λ (x : After A). next s d' f g x.value x.state) (ltb n (length l))
+      by_test (λ (x : After A). next s d' f g x.value x.state) (ltb n (length l))
       (run-handle d d' f g p u (n + 1) (noted r h) (set l n r)) refl
   run-handle d d' f g (look k) u n h l = run-handle d d' f g (k h) u n h l
   run-handle d d' f g (hold h' p) u n h l = run-handle d d' f g p u n h' l
@@ -99,18 +99,18 @@ pub from-going : {s : List ℕ} {A : Type 0} {d : A} {p : Plan A} {w : State} {v
     → w.progress.pace ≡ Going
     → record { value = v; state = w' } ≡ run_from s d p w
     → Gave s A d p w v w'
-unfolding doesAt
+unfolding does_at
 from-going g e = record { same = rw g e }
 
 -- from a call that has stopped: it is handed back
 pub from-stopped : {s : List ℕ} {A : Type 0} {d : A} {p : Plan A} {w : State} {x : Halt}
     → w.progress.pace ≡ Stopped x → Gave s A d p w d w
-unfolding doesAt
+unfolding does_at
 from-stopped g = record { same = rw g }
 
 -- the plan that does nothing, and gives what is given where a call has stopped
 pub stay : {s : List ℕ} {A : Type 0} {d : A} {w : State} → Gave s A d (give d) w d w
-unfolding doesAt run
+unfolding does_at run
 stay {s} {A} {d} {w} = record { same = by w.progress.pace refl }
   where
     by : (q : Pace) → w.progress.pace ≡ q → record { value = d; state = w } ≡ does s d (give d) w
@@ -119,32 +119,32 @@ stay {s} {A} {d} {w} = record { same = by w.progress.pace refl }
 
 -- a refusal does the same whatever would have been given
 pub refusal : {s : List ℕ} {A : Type 0} {d : A} {c : Cause} {w w' : State} → Did s (refuse c) w w' → Gave s A d (refuse c) w d w'
-unfolding doesAt run
+unfolding does_at run
 refusal {s} {A} {d} {c} {w} {w'} e =
     record { same = ap (λ (y : After Nothing). record { value = d; state = y.state }) e.same ∙ by w.progress.pace }
   where
     by : (q : Pace) → ◌≡◌ {A = After A}
-        (record { value = d; state = (doesAt s (tt {0}) q (refuse c) w).state })
-        (doesAt s d q (refuse c) w)
+        (record { value = d; state = (does_at s (tt {0}) q (refuse c) w).state })
+        (does_at s d q (refuse c) w)
     by Going = refl
     by (Stopped y) = refl
 
 -- words are only ever taken
 pub grows : {s : List ℕ} {A : Type 0} {d : A} {p : Plan A} {w : State} {v : A} {w' : State}
     → Gave s A d p w v w' → w.progress.used ≤ w'.progress.used
-unfolding doesAt
+unfolding does_at
 grows {s} {A} {d} {p} {w} {v} {w'} e = rw (ap (λ (x : After A). x.state.progress.used) e.same) (by w.progress.pace)
   where
-    by : (q : Pace) → w.progress.used ≤ (doesAt s d q p w).state.progress.used
+    by : (q : Pace) → w.progress.used ≤ (does_at s d q p w).state.progress.used
     by Going = run-grows s d p w.progress.used w.progress.rows w.progress.line w.list
     by (Stopped x) = omega arith
 
 -- a step that reads no word says what it does on every script: on the one with no word it takes none
 pub dry : {A : Type 0} {d : A} {p : Plan A} {w : State} {v : A} {w' : State} → Gave [] A d p w v w' → w'.progress.used ≡ w.progress.used
-unfolding doesAt
+unfolding does_at
 dry {A} {d} {p} {w} {v} {w'} e = ap (λ (x : After A). x.state.progress.used) e.same ∙ by w.progress.pace
   where
-    by : (q : Pace) → (doesAt [] d q p w).state.progress.used ≡ w.progress.used
+    by : (q : Pace) → (does_at [] d q p w).state.progress.used ≡ w.progress.used
     by Going = run_out [] d p w.progress.used w.progress.rows w.progress.line w.list (omega arith)
     by (Stopped x) = refl
 
@@ -152,8 +152,8 @@ dry {A} {d} {p} {w} {v} {w'} e = ap (λ (x : After A). x.state.progress.used) e.
 pub still-going : {p r : Progress} → p.pace ≡ Going → r ≡ record { pace = Going; used = p.used; rows = p.rows; line = p.line } → r ≡ p
 still-going {p} going e = e ∙ ap (λ (x : Pace). record { pace = x; used = p.used; rows = p.rows; line = p.line }) (sym going)
 
-pub not-over : (a : Pace) (b : Bool) → overAt a b ≡ false → a ≡ Going
-unfolding overAt
+pub not-over : (a : Pace) (b : Bool) → over_at a b ≡ false → a ≡ Going
+unfolding over_at
 not-over Going b e = refl
 not-over (Stopped x) b e = cc
 
@@ -165,32 +165,32 @@ read-on {n} {r} e = some-script n r (λ s part. grows (e s [] part))
 -- what it gives where it stopped
 pub kept : {s : List ℕ} {A : Type 0} {d : A} {p : Plan A} {w : State} {v : A} {w' : State}
     → Gave s A d p w v w' → v ≡ kept_at d v w'.progress.pace
-unfolding doesAt kept_at
+unfolding does_at kept_at
 kept {s} {A} {d} {p} {w} {v} {w'} e = rw (← e.same) at (by w.progress.pace)
   where
-    by : (q : Pace) → Kept s d (doesAt s d q p w)
+    by : (q : Pace) → Kept s d (does_at s d q p w)
     by Going = run-kept s d p w.progress.used w.progress.rows w.progress.line w.list
     by (Stopped x) = refl
 
 -- Two steps.
 
-does-then : (s : List ℕ) {A B : Type 0} (d : A) (d' : B) (p : Plan A) (f : A → Plan B) (w : State)
+does_then : (s : List ℕ) {A B : Type 0} (d : A) (d' : B) (p : Plan A) (f : A → Plan B) (w : State)
     → does s d' (p then f) w ≡ does s d' (f (does s d p w).value) (does s d p w).state
-unfolding doesAt next_at run
-does-then s {A} {B} d d' p f w = by w.progress.pace
+unfolding does_at next_at run
+does_then s {A} {B} d d' p f w = by w.progress.pace
   where
     on : (x : After A) (q : Pace)
         → next_at s d' f refuse x.value q x.state
-        ≡ doesAt s d' q (f x.value) x.state
+        ≡ does_at s d' q (f x.value) x.state
     on x Going = refl
     on x (Stopped (Refused e)) = refl
     on x (Stopped ScriptEnded) = refl
     on x (Stopped TraceFull) = refl
 
     by : (q : Pace)
-        → doesAt s d' q (p then f) w
-        ≡ does s d' (f (doesAt s d q p w).value)
-        (doesAt s d q p w).state
+        → does_at s d' q (p then f) w
+        ≡ does s d' (f (does_at s d q p w).value)
+        (does_at s d q p w).state
     by Going =
         let x = run_from s d p w in
         run-handle s d d' f refuse p w.progress.used w.progress.rows w.progress.line w.list
@@ -201,7 +201,7 @@ does-then s {A} {B} d d' p f w = by w.progress.pace
 pub bind : {s : List ℕ} {A B : Type 0} {d : A} {d' : B} {p : Plan A} (f : A → Plan B) {w w' w'' : State} {v : A} {v' : B}
     → Gave s A d p w v w' → Gave s B d' (f v) w' v' w'' → Gave s B d' (p then f) w v' w''
 bind {s} {A} {B} {d} {d'} {p} f {w} {w'} {w''} {v} {v'} e g =
-    record { same = g.same ∙ ap (λ (x : After A). does s d' (f x.value) x.state) e.same ∙ sym (does-then s d d' p f w) }
+    record { same = g.same ∙ ap (λ (x : After A). does s d' (f x.value) x.state) e.same ∙ sym (does_then s d d' p f w) }
 
 -- a step that gives nothing, and then the next
 pub seq : {s : List ℕ} {B : Type 0} {d : B} {p : Plan Nothing} {q : Plan B} {w w' w'' : State} {v : B}
@@ -216,7 +216,7 @@ forget e = bind (λ _. give tt) e stay
 -- a step, and a part of what it gives
 pub mapped : {s : List ℕ} {A B : Type 0} (f : A → B) {d : A} {p : Plan A} {w w' : State} {v : A}
     → Gave s A d p w v w' → Gave s B (f d) (p then λ v. give (f v)) w (f v) w'
-unfolding doesAt run kept_at
+unfolding does_at run kept_at
 mapped {s} {A} {B} f {d} {p} {w} {w'} {v} e = bind (λ v. give (f v)) e (by w'.progress.pace refl)
   where
     by : (q : Pace) → w'.progress.pace ≡ q → Gave s B (f d) (give (f v)) w' (f v) w'
@@ -224,21 +224,21 @@ mapped {s} {A} {B} f {d} {p} {w} {w'} {v} e = bind (λ v. give (f v)) e (by w'.p
     by (Stopped x) g = rw (rw g at (kept e)) (from-stopped g)
 
 -- a step that goes by a test
-pub on-true : {s : List ℕ} {A : Type 0} {d : A} {p : Plan A} (q : Plan A) {b : Bool} {w w' : State} {v : A}
+pub on_true : {s : List ℕ} {A : Type 0} {d : A} {p : Plan A} (q : Plan A) {b : Bool} {w w' : State} {v : A}
     → b ≡ true → Gave s A d p w v w' → Gave s A d (cond b p q) w v w'
-on-true q t e = rw t e
+on_true q t e = rw t e
 
-pub on-false : {s : List ℕ} {A : Type 0} {d : A} (p : Plan A) {q : Plan A} {b : Bool} {w w' : State} {v : A}
+pub on_false : {s : List ℕ} {A : Type 0} {d : A} (p : Plan A) {q : Plan A} {b : Bool} {w w' : State} {v : A}
     → b ≡ false → Gave s A d q w v w' → Gave s A d (cond b p q) w v w'
-on-false p t e = rw t e
+on_false p t e = rw t e
 
 -- a step that goes by what the host holds
 pub looking : {s : List ℕ} {A : Type 0} {d : A} (k : Line → Plan A) {w w' : State} {v : A}
     → Gave s A d (k w.progress.line) w v w' → Gave s A d (look k) w v w'
-unfolding doesAt run
+unfolding does_at run
 looking {s} {A} {d} k {w} {w'} {v} e = record { same = e.same ∙ by w.progress.pace }
   where
-    by : (q : Pace) → doesAt s d q (k w.progress.line) w ≡ doesAt s d q (look k) w
+    by : (q : Pace) → does_at s d q (k w.progress.line) w ≡ does_at s d q (look k) w
     by Going = refl
     by (Stopped x) = refl
 
@@ -250,12 +250,12 @@ resumed w = at (record { pace = Going; used = w.progress.used; rows = w.progress
 
 pub settled-value : {s : List ℕ} {A B : Type 0} {d : B} {f : A → Plan B} {g : Cause → Plan B} {v : A} {w : State} {v' : B} {w' : State}
     → w.progress.pace ≡ Going → Gave s B d (f v) w v' w' → Settled s A B d f g v w v' w'
-unfolding doesAt next_at
+unfolding does_at next_at
 settled-value {s} {A} {B} {d} {f} {g} {v} {w} {v'} {w'} q e = record { same = rw q (rw q at e.same) }
 
 pub settled-refusal : {s : List ℕ} {A B : Type 0} {d : B} {f : A → Plan B} {g : Cause → Plan B} {v : A} {w : State} {v' : B} {w' : State} (c : Cause)
-    → w.progress.pace ≡ Stopped (haltOf c) → Gave s B d (g c) (resumed w) v' w' → Settled s A B d f g v w v' w'
-unfolding doesAt next_at
+    → w.progress.pace ≡ Stopped (halt_of c) → Gave s B d (g c) (resumed w) v' w' → Settled s A B d f g v w v' w'
+unfolding does_at next_at
 settled-refusal (failed x) q e = record { same = rw q e.same }
 settled-refusal ended q e = record { same = rw q e.same }
 
@@ -267,7 +267,7 @@ settled-full q = record { same = rw q }
 -- a step of a call that was going, and what became of it
 pub handled : {s : List ℕ} {A B : Type 0} {d : A} {d' : B} {p : Plan A} (f : A → Plan B) (g : Cause → Plan B) {w w' w'' : State} {v : A} {v' : B}
     → w.progress.pace ≡ Going → Gave s A d p w v w' → Settled s A B d' f g v w' v' w'' → Gave s B d' (handle f g p) w v' w''
-unfolding doesAt
+unfolding does_at
 handled {s} {A} {B} {d} {d'} {p} f g {w} {w'} {w''} {v} {v'} q e h =
     from-going q
     (h.same

@@ -5,7 +5,7 @@ use mathlib.Core.List.{List, [], ◌∷◌}
 use native.Mathlib.Omega.{arith}
 use lib.ListN.{length, take, drop, set, length-map}
 use Rattle.tape.specs.declared.rows.Row.{Row}
-use Rattle.tape.specs.Layout.{word_of, row_of, words_of, rowsIn, pairsOf, rowsOfPairs}
+use Rattle.tape.specs.Layout.{word_of, row_of, words_of, rows_in, pairs_of, rows_of_pairs}
 
 -- a value of 32 bits lies below the register
 abbrev pub Fits : Row → Type 0
@@ -21,27 +21,27 @@ pub word_back : (w : ℕ) → word_of (row_of w) ≡ w
 word_back w = omega arith
 
 -- as many words as rows
-pub rows_long : (ws : List ℕ) → length (rowsIn ws) ≡ length ws
-unfolding rowsIn
+pub rows_long : (ws : List ℕ) → length (rows_in ws) ≡ length ws
+unfolding rows_in
 rows_long ws = length-map ws row_of
 
 -- a row stored
-pub row-stored : (ws : List ℕ) (n : ℕ) (r : Row) → Fits r → rowsIn (set ws n (word_of r)) ≡ set (rowsIn ws) n r
-unfolding rowsIn
+pub row-stored : (ws : List ℕ) (n : ℕ) (r : Row) → Fits r → rows_in (set ws n (word_of r)) ≡ set (rows_in ws) n r
+unfolding rows_in
 row-stored [] n r f = refl
-row-stored (w ∷ ws) zero r f = ap (λ (x : Row). x ∷ rowsIn ws) (row_back r f)
+row-stored (w ∷ ws) zero r f = ap (λ (x : Row). x ∷ rows_in ws) (row_back r f)
 row-stored (w ∷ ws) (suc n) r f = ap (λ (rs : List Row). row_of w ∷ rs) (row-stored ws n r f)
 
 -- The rows that words tell lie in those words: what is proved of rows is proved of words.
-pub words_back : (ws : List ℕ) → words_of (rowsIn ws) ≡ ws
-unfolding words_of rowsIn
+pub words_back : (ws : List ℕ) → words_of (rows_in ws) ≡ ws
+unfolding words_of rows_in
 words_back [] = refl
 words_back (w ∷ ws) = λ i. word_back w i ∷ words_back ws i
 
-pub words-told : {ws : List ℕ} {rs : List Row} → rowsIn ws ≡ rs → ws ≡ words_of rs
+pub words-told : {ws : List ℕ} {rs : List Row} → rows_in ws ≡ rs → ws ≡ words_of rs
 words-told {ws} e = sym (words_back ws) ∙ ap words_of e
 
-pub same-words : {ws vs : List ℕ} → rowsIn ws ≡ rowsIn vs → ws ≡ vs
+pub same-words : {ws vs : List ℕ} → rows_in ws ≡ rows_in vs → ws ≡ vs
 same-words {ws} {vs} e = words-told e ∙ words_back vs
 
 -- Words tell the rows that lie in them, whose values are of 32 bits.
@@ -49,51 +49,51 @@ unfoldable pub all_fit : List Row → Type 0
 all_fit [] = Unit {0}
 all_fit (r ∷ rs) = Fits r × all_fit rs
 
-pub rows_back : (rs : List Row) → all_fit rs → rowsIn (words_of rs) ≡ rs
-unfolding words_of rowsIn all_fit
+pub rows_back : (rs : List Row) → all_fit rs → rows_in (words_of rs) ≡ rs
+unfolding words_of rows_in all_fit
 rows_back [] f = refl
 rows_back (r ∷ rs) f = λ i. row_back r f.0 i ∷ rows_back rs f.1 i
 
 -- A list's first words, and those past them, from its rows.
-take-rows : (n : ℕ) (ws : List ℕ) → rowsIn (take n ws) ≡ take n (rowsIn ws)
-unfolding rowsIn
+take-rows : (n : ℕ) (ws : List ℕ) → rows_in (take n ws) ≡ take n (rows_in ws)
+unfolding rows_in
 take-rows zero ws = refl
 take-rows (suc n) [] = refl
 take-rows (suc n) (w ∷ ws) = ap (λ (rs : List Row). row_of w ∷ rs) (take-rows n ws)
 
-drop-rows : (n : ℕ) (ws : List ℕ) → rowsIn (drop n ws) ≡ drop n (rowsIn ws)
-unfolding rowsIn
+drop-rows : (n : ℕ) (ws : List ℕ) → rows_in (drop n ws) ≡ drop n (rows_in ws)
+unfolding rows_in
 drop-rows zero ws = refl
 drop-rows (suc n) [] = refl
 drop-rows (suc n) (w ∷ ws) = drop-rows n ws
 
-pub same_first : (ws vs : List ℕ) (n : ℕ) → take n (rowsIn ws) ≡ take n (rowsIn vs) → take n ws ≡ take n vs
+pub same_first : (ws vs : List ℕ) (n : ℕ) → take n (rows_in ws) ≡ take n (rows_in vs) → take n ws ≡ take n vs
 same_first ws vs n e = same-words (take-rows n ws ∙ e ∙ sym (take-rows n vs))
 
-pub same-past : (ws vs : List ℕ) (n : ℕ) → drop n (rowsIn ws) ≡ drop n (rowsIn vs) → drop n ws ≡ drop n vs
+pub same-past : (ws vs : List ℕ) (n : ℕ) → drop n (rows_in ws) ≡ drop n (rows_in vs) → drop n ws ≡ drop n vs
 same-past ws vs n e = same-words (drop-rows n ws ∙ e ∙ sym (drop-rows n vs))
 
 -- The old layout: the same, both ways.
-pub pair-rows-back : (rs : List Row) → rowsOfPairs (pairsOf rs) ≡ rs
-unfolding pairsOf rowsOfPairs
-pair-rows-back [] = refl
-pair-rows-back (r ∷ rs) = ap (λ (xs : List Row). r ∷ xs) (pair-rows-back rs)
+pub pair_rows_back : (rs : List Row) → rows_of_pairs (pairs_of rs) ≡ rs
+unfolding pairs_of rows_of_pairs
+pair_rows_back [] = refl
+pair_rows_back (r ∷ rs) = ap (λ (xs : List Row). r ∷ xs) (pair_rows_back rs)
 
-pub pairs-long : (rs : List Row) → length (pairsOf rs) ≡ 2 * length rs
-unfolding pairsOf
-pairs-long [] = refl
-pairs-long (r ∷ rs) = omega (arith, pairs-long rs)
+pub pairs_long : (rs : List Row) → length (pairs_of rs) ≡ 2 * length rs
+unfolding pairs_of
+pairs_long [] = refl
+pairs_long (r ∷ rs) = omega (arith, pairs_long rs)
 
-pub pairs-back : (n : ℕ) (ws : List ℕ) → length ws ≡ 2 * n → pairsOf (rowsOfPairs ws) ≡ ws
-unfolding pairsOf rowsOfPairs
-pairs-back n [] e = refl
-pairs-back zero (w ∷ ws) e = absurd (omega arith)
-pairs-back (suc n) (w ∷ []) e = absurd (omega arith)
-pairs-back (suc n) (w ∷ v ∷ ws) e = ap (λ (xs : List ℕ). w ∷ v ∷ xs) (pairs-back n ws (omega arith))
+pub pairs_back : (n : ℕ) (ws : List ℕ) → length ws ≡ 2 * n → pairs_of (rows_of_pairs ws) ≡ ws
+unfolding pairs_of rows_of_pairs
+pairs_back n [] e = refl
+pairs_back zero (w ∷ ws) e = absurd (omega arith)
+pairs_back (suc n) (w ∷ []) e = absurd (omega arith)
+pairs_back (suc n) (w ∷ v ∷ ws) e = ap (λ (xs : List ℕ). w ∷ v ∷ xs) (pairs_back n ws (omega arith))
 
 -- Both layouts tell the same rows: of any rows, and of any words.
-pub same_rows : (rs : List Row) → all_fit rs → rowsOfPairs (pairsOf rs) ≡ rowsIn (words_of rs)
-same_rows rs f = pair-rows-back rs ∙ sym (rows_back rs f)
+pub same_rows : (rs : List Row) → all_fit rs → rows_of_pairs (pairs_of rs) ≡ rows_in (words_of rs)
+same_rows rs f = pair_rows_back rs ∙ sym (rows_back rs f)
 
-pub old-rows : (ws : List ℕ) → rowsOfPairs (pairsOf (rowsIn ws)) ≡ rowsIn ws
-old-rows ws = pair-rows-back (rowsIn ws)
+pub old_rows : (ws : List ℕ) → rows_of_pairs (pairs_of (rows_in ws)) ≡ rows_in ws
+old_rows ws = pair_rows_back (rows_in ws)

@@ -11,7 +11,7 @@ use Rattle.tape.specs.declared.progress.Pace.TheVariants.{Going, Stopped}
 use Rattle.tape.specs.declared.progress.Progress.{Progress}
 use Rattle.tape.specs.declared.rows.Row.{Row}
 use Rattle.tape.specs.Plan.{Plan, give, fail, until}
-use Rattle.tape.specs.Run.{State, at, kept_at, overAt, run, Behind, Gave}
+use Rattle.tape.specs.Run.{State, at, kept_at, over_at, run, Behind, Gave}
 use Rattle.tape.proofs.Behind.{some-script}
 use Rattle.tape.proofs.Laws.{from-going, from-stopped, grows, kept, bind}
 
@@ -26,9 +26,9 @@ pub turned_on : {n : ℕ} {r : List ℕ} {A : Type 0} {d : A} {body : Plan A} {e
     → ((s : List ℕ) (l : List Row) → Behind n r s → Turned s A d body enough limit i (at a l) (at b l)) → a.used ≤ b.used
 turned_on {n} {r} t = some-script n r (λ s part. (t s [] part).grown)
 
-pub no-turn : {s : List ℕ} {A : Type 0} {d : A} {body : Plan A} {enough : A → Bool} {limit : ℕ} {w : State}
+pub no_turn : {s : List ℕ} {A : Type 0} {d : A} {body : Plan A} {enough : A → Bool} {limit : ℕ} {w : State}
     → Turned s A d body enough limit 0 w w
-no-turn = record { grown = omega arith; whole = λ v w'' e. rw sub-zero at e }
+no_turn = record { grown = omega arith; whole = λ v w'' e. rw sub-zero at e }
 
 module _ {s : List ℕ} {A : Type 0} {d : A} {body : Plan A} {enough : A → Bool} {limit i : ℕ} {w w' : State} (t : Turned s A d body enough limit i w w') where
   -- no turn is left
@@ -53,8 +53,8 @@ module _ {s : List ℕ} {A : Type 0} {d : A} {body : Plan A} {enough : A → Boo
     turn g = bind (λ x. cond (enough x) (give x) (until (limit - (i + 1)) enough body)) e g
 
     -- this turn was enough, or the call stopped in it
-    pub last_turn : overAt w''.progress.pace (enough v) ≡ true → Gave s A d (until limit enough body) w v w''
-    unfolding overAt kept_at run
+    pub last_turn : over_at w''.progress.pace (enough v) ≡ true → Gave s A d (until limit enough body) w v w''
+    unfolding over_at kept_at run
     last_turn o = t.whole v w'' (rw one_more (turn (by w''.progress.pace refl)))
       where
         by : (q : Pace) → w''.progress.pace ≡ q → Gave s A d (cond (enough v) (give v) (until (limit - (i + 1)) enough body)) w'' v w''
@@ -62,14 +62,14 @@ module _ {s : List ℕ} {A : Type 0} {d : A} {body : Plan A} {enough : A → Boo
         by (Stopped x) g = rw (rw g at (kept e)) (from-stopped g)
 
     -- it was not
-    pub next-turn : overAt w''.progress.pace (enough v) ≡ false → Turned s A d body enough limit (i + 1) w w''
-    unfolding overAt
+    pub next-turn : over_at w''.progress.pace (enough v) ≡ false → Turned s A d body enough limit (i + 1) w w''
+    unfolding over_at
     next-turn o =
         record {
           grown = le_trans t.grown (grows e);
           whole = λ v' w''' g. t.whole v' w''' (rw one_more (turn (rw (by w''.progress.pace o) g)));
         }
       where
-        by : (q : Pace) → overAt q (enough v) ≡ false → enough v ≡ false
+        by : (q : Pace) → over_at q (enough v) ≡ false → enough v ≡ false
         by Going o = o
         by (Stopped x) o = cc

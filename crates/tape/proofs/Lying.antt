@@ -8,14 +8,14 @@ use Rattle.tape.specs.declared.progress.Pace.{Pace}
 use Rattle.tape.specs.declared.progress.Pace.TheVariants.{Going, Stopped}
 use Rattle.tape.specs.declared.script.Data.{Data}
 use Rattle.tape.specs.Plan.{Nothing, Cause, failed, ended, Plan, give, refusing}
-use Rattle.tape.specs.Run.{State, After, kept_at, run, doesAt, next_at, Gave, Settled, Lies}
+use Rattle.tape.specs.Run.{State, After, kept_at, run, does_at, next_at, Gave, Settled, Lies}
 use Rattle.tape.proofs.Laws.{from-going, resumed}
 use Rattle.tape.proofs.Values.{gives-last, gives-refuse, given}
 
 -- a call that is going after a step was going before it
 pub was-going : {s : List ℕ} {A : Type 0} {d : A} {p : Plan A} {w : State} {v : A} {w' : State}
     → Gave s A d p w v w' → w'.progress.pace ≡ Going → w.progress.pace ≡ Going
-unfolding doesAt
+unfolding does_at
 was-going {s} {A} {d} {p} {w} {v} {w'} e g = by w.progress.pace refl
   where
     by : (q : Pace) → w.progress.pace ≡ q → q ≡ Going
@@ -25,10 +25,10 @@ was-going {s} {A} {d} {p} {w} {v} {w'} e g = by w.progress.pace refl
         let z : ◌≡◌ {A = ℕ} 0 1 = cc in absurd (omega arith)
 
 -- they lie where they lay
-pub lies-still : {a n : ℕ} {r r' : Data} → Lies a n r → Lies r.place r.count r'
+pub lies_still : {a n : ℕ} {r r' : Data} → Lies a n r → Lies r.place r.count r'
     → (r'.progress.pace ≡ Going → r.progress.pace ≡ Going) → Lies a n r'
 unfolding kept_at
-lies-still {a} {n} {r} {r'} one two back = by r'.progress.pace refl
+lies_still {a} {n} {r} {r'} one two back = by r'.progress.pace refl
   where
     by : (q : Pace) → r'.progress.pace ≡ q → Lies a n r'
     by Going g =
@@ -44,15 +44,15 @@ pub guard-keeps : {s : List ℕ} (q : Plan Nothing) {w w' : State} (d v : ℕ)
 unfolding kept_at next_at run
 guard-keeps {s} q {w} {w'} d v e = by w.progress.pace refl
   where
-    paceOf : After Nothing → Pace
-    paceOf y = y.state.progress.pace
+    pace_of : After Nothing → Pace
+    pace_of y = y.state.progress.pace
 
     refused : (c : Cause) → Gave s Nothing tt (refusing q c) (resumed w) tt w' → (p : Pace) → w'.progress.pace ≡ p → d ≡ kept_at d v p
     refused c closes Going g = absurd (given {P = λ _. ⊥} (gives-last q (λ _. gives-refuse)) closes g)
     refused c closes (Stopped y) g = refl
 
     by : (p : Pace) → w.progress.pace ≡ p → kept_at d v p ≡ kept_at d v w'.progress.pace
-    by Going f = rw (ap paceOf (rw f at e.same))
-    by (Stopped TraceFull) f = rw (ap paceOf (rw f at e.same))
+    by Going f = rw (ap pace_of (rw f at e.same))
+    by (Stopped TraceFull) f = rw (ap pace_of (rw f at e.same))
     by (Stopped (Refused x)) f = refused (failed x) (from-going refl (rw f at e.same)) w'.progress.pace refl
     by (Stopped ScriptEnded) f = refused ended (from-going refl (rw f at e.same)) w'.progress.pace refl

@@ -16,11 +16,11 @@ use Rattle.tape.specs.declared.rows.Row.{Row}
 use Rattle.tape.specs.declared.script.Reading.{Reading}
 use Rattle.tape.specs.Plan.{Plan}
 use Rattle.tape.specs.Polls.{leading}
-use Rattle.tape.specs.Run.{State, at, After, overAt, run, doesAt, Behind, Gave}
+use Rattle.tape.specs.Run.{State, at, After, over_at, run, does_at, Behind, Gave}
 use Rattle.tape.specs.Steps.{word}
 use Rattle.tape.proofs.Behind.{at_place, in_place}
 use Rattle.tape.proofs.Laws.{from-going}
-use Rattle.tape.proofs.Loops.{Turned, no-turn, next-turn}
+use Rattle.tape.proofs.Loops.{Turned, no_turn, next-turn}
 
 -- the first i of the words are like this: what is left to count is what was to count
 pub record Led (like : ℕ → Bool) (n : ℕ) (ws : List ℕ) (i : ℕ) : Type 0 where
@@ -28,8 +28,8 @@ pub record Led (like : ℕ → Bool) (n : ℕ) (ws : List ℕ) (i : ℕ) : Type 
   pub whole : i + leading (n - i) like (drop i ws) ≡ leading n like ws
 
 module _ {like : ℕ → Bool} {n : ℕ} {ws : List ℕ} where
-  pub none-led : Led like n ws 0
-  none-led = record { within = omega arith; whole = zero-add _ ∙ ap (λ (m : ℕ). leading m like ws) (sub-zero n) }
+  pub none_led : Led like n ws 0
+  none_led = record { within = omega arith; whole = zero-add _ ∙ ap (λ (m : ℕ). leading m like ws) (sub-zero n) }
 
   module _ {i : ℕ} (t : Led like n ws i) where
     module _ (more : i < min n (length ws)) where
@@ -41,17 +41,17 @@ module _ {like : ℕ → Bool} {n : ℕ} {ws : List ℕ} where
           let next : suc i ≡ i + 1 = omega arith in
           drop-cons ws i 0 (omega (arith, more)) ∙ ap (λ (k : ℕ). get_or ws i 0 ∷ drop k ws) next
 
-      pub one-led : like (get_or ws i 0) ≡ true → Led like n ws (i + 1)
+      pub one_led : like (get_or ws i 0) ≡ true → Led like n ws (i + 1)
       unfolding leading
-      one-led is = record { within = omega (arith, more); whole = omega (arith, rw (left, there, is) at t.whole) }
+      one_led is = record { within = omega (arith, more); whole = omega (arith, rw (left, there, is) at t.whole) }
 
-      pub led-to : like (get_or ws i 0) ≡ false → i ≡ leading n like ws
+      pub led_to : like (get_or ws i 0) ≡ false → i ≡ leading n like ws
       unfolding leading
-      led-to is = omega (arith, rw (left, there, is) at t.whole)
+      led_to is = omega (arith, rw (left, there, is) at t.whole)
 
-    pub all-led : min n (length ws) ≤ i → i ≡ leading n like ws
+    pub all_led : min n (length ws) ≤ i → i ≡ leading n like ws
     unfolding leading
-    all-led over = omega (arith, t.whole, none (n - i) (drop i ws) (omega (arith, over, length-drop i ws)))
+    all_led over = omega (arith, t.whole, none (n - i) (drop i ws) (omega (arith, over, length-drop i ws)))
       where
         none : (m : ℕ) (vs : List ℕ) → min m (length vs) ≤ 0 → leading m like vs ≡ 0
         none zero vs h = refl
@@ -106,8 +106,8 @@ module _ {s : List ℕ} {l : List Row} {A : Type 0} {d : A} {body : Plan A} {eno
   pub skipped : (v : ℕ → A) (i : ℕ) → i ≤ limit
       → ((j : ℕ) → j < i → Gave s A d body (at (on p j) l) (v j) (at (on p (j + 1)) l) × (enough (v j) ≡ false))
       → Turned s A d body enough limit i (at p l) (at (on p i) l)
-  unfolding overAt
-  skipped v zero h turns = rw add-zero no-turn
+  unfolding over_at
+  skipped v zero h turns = rw add-zero no_turn
   skipped v (suc i) h turns =
       let next : i + 1 ≡ suc i = omega arith in
       let one = turns i (omega arith) in
@@ -125,13 +125,13 @@ reads kind p i going there =
 -- a reading that must be enough where there is a word
 pub read-over : (kind : Reading) (enough : ℕ → Bool) {s : List ℕ} {l : List Row} {q : Progress} {v : ℕ} {w : State} → q.pace ≡ Going
     → (q.used < length s → enough (get_or s q.used 0) ≡ true) → Gave s ℕ 0 (word kind) (at q l) v w
-    → overAt w.progress.pace (enough v) ≡ true
-unfolding doesAt run word overAt
+    → over_at w.progress.pace (enough v) ≡ true
+unfolding does_at run word over_at
 read-over kind enough {s} {l} {q} {v} {w} going is e =
-    ap (λ (x : After ℕ). overAt x.state.progress.pace (enough x.value)) e.same ∙ by q.pace going (ltb q.used (length s)) refl
+    ap (λ (x : After ℕ). over_at x.state.progress.pace (enough x.value)) e.same ∙ by q.pace going (ltb q.used (length s)) refl
   where
     by : (a : Pace) → a ≡ Going → (b : Bool) → ltb q.used (length s) ≡ b
-        → (let x = doesAt s 0 a (word kind) (at q l) in overAt x.state.progress.pace (enough x.value) ≡ true)
+        → (let x = does_at s 0 a (word kind) (at q l) in over_at x.state.progress.pace (enough x.value) ≡ true)
     by (Stopped x) g b t = cc
     by Going g true t = rw (t, is (ltb-true _ _ t))
     by Going g false t = rw t

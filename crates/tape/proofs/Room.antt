@@ -16,9 +16,9 @@ use Rattle.tape.specs.declared.progress.Line.{Line}
 use Rattle.tape.specs.declared.progress.Pace.{Pace}
 use Rattle.tape.specs.declared.progress.Pace.TheVariants.{Going, Stopped}
 use Rattle.tape.specs.declared.rows.Row.{Row}
-use Rattle.tape.specs.Layout.{rowsIn}
+use Rattle.tape.specs.Layout.{rows_in}
 use Rattle.tape.specs.Plan.{failed, ended, Plan, give, refuse, read, write, look, hold}
-use Rattle.tape.specs.Run.{State, After, after, noted, haltOf, run, doesAt, Gave}
+use Rattle.tape.specs.Run.{State, After, after, noted, halt_of, run, does_at, Gave}
 use Rattle.tape.proofs.Laws.{by_cases}
 use Rattle.tape.proofs.Layouts.{rows_long, same_first, same-past}
 
@@ -65,10 +65,10 @@ run-keeps s d (hold h' p) u n h l = run-keeps s d p u n h' l
 
 pub keeps : {s : List ℕ} {A : Type 0} {d : A} {p : Plan A} {w : State} {v : A} {w' : State}
     → Gave s A d p w v w' → Kept w.progress.rows w.list w'.progress.rows w'.list
-unfolding doesAt
+unfolding does_at
 keeps {s} {A} {d} {p} {w} {v} {w'} e = rw (← ap (λ (x : After A). x.state) e.same) at (by w.progress.pace)
   where
-    by : (q : Pace) → KeptBy w.progress.rows w.list (doesAt s d q p w)
+    by : (q : Pace) → KeptBy w.progress.rows w.list (does_at s d q p w)
     by Going = run-keeps s d p w.progress.used w.progress.rows w.progress.line w.list
     by (Stopped x) = untouched
 
@@ -78,7 +78,7 @@ pub record WordsKept (n : ℕ) (ws : List ℕ) (n' : ℕ) (ws' : List ℕ) : Typ
   pub before : take n ws' ≡ take n ws
   pub past : drop n' ws' ≡ drop n' ws
 
-pub words-kept : {n : ℕ} {ws : List ℕ} {n' : ℕ} {ws' : List ℕ} → Kept n (rowsIn ws) n' (rowsIn ws') → WordsKept n ws n' ws'
+pub words-kept : {n : ℕ} {ws : List ℕ} {n' : ℕ} {ws' : List ℕ} → Kept n (rows_in ws) n' (rows_in ws') → WordsKept n ws n' ws'
 words-kept {n} {ws} {n'} {ws'} k =
     record { long = sym (rows_long ws') ∙ k.long ∙ rows_long ws; before = same_first ws' ws n k.before; past = same-past ws' ws n' k.past }
 
@@ -104,7 +104,7 @@ with_row x f = record { value = f.value; pace = f.pace; used = f.used; line = f.
 
 unfoldable pub free : List ℕ → {A : Type 0} → A → Plan A → ℕ → Line → Free A
 free s d (give a) u h = still a Going u h
-free s d (refuse c) u h = still d (Stopped (haltOf c)) u h
+free s d (refuse c) u h = still d (Stopped (halt_of c)) u h
 free s d (read r k z) u h =
     cond (ltb u (length s)) (free s d (k (get_or s u 0)) (u + 1) h) (free s d z u h)
 free s d (write r p) u h = with_row (record { row = r; used = u; line = h }) (free s d p u (noted r h))
@@ -119,27 +119,27 @@ unfoldable pub laid : List Row → ℕ → List Written → List Row
 laid l n [] = l
 laid l n (x ∷ xs) = laid (set l n x.row) (n + 1) xs
 
-laid-sets : (l : List Row) (n : ℕ) (xs : List Written) → laid l n xs ≡ sets l n (rows_of xs)
+laid_sets : (l : List Row) (n : ℕ) (xs : List Written) → laid l n xs ≡ sets l n (rows_of xs)
 unfolding laid
-laid-sets l n [] = refl
-laid-sets l n (x ∷ xs) =
+laid_sets l n [] = refl
+laid_sets l n (x ∷ xs) =
     let next : n + 1 ≡ suc n = omega arith in
-    laid-sets (set l n x.row) (n + 1) xs ∙ rw next
+    laid_sets (set l n x.row) (n + 1) xs ∙ rw next
 
 -- they lie one after the other, and the other rows are as they were
 pub laid-between : (l : List Row) (n : ℕ) (xs : List Written) → n + length xs ≤ length l
     → laid l n xs ≡ take n l ++ rows_of xs ++ drop (n + length xs) l
 laid-between l n xs h =
     let long : length (rows_of xs) ≡ length xs = length-map xs _ in
-    laid-sets l n xs ∙ sets-eq (rows_of xs) l n (omega (arith, long))
+    laid_sets l n xs ∙ sets-eq (rows_of xs) l n (omega (arith, long))
     ∙ ap (λ (k : ℕ). take n l ++ rows_of xs ++ drop (n + k) l) long
 
 -- what a plan does given endless room, in a list of which n rows are written
-abbrev inRoom : {A : Type 0} → Free A → ℕ → List Row → After A
-inRoom x n l = after x.value x.pace x.used (n + length x.rows) x.line (laid l n x.rows)
+abbrev in_room : {A : Type 0} → Free A → ℕ → List Row → After A
+in_room x n l = after x.value x.pace x.used (n + length x.rows) x.line (laid l n x.rows)
 
 abbrev Fits : {A : Type 0} → ℕ → List Row → After A → Free A → Type 0
-Fits n l y x = n + length x.rows ≤ length l → y ≡ inRoom x n l
+Fits n l y x = n + length x.rows ≤ length l → y ≡ in_room x n l
 
 both_ways : {X Y : Type 0} (P : X → Y → Type 0) (b : Bool) (x x' : X) (y y' : Y) → P x y → P x' y' → P (cond b x x') (cond b y y')
 both_ways P true x x' y y' e e' = e
@@ -163,13 +163,13 @@ run_fits s d (hold h' p) u n h l = run_fits s d p u n h' l
 
 -- With room for k of its rows and no more, it stops before the next one: these k rows are written, and the words taken
 -- are those before the row without room.
-abbrev stoppedBefore : {A : Type 0} → A → Written → ℕ → List Row → After A
-stoppedBefore d x n l = after d (Stopped TraceFull) x.used n x.line l
+abbrev stopped_before : {A : Type 0} → A → Written → ℕ → List Row → After A
+stopped_before d x n l = after d (Stopped TraceFull) x.used n x.line l
 
 abbrev Full : {A : Type 0} → A → Written → ℕ → List Row → After A → Free A → Type 0
 Full d w n l y x =
     (k : ℕ) → n + k ≡ length l → k < length x.rows
-    → y ≡ stoppedBefore d (get_or x.rows k w) (n + k) (laid l n (take k x.rows))
+    → y ≡ stopped_before d (get_or x.rows k w) (n + k) (laid l n (take k x.rows))
 
 full-row : (s : List ℕ) {A : Type 0} (d : A) (w : Written) (r : Row) (p : Plan A) (u n : ℕ) (h : Line) (l : List Row)
     → Full d w (n + 1) (set l n r) (run s d p u (n + 1) (noted r h) (set l n r)) (free s d p u (noted r h))
@@ -193,46 +193,46 @@ run-full s d w (write r p) u n h l = full-row s d w r p u n h l (run-full s d w 
 run-full s d w (look k) u n h l = run-full s d w (k h) u n h l
 run-full s d w (hold h' p) u n h l = run-full s d w p u n h' l
 
-abbrev pub isFull : Pace → Bool
-isFull Going = false
-isFull (Stopped (Refused e)) = false
-isFull (Stopped ScriptEnded) = false
-isFull (Stopped TraceFull) = true
+abbrev pub is_full : Pace → Bool
+is_full Going = false
+is_full (Stopped (Refused e)) = false
+is_full (Stopped ScriptEnded) = false
+is_full (Stopped TraceFull) = true
 
-free-never-full : (s : List ℕ) {A : Type 0} (d : A) (p : Plan A) (u : ℕ) (h : Line) → isFull (free s d p u h).pace ≡ false
+free-never-full : (s : List ℕ) {A : Type 0} (d : A) (p : Plan A) (u : ℕ) (h : Line) → is_full (free s d p u h).pace ≡ false
 unfolding free
 free-never-full s d (give a) u h = refl
 free-never-full s d (refuse (failed e)) u h = refl
 free-never-full s d (refuse ended) u h = refl
 free-never-full s {A} d (read r k z) u h =
-    by_cases (λ (x : Free A). isFull x.pace ≡ false) (ltb u (length s)) _ _ (free-never-full s d (k (get_or s u 0)) (u + 1) h) (free-never-full s d z u h)
+    by_cases (λ (x : Free A). is_full x.pace ≡ false) (ltb u (length s)) _ _ (free-never-full s d (k (get_or s u 0)) (u + 1) h) (free-never-full s d z u h)
 free-never-full s d (write r p) u h = free-never-full s d p u (noted r h)
 free-never-full s d (look k) u h = free-never-full s d (k h) u h
 free-never-full s d (hold h' p) u h = free-never-full s d p u h'
 
 -- 22 exactly when the call, given endless room, would write more.
-pub full-exactly : (s : List ℕ) {A : Type 0} (d : A) (p : Plan A) (u n : ℕ) (h : Line) (l : List Row) → n ≤ length l
-    → isFull (run s d p u n h l).state.progress.pace ≡ ltb (length l) (n + length (free s d p u h).rows)
-full-exactly s {A} d p u n h l e = by (dec_le (n + length (free s d p u h).rows) (length l))
+pub full_exactly : (s : List ℕ) {A : Type 0} (d : A) (p : Plan A) (u n : ℕ) (h : Line) (l : List Row) → n ≤ length l
+    → is_full (run s d p u n h l).state.progress.pace ≡ ltb (length l) (n + length (free s d p u h).rows)
+full_exactly s {A} d p u n h l e = by (dec_le (n + length (free s d p u h).rows) (length l))
   where
     x : Free A
     x = free s d p u h
 
     by : Dec (n + length x.rows ≤ length l)
-        → isFull (run s d p u n h l).state.progress.pace ≡ ltb (length l) (n + length x.rows)
+        → is_full (run s d p u n h l).state.progress.pace ≡ ltb (length l) (n + length x.rows)
     by (yes fits) =
-        ap (λ (y : After A). isFull y.state.progress.pace) (run_fits s d p u n h l fits)
+        ap (λ (y : After A). is_full y.state.progress.pace) (run_fits s d p u n h l fits)
         ∙ free-never-full s d p u h ∙ sym (le-ltb _ _ fits)
     by (no over) =
-        ap (λ (y : After A). isFull y.state.progress.pace)
+        ap (λ (y : After A). is_full y.state.progress.pace)
         (run-full s d (record { row = record { register = 0; value = 0 }; used = u; line = h }) p u n h l (length l - n) (omega arith) (omega arith))
         ∙ sym (lt-ltb (length l) (n + length x.rows) (omega arith))
 
 pub gave-full : {s : List ℕ} {A : Type 0} {d : A} {p : Plan A} {w : State} {v : A} {w' : State}
     → w.progress.pace ≡ Going → w.progress.rows ≤ length w.list → Gave s A d p w v w'
-    → isFull w'.progress.pace
+    → is_full w'.progress.pace
     ≡ ltb (length w.list) (w.progress.rows + length (free s d p w.progress.used w.progress.line).rows)
-unfolding doesAt
+unfolding does_at
 gave-full {s} {A} {d} {p} {w} g h e =
-    ap (λ (x : After A). isFull x.state.progress.pace) (rw g at e.same)
-    ∙ full-exactly s d p w.progress.used w.progress.rows w.progress.line w.list h
+    ap (λ (x : After A). is_full x.state.progress.pace) (rw g at e.same)
+    ∙ full_exactly s d p w.progress.used w.progress.rows w.progress.line w.list h

@@ -14,26 +14,26 @@ use Rattle.tape.specs.declared.progress.Halt.TheVariants.{TraceFull}
 use Rattle.tape.specs.declared.progress.Line.{Line}
 use Rattle.tape.specs.declared.progress.Pace.TheVariants.{Going, Stopped}
 use Rattle.tape.specs.declared.rows.Row.{Row}
-use Rattle.tape.specs.Layout.{sentOver}
+use Rattle.tape.specs.Layout.{sent_over}
 use Rattle.tape.specs.Plan.{handle, ◌then◌}
 use Rattle.tape.specs.Rows.{FIFO}
 use Rattle.tape.specs.Run.{State, after, noted, run, Did}
-use Rattle.tape.specs.Steps.{row, sendFrom}
+use Rattle.tape.specs.Steps.{row, send_from}
 
 abbrev pub fifo : ℕ → Row
 fifo w = record { register = FIFO; value = w }
 
 -- one more, behind those that are there
-pub sent-more : (ws : List ℕ) (k n m : ℕ) (l : List Row) → set (sentOver ws k n m l) (m + n) (fifo (get_or ws (k + n) 0)) ≡ sentOver ws k (suc n) m l
-unfolding sentOver
+pub sent-more : (ws : List ℕ) (k n m : ℕ) (l : List Row) → set (sent_over ws k n m l) (m + n) (fifo (get_or ws (k + n) 0)) ≡ sent_over ws k (suc n) m l
+unfolding sent_over
 sent-more ws k zero m l = rw (add-zero k, add-zero m)
 sent-more ws k (suc n) m l =
     let place : m + suc n ≡ m + 1 + n = omega arith in
     let word : k + suc n ≡ k + 1 + n = omega arith in
     rw (place, word) (sent-more ws (k + 1) n (m + 1) (set l m (fifo (get_or ws k 0))))
 
-pub sent-long : (ws : List ℕ) (k n m : ℕ) (l : List Row) → length (sentOver ws k n m l) ≡ length l
-unfolding sentOver
+pub sent-long : (ws : List ℕ) (k n m : ℕ) (l : List Row) → length (sent_over ws k n m l) ≡ length l
+unfolding sent_over
 sent-long ws k zero m l = refl
 sent-long ws k (suc n) m l = sent-long ws (k + 1) n (m + 1) (set l m (fifo (get_or ws k 0))) ∙ length-set l m (fifo (get_or ws k 0))
 
@@ -44,8 +44,8 @@ word_made bytes i w there e = e ∙ sym (word-is i bytes there)
 
 module _ (s ws : List ℕ) (u : ℕ) (h : Line) where
   -- with room for all of them
-  pub sent-all : (k n m : ℕ) (l : List Row) → n ≤ length l - m → run s (tt {0}) (sendFrom ws k n) u m h l ≡ after tt Going u (m + n) h (sentOver ws k n m l)
-  unfolding run sendFrom handle row noted sentOver
+  pub sent-all : (k n m : ℕ) (l : List Row) → n ≤ length l - m → run s (tt {0}) (send_from ws k n) u m h l ≡ after tt Going u (m + n) h (sent_over ws k n m l)
+  unfolding run send_from handle row noted sent_over
   sent-all k zero m l e = rw (add-zero m)
   sent-all k (suc n) m l e =
       let next : m + suc n ≡ m + 1 + n = omega arith in
@@ -53,20 +53,20 @@ module _ (s ws : List ℕ) (u : ℕ) (h : Line) where
 
   -- without: as many as there is room for
   pub sent-full : (k n m : ℕ) (l : List Row) → length l - m < n
-      → run s (tt {0}) (sendFrom ws k n) u m h l ≡ after tt (Stopped TraceFull) u (m + (length l - m)) h (sentOver ws k (length l - m) m l)
-  unfolding run sendFrom handle row noted sentOver
+      → run s (tt {0}) (send_from ws k n) u m h l ≡ after tt (Stopped TraceFull) u (m + (length l - m)) h (sent_over ws k (length l - m) m l)
+  unfolding run send_from handle row noted sent_over
   sent-full k zero m l e = absurd (omega arith)
   sent-full k (suc n) m l e =
       let more = set l m (fifo (get_or ws k 0)) in
       let long : length more ≡ length l = length-set l m (fifo (get_or ws k 0)) in
       by (dec_lt m (length l)) (λ room. rw long at (sent-full (k + 1) n (m + 1) more (rw long (omega arith))))
     where
-      set-l : List Row
-      set-l = set l m (fifo (get_or ws k 0))
+      set_l : List Row
+      set_l = set l m (fifo (get_or ws k 0))
 
       by : Dec (m < length l)
-          → (m < length l → run s (tt {0}) (sendFrom ws (k + 1) n) u (m + 1) h set-l ≡ after tt (Stopped TraceFull) u (m + 1 + (length l - (m + 1))) h (sentOver ws (k + 1) (length l - (m + 1)) (m + 1) set-l))
-          → run s (tt {0}) (sendFrom ws k (suc n)) u m h l ≡ after tt (Stopped TraceFull) u (m + (length l - m)) h (sentOver ws k (length l - m) m l)
+          → (m < length l → run s (tt {0}) (send_from ws (k + 1) n) u (m + 1) h set_l ≡ after tt (Stopped TraceFull) u (m + 1 + (length l - (m + 1))) h (sent_over ws (k + 1) (length l - (m + 1)) (m + 1) set_l))
+          → run s (tt {0}) (send_from ws k (suc n)) u m h l ≡ after tt (Stopped TraceFull) u (m + (length l - m)) h (sent_over ws k (length l - m) m l)
       by (yes room) ih =
           let one : length l - m ≡ suc (length l - (m + 1)) = omega arith in
           let place : m + suc (length l - (m + 1)) ≡ m + 1 + (length l - (m + 1)) = omega arith in
@@ -76,8 +76,8 @@ module _ (s ws : List ℕ) (u : ℕ) (h : Line) where
           rw (le-ltb m (length l) (omega arith), none, add-zero m)
 
 -- the words of a part: those from its place on
-pub part_of : (ws vs : List ℕ) (k j n : ℕ) → ((i : ℕ) → i < n → get_or vs (k + i) 0 ≡ get_or ws (j + i) 0) → sendFrom vs k n ≡ sendFrom ws j n
-unfolding sendFrom
+pub part_of : (ws vs : List ℕ) (k j n : ℕ) → ((i : ℕ) → i < n → get_or vs (k + i) 0 ≡ get_or ws (j + i) 0) → send_from vs k n ≡ send_from ws j n
+unfolding send_from
 part_of ws vs k j zero e = refl
 part_of ws vs k j (suc n) e =
     let first : get_or vs k 0 ≡ get_or ws j 0 = rw (add-zero k, add-zero j) at (e 0 (omega arith)) in
@@ -85,8 +85,8 @@ part_of ws vs k j (suc n) e =
     rw (first, rest)
 
 -- some, and then the rest
-pub sent-joined : (ws : List ℕ) (k n m : ℕ) → sendFrom ws k (n + m) ≡ (sendFrom ws k n then λ _. sendFrom ws (k + n) m)
-unfolding sendFrom handle row
+pub sent-joined : (ws : List ℕ) (k n m : ℕ) → send_from ws k (n + m) ≡ (send_from ws k n then λ _. send_from ws (k + n) m)
+unfolding send_from handle row
 sent-joined ws k zero m = rw (zero-add m, add-zero k)
 sent-joined ws k (suc n) m =
     let more : suc n + m ≡ suc (n + m) = omega arith in
@@ -114,12 +114,12 @@ module _ (bytes : List ℕ) (k m : ℕ) (whole : m ≡ 512) (there : 512 * k + 5
       ∙ rw (byte_of (4 * i) (omega arith), byte_of (4 * i + 1) (omega arith), byte_of (4 * i + 2) (omega arith), byte_of (4 * i + 3) (omega arith), at 1, at 2, at 3, first)
       (sym (word-is (128 * k + i) bytes (omega arith))))
 
-  block-sent : sendFrom (words_of block) 0 (length block / 4) ≡ sendFrom (words_of bytes) (128 * k) 128
-  block-sent = ap (λ (n : ℕ). sendFrom (words_of block) 0 (n / 4)) block-long ∙ part_of (words_of bytes) (words_of block) 0 (128 * k) 128 word_of
+  block-sent : send_from (words_of block) 0 (length block / 4) ≡ send_from (words_of bytes) (128 * k) 128
+  block-sent = ap (λ (n : ℕ). send_from (words_of block) 0 (n / 4)) block-long ∙ part_of (words_of bytes) (words_of block) 0 (128 * k) 128 word_of
 
 -- so sending its bytes, lent as a part of the data, sends those
-pub block-did : (bytes : List ℕ) (k : ℕ) {part : List ℕ} {s : List ℕ} {w w' : State} → Did s (sendFrom (words_of part) 0 (length part / 4)) w w'
-    → part ≡ take 512 (drop (512 * k) bytes) → 512 * k + 512 ≤ length bytes → Did s (sendFrom (words_of bytes) (128 * k) 128) w w'
-block-did bytes k {part} {s} {w} {w'} did is there =
-    let lent : Did s (sendFrom (words_of (take 512 (drop (512 * k) bytes))) 0 (length (take 512 (drop (512 * k) bytes)) / 4)) w w' = rw is at did in
+pub block_did : (bytes : List ℕ) (k : ℕ) {part : List ℕ} {s : List ℕ} {w w' : State} → Did s (send_from (words_of part) 0 (length part / 4)) w w'
+    → part ≡ take 512 (drop (512 * k) bytes) → 512 * k + 512 ≤ length bytes → Did s (send_from (words_of bytes) (128 * k) 128) w w'
+block_did bytes k {part} {s} {w} {w'} did is there =
+    let lent : Did s (send_from (words_of (take 512 (drop (512 * k) bytes))) 0 (length (take 512 (drop (512 * k) bytes)) / 4)) w w' = rw is at did in
     rw (← block-sent bytes k 512 refl there) lent

@@ -11,7 +11,7 @@ use Rattle.tape.specs.declared.progress.Pace.TheVariants.{Going, Stopped}
 use Rattle.tape.specs.declared.progress.Progress.{Progress}
 use Rattle.tape.specs.declared.rows.Row.{Row}
 use Rattle.tape.specs.Plan.{Cause, failed, ended, refuse}
-use Rattle.tape.specs.Run.{at, haltOf, stop_at, run, Did}
+use Rattle.tape.specs.Run.{at, halt_of, stop_at, run, Did}
 use Rattle.tape.proofs.Laws.{from-going, from-stopped}
 use Rattle.tape.specs.contracts.progress.Halt as Halt-row
 
@@ -23,7 +23,7 @@ stays {p} x g =
     ap (λ (z : Pace). record { pace = z; used = p.used; rows = p.rows; line = p.line }) (g ∙ sym (ap (λ (z : Pace). stop_at z x) g))
 
 -- a progress that stops so is what the refusal makes of it
-pub stops : {s : List ℕ} {l : List Row} (c : Cause) {p r : Progress} {x : Halt} → x ≡ haltOf c
+pub stops : {s : List ℕ} {l : List Row} (c : Cause) {p r : Progress} {x : Halt} → x ≡ halt_of c
     → r ≡ record { pace = stop_at p.pace x; used = p.used; rows = p.rows; line = p.line }
     → Did s (refuse c) (at p l) (at r l)
 unfolding run stop_at
@@ -36,7 +36,7 @@ stops {s} {l} c {p} {r} {x} h e = by p.pace refl
 -- what stopped a call, if not want of room, is a cause
 pub record Caused (x : Halt) : Type 0 where
   pub cause : Cause
-  pub told : x ≡ haltOf cause
+  pub told : x ≡ halt_of cause
 
 -- every variant but TraceFull
 abbrev pub causes : List ℕ

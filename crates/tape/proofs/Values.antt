@@ -11,8 +11,8 @@ use Rattle.tape.specs.declared.progress.Pace.{Pace}
 use Rattle.tape.specs.declared.progress.Pace.TheVariants.{Going, Stopped}
 use Rattle.tape.specs.declared.rows.Row.{Row}
 use Rattle.tape.specs.Plan.{Nothing, Cause, Plan, give, refuse, read, write, look, hold, handle, ◌then◌, guard}
-use Rattle.tape.specs.Run.{State, After, noted, haltOf, run, doesAt, Gave}
-use Rattle.tape.specs.Steps.{dataFrom}
+use Rattle.tape.specs.Run.{State, After, noted, halt_of, run, does_at, Gave}
+use Rattle.tape.specs.Steps.{data_from}
 use Rattle.tape.proofs.Laws.{by_cases}
 
 unfoldable pub gives : {A : Type 0} → (A → Type 0) → Plan A → Type 0
@@ -78,7 +78,7 @@ not-given h e = absurd (let z : ◌≡◌ {A = ℕ} 0 1 = cc in omega arith)
 run-given : (s : List ℕ) {A : Type 0} (P : A → Type 0) (d : A) (p : Plan A) (u n : ℕ) (h : Line) (l : List Row) → gives P p → GivenBy P (run s d p u n h l)
 unfolding gives run
 run-given s P d (give a) u n h l b = λ _. b
-run-given s P d (refuse c) u n h l b = not-given (haltOf c)
+run-given s P d (refuse c) u n h l b = not-given (halt_of c)
 run-given s P d (read r k z) u n h l b = by_cases (GivenBy P) (ltb u (length s)) _ _ (run-given s P d (k (get_or s u 0)) (u + 1) n h l (b.0 (get_or s u 0))) (run-given s P d z u n h l b.1)
 run-given s P d (write r p) u n h l b = by_cases (GivenBy P) (ltb n (length l)) _ _ (run-given s P d p u (n + 1) (noted r h) (set l n r) b) (not-given _)
 run-given s P d (look k) u n h l b = run-given s P d (k h) u n h l (b h)
@@ -89,15 +89,15 @@ run-gives s {A} {P} d {p} b u n h l = run-given s P d p u n h l b.each
 
 pub given : {s : List ℕ} {A : Type 0} {P : A → Type 0} {d : A} {p : Plan A} {w : State} {v : A} {w' : State}
     → Gives A P p → Gave s A d p w v w' → w'.progress.pace ≡ Going → P v
-unfolding doesAt
+unfolding does_at
 given {s} {A} {P} {d} {p} {w} {v} {w'} b e = rw (← e.same) at (by w.progress.pace)
   where
-    by : (q : Pace) → GivenBy P (doesAt s d q p w)
+    by : (q : Pace) → GivenBy P (does_at s d q p w)
     by Going = run-given s P d p w.progress.used w.progress.rows w.progress.line w.list b.each
     by (Stopped x) = not-given x
 
 -- so many data words are so many
-pub gives-data : (k n : ℕ) → Gives (List ℕ) (λ ws. length ws ≡ n) (dataFrom k n)
-unfolding dataFrom
-gives-data k zero = gives-give refl
-gives-data k (suc n) = gives-last _ (λ w. gives_then (gives-data (k + 1) n) (λ ws h. gives-give (ap suc h)))
+pub gives_data : (k n : ℕ) → Gives (List ℕ) (λ ws. length ws ≡ n) (data_from k n)
+unfolding data_from
+gives_data k zero = gives-give refl
+gives_data k (suc n) = gives-last _ (λ w. gives_then (gives_data (k + 1) n) (λ ws h. gives-give (ap suc h)))

@@ -22,7 +22,7 @@ use Rattle.tape.specs.Plan.{Nothing, Cause, failed, ended, Plan, give, refuse, r
 use Rattle.tape.specs.Layout.{row_of}
 use Rattle.tape.specs.Rows.{FIFO}
 use Rattle.tape.specs.Run.{After, noted, run}
-use Rattle.tape.specs.Steps.{word, row, dataFrom, sendFrom}
+use Rattle.tape.specs.Steps.{word, row, data_from, send_from}
 use Rattle.tape.proofs.Laws.{by_cases}
 
 -- `noted`: a row leaves such a line as it was, but for CLKCR
@@ -53,16 +53,16 @@ pub record Closes (rule : Rule) (A : Type 0) (p : Plan A) : Type 0 where
   pub each : obeys rule true p
 
 -- steps that only write: what a guard or a gate does
-unfoldable pub rowsOnly : Rule → Plan Nothing → Type 0
-rowsOnly rule (give a) = Unit {0}
-rowsOnly rule (refuse c) = ⊥
-rowsOnly rule (read r k z) = ⊥
-rowsOnly rule (write r p) = rule.writes r × rowsOnly rule p
-rowsOnly rule (look k) = (h : Line) → rule.holds h → rowsOnly rule (k h)
-rowsOnly rule (hold h p) = rule.holds h × rowsOnly rule p
+unfoldable pub rows_only : Rule → Plan Nothing → Type 0
+rows_only rule (give a) = Unit {0}
+rows_only rule (refuse c) = ⊥
+rows_only rule (read r k z) = ⊥
+rows_only rule (write r p) = rule.writes r × rows_only rule p
+rows_only rule (look k) = (h : Line) → rule.holds h → rows_only rule (k h)
+rows_only rule (hold h p) = rule.holds h × rows_only rule p
 
 pub record RowsOnly (rule : Rule) (p : Plan Nothing) : Type 0 where
-  pub each : rowsOnly rule p
+  pub each : rows_only rule p
 
 -- the last of n rows in a list, where there is one
 pub record LastRow (W : Row → Type 0) (n : ℕ) (l : List Row) : Type 0 where
@@ -73,9 +73,9 @@ last_written W l n r room w =
     record { last = λ k e. let same : k ≡ n = omega arith in rw (same, get_or-set_same l n r (row_of 0) room) w }
 
 -- of either way, of the first where the test holds
-where-room : {X : Type 0} (P : X → Type 0) (b : Bool) (x y : X) → (b ≡ true → P x) → P y → P (cond b x y)
-where-room P true x y e e' = e refl
-where-room P false x y e e' = e'
+where_room : {X : Type 0} (P : X → Type 0) (b : Bool) (x y : X) → (b ≡ true → P x) → P y → P (cond b x y)
+where_room P true x y e e' = e refl
+where_room P false x y e e' = e'
 
 -- what a run leaves that began with u words used
 pub record Obeyed (rule : Rule) (s : List ℕ) (u : ℕ) {A : Type 0} (x : After A) : Type 0 where
@@ -158,7 +158,7 @@ module _ (rule : Rule) (s : List ℕ) where
       by (yes some) ih out = rw (lt-ltb u (length s) some) ih
       by (no none) ih out = rw (le-ltb u (length s) (omega arith)) (out (omega arith))
   run-last {A} out d (write r p) u n h l o b i e =
-      where-room LastOf (ltb n (length l)) _ _
+      where_room LastOf (ltb n (length l)) _ _
       (λ t. run-last out d p u (n + 1) (noted r h) (set l n r) o b.1 (rule.noted r h i) (last_written rule.writes l n r (ltb-true n (length l) t) b.0)) e
   run-last out d (look k) u n h l o b i e = run-last out d (k h) u n h l o (b h i) i e
   run-last out d (hold h' p) u n h l o b i e = run-last out d p u n h' l o b.1 b.0 e
@@ -170,23 +170,23 @@ module _ (rule : Rule) (s : List ℕ) where
 
 -- steps that only write obey, and close where the script's end follows them
 module _ (rule : Rule) where
-  rows-obey : (q : Plan Nothing) → rowsOnly rule q → obeys rule false q
-  unfolding rowsOnly obeys
-  rows-obey (give a) b = tt
-  rows-obey (refuse c) b = absurd b
-  rows-obey (read r k z) b = absurd b
-  rows-obey (write r q) b = (b.0, rows-obey q b.1)
-  rows-obey (look k) b = λ h i. rows-obey (k h) (b h i)
-  rows-obey (hold h q) b = (b.0, rows-obey q b.1)
+  rows_obey : (q : Plan Nothing) → rows_only rule q → obeys rule false q
+  unfolding rows_only obeys
+  rows_obey (give a) b = tt
+  rows_obey (refuse c) b = absurd b
+  rows_obey (read r k z) b = absurd b
+  rows_obey (write r q) b = (b.0, rows_obey q b.1)
+  rows_obey (look k) b = λ h i. rows_obey (k h) (b h i)
+  rows_obey (hold h q) b = (b.0, rows_obey q b.1)
 
-  rows-close : (A : Type 0) (q : Plan Nothing) → rowsOnly rule q → obeys rule true (refusing {A = A} q ended)
-  unfolding rowsOnly obeys handle
-  rows-close A (give a) b = refl
-  rows-close A (refuse c) b = absurd b
-  rows-close A (read r k z) b = absurd b
-  rows-close A (write r q) b = (b.0, rows-close A q b.1)
-  rows-close A (look k) b = λ h i. rows-close A (k h) (b h i)
-  rows-close A (hold h q) b = (b.0, rows-close A q b.1)
+  rows_close : (A : Type 0) (q : Plan Nothing) → rows_only rule q → obeys rule true (refusing {A = A} q ended)
+  unfolding rows_only obeys handle
+  rows_close A (give a) b = refl
+  rows_close A (refuse c) b = absurd b
+  rows_close A (read r k z) b = absurd b
+  rows_close A (write r q) b = (b.0, rows_close A q b.1)
+  rows_close A (look k) b = λ h i. rows_close A (k h) (b h i)
+  rows_close A (hold h q) b = (b.0, rows_close A q b.1)
 
 -- Its laws: of every way that plans are joined.
 module _ {rule : Rule} where
@@ -262,37 +262,37 @@ module _ {rule : Rule} where
   on-until zero enough r b = on-fail r
   on-until (suc n) enough r b = on_then b (λ v. on_test (enough v) on-give (on-until n enough r b))
 
-  pub on-data : (k n : ℕ) → Obeys rule (List ℕ) (dataFrom k n)
-  unfolding dataFrom
-  on-data k zero = on-give
-  on-data k (suc n) = on_then (on_word _) (λ w. on_then (on-data (k + 1) n) (λ ws. on-give))
+  pub on_data : (k n : ℕ) → Obeys rule (List ℕ) (data_from k n)
+  unfolding data_from
+  on_data k zero = on-give
+  on_data k (suc n) = on_then (on_word _) (λ w. on_then (on_data (k + 1) n) (λ ws. on-give))
 
-  pub on-send : ((value : ℕ) → rule.writes (record { register = FIFO; value = value })) → (ws : List ℕ) (k n : ℕ) → Obeys rule Nothing (sendFrom ws k n)
-  unfolding sendFrom
-  on-send any ws k zero = on-give
-  on-send any ws k (suc n) = on_then (on_row _ _ (any _)) (λ _. on-send any ws (k + 1) n)
+  pub on_send : ((value : ℕ) → rule.writes (record { register = FIFO; value = value })) → (ws : List ℕ) (k n : ℕ) → Obeys rule Nothing (send_from ws k n)
+  unfolding send_from
+  on_send any ws k zero = on-give
+  on_send any ws k (suc n) = on_then (on_row _ _ (any _)) (λ _. on_send any ws (k + 1) n)
 
   -- Of steps that only write, and of the guard and the gate, which do such steps after every refusal.
 
   pub on-rows : {q : Plan Nothing} → RowsOnly rule q → Obeys rule Nothing q
-  on-rows {q = q} b = record { each = rows-obey rule q b.each }
+  on-rows {q = q} b = record { each = rows_obey rule q b.each }
 
   pub on-closing : {A B : Type 0} {p : Plan A} {f : A → Plan B} {q : Plan Nothing}
       → Obeys rule A p → ((a : A) → Obeys rule B (f a)) → RowsOnly rule q → Obeys rule B (handle f (refusing q) p)
   on-closing {B = B} {q = q} b v c =
-      on-handle (refusing q) b v (λ e r. on_then (on-rows c) (λ _. on-fail r)) (record { each = rows-close rule B q c.each })
+      on-handle (refusing q) b v (λ e r. on_then (on-rows c) (λ _. on-fail r)) (record { each = rows_close rule B q c.each })
 
   pub rows_row : (register value : ℕ) → rule.writes (record { register = register; value = value }) → RowsOnly rule (row register value)
-  unfolding row rowsOnly
+  unfolding row rows_only
   rows_row register value w = record { each = (w, tt) }
 
   pub rows-look : {k : Line → Plan Nothing} → ((h : Line) → rule.holds h → RowsOnly rule (k h)) → RowsOnly rule (look k)
-  unfolding rowsOnly
+  unfolding rows_only
   rows-look v = record { each = λ h i. (v h i).each }
 
   module _ (f : Nothing → Plan Nothing) (v : (a : Nothing) → RowsOnly rule (f a)) where
-    rows-joined : (p : Plan Nothing) → rowsOnly rule p → rowsOnly rule (p then f)
-    unfolding rowsOnly handle
+    rows-joined : (p : Plan Nothing) → rows_only rule p → rows_only rule (p then f)
+    unfolding rows_only handle
     rows-joined (give a) b = (v a).each
     rows-joined (refuse c) b = absurd b
     rows-joined (read r k z) b = absurd b

@@ -19,9 +19,9 @@ use Rattle.tape.specs.declared.rows.Row.{Row}
 use Rattle.tape.specs.declared.script.Reading.{Reading}
 use Rattle.tape.specs.Plan.{Cause, failed, ended, Plan, give, refuse, read, write, look, hold, handle, ◌then◌, fail, ensure}
 use Rattle.tape.specs.Plan.{until}
-use Rattle.tape.specs.Run.{State, After, noted, run, doesAt, Gave}
+use Rattle.tape.specs.Run.{State, After, noted, run, does_at, Gave}
 use Rattle.tape.proofs.Laws.{by_cases, run_out}
-use Rattle.tape.specs.Steps.{word, row, dataFrom, sendFrom}
+use Rattle.tape.specs.Steps.{word, row, data_from, send_from}
 use Rattle.tape.proofs.Room.{Written, Free, with_row, free}
 
 -- How far a plan comes in a script, given endless room: whether a reading finds no word, and the rows before that.
@@ -98,11 +98,11 @@ free-out s d (write r p) u h e = let ih = free-out s d p u (noted r h) e in (ih.
 free-out s d (look k) u h e = free-out s d (k h) u h e
 free-out s d (hold h' p) u h e = free-out s d p u h' e
 
-pub at-its-end : (s : List ℕ) {A : Type 0} (d : A) (p : Plan A) (u : ℕ) (h : Line) → u ≤ length s → Closed A (length s) (reach s p u h) (free s d p u h)
+pub at_its_end : (s : List ℕ) {A : Type 0} (d : A) (p : Plan A) (u : ℕ) (h : Line) → u ≤ length s → Closed A (length s) (reach s p u h) (free s d p u h)
 unfolding free reach
-at-its-end s d (give a) u h e = record { closing = []; rows = refl; late = no_row; all = λ c. cc }
-at-its-end s d (refuse x) u h e = record { closing = []; rows = refl; late = no_row; all = λ c. cc }
-at-its-end s {A} d (read r k z) u h e = by (dec_lt u (length s)) (at-its-end s d (k (get_or s u 0)) (u + 1) h) (free-out s d z u h)
+at_its_end s d (give a) u h e = record { closing = []; rows = refl; late = no_row; all = λ c. cc }
+at_its_end s d (refuse x) u h e = record { closing = []; rows = refl; late = no_row; all = λ c. cc }
+at_its_end s {A} d (read r k z) u h e = by (dec_lt u (length s)) (at_its_end s d (k (get_or s u 0)) (u + 1) h) (free-out s d z u h)
   where
     by : Dec (u < length s)
         → (u + 1 ≤ length s → Closed A (length s) (reach s (k (get_or s u 0)) (u + 1) h) (free s d (k (get_or s u 0)) (u + 1) h))
@@ -114,12 +114,12 @@ at-its-end s {A} d (read r k z) u h e = by (dec_lt u (length s)) (at-its-end s d
         let closed = out (omega arith) in
         rw (le-ltb u (length s) (omega arith))
         (record { closing = (free s d z u h).rows; rows = refl; late = late-at end closed.1; all = λ c. closed.0 ∙ end })
-at-its-end s d (write r p) u h e =
-    let ih = at-its-end s d p u (noted r h) e in
+at_its_end s d (write r p) u h e =
+    let ih = at_its_end s d p u (noted r h) e in
     let row : Written = record { row = r; used = u; line = h } in
     record { closing = ih.closing; rows = ap (λ (xs : List Written). row ∷ xs) ih.rows; late = ih.late; all = ih.all }
-at-its-end s d (look k) u h e = at-its-end s d (k h) u h e
-at-its-end s d (hold h' p) u h e = at-its-end s d p u h' e
+at_its_end s d (look k) u h e = at_its_end s d (k h) u h e
+at_its_end s d (hold h' p) u h e = at_its_end s d p u h' e
 
 -- so a call that finds no room among those rows has taken every word of its script (`run-full` says which row it is)
 pub late-row : (n : ℕ) (xs ys : List Written) (w : Written) (k : ℕ) → Late n ys → length xs ≤ k → k < length (xs ++ ys) → (get_or (xs ++ ys) k w).used ≡ n
@@ -149,10 +149,10 @@ run-within s d (hold h' p) u n h l e = run-within s d p u n h' l e
 
 pub within-script : {s : List ℕ} {A : Type 0} {d : A} {p : Plan A} {w : State} {v : A} {w' : State}
     → Gave s A d p w v w' → w.progress.used ≤ length s → w'.progress.used ≤ length s
-unfolding doesAt
+unfolding does_at
 within-script {s} {A} {d} {p} {w} {v} {w'} e h = rw (ap (λ (x : After A). x.state.progress.used) e.same) (by w.progress.pace)
   where
-    by : (q : Pace) → (doesAt s d q p w).state.progress.used ≤ length s
+    by : (q : Pace) → (does_at s d q p w).state.progress.used ≤ length s
     by Going = run-within s d p w.progress.used w.progress.rows w.progress.line w.list h
     by (Stopped x) = h
 
@@ -221,59 +221,59 @@ pub at-most-look : {n : ℕ} {A : Type 0} {k : Line → Plan A} → ((h : Line) 
 unfolding at_most
 at-most-look b = record { words = λ h. (b h).words }
 
-pub at-most-test : {n : ℕ} {A : Type 0} (b : Bool) {p q : Plan A} → AtMost n p → AtMost n q → AtMost n (cond b p q)
-at-most-test {n} {A} b {p} {q} = by_cases (AtMost n) b p q
+pub at_most_test : {n : ℕ} {A : Type 0} (b : Bool) {p q : Plan A} → AtMost n p → AtMost n q → AtMost n (cond b p q)
+at_most_test {n} {A} b {p} {q} = by_cases (AtMost n) b p q
 
 pub at-most-ensure : {n : ℕ} (b : Bool) (e : Error) → AtMost n (ensure b e)
 unfolding ensure
-at-most-ensure b e = at-most-test b at-most-give at-most-fail
+at-most-ensure b e = at_most_test b at-most-give at-most-fail
 
-pub at-most-then : {k : ℕ} (m n : ℕ) {A B : Type 0} {p : Plan A} {f : A → Plan B}
+pub at_most_then : {k : ℕ} (m n : ℕ) {A B : Type 0} {p : Plan A} {f : A → Plan B}
     → AtMost m p → ((a : A) → AtMost n (f a)) → m + n ≤ k → AtMost k (p then f)
-at-most-then m n b v h = at-most-handle m n refuse b v (λ e. at-most-fail) h
+at_most_then m n b v h = at-most-handle m n refuse b v (λ e. at-most-fail) h
 
 -- a step that takes none, and then the next
 pub at-most-after : {n : ℕ} {A B : Type 0} {p : Plan A} {f : A → Plan B} → AtMost 0 p → ((a : A) → AtMost n (f a)) → AtMost n (p then f)
-at-most-after {n} b v = at-most-then 0 n b v (omega arith)
+at-most-after {n} b v = at_most_then 0 n b v (omega arith)
 
 turns : (m limit : ℕ) {A : Type 0} (enough : A → Bool) {p : Plan A} → AtMost m p → AtMost (limit * m) (until limit enough p)
 unfolding until
 turns m zero enough b = at-most-fail
 turns m (suc n) enough b =
-    at-most-then m (n * m) b (λ v. at-most-test (enough v) at-most-give (turns m n enough b)) (rw suc-mul (omega arith))
+    at_most_then m (n * m) b (λ v. at_most_test (enough v) at-most-give (turns m n enough b)) (rw suc-mul (omega arith))
 
 pub at-most-until : (m limit : ℕ) {k : ℕ} {A : Type 0} (enough : A → Bool) {p : Plan A} → AtMost m p → limit * m ≤ k → AtMost k (until limit enough p)
 at-most-until m limit enough b h = at-most (turns m limit enough b) h
 
-pub at-most-data : (k n : ℕ) → AtMost n (dataFrom k n)
-unfolding dataFrom
-at-most-data k zero = at-most-give
-at-most-data k (suc n) = at-most-then 1 n (at-most-word _) (λ w. at-most-then n 0 (at-most-data (k + 1) n) (λ ws. at-most-give) (omega arith)) (omega arith)
+pub at_most_data : (k n : ℕ) → AtMost n (data_from k n)
+unfolding data_from
+at_most_data k zero = at-most-give
+at_most_data k (suc n) = at_most_then 1 n (at-most-word _) (λ w. at_most_then n 0 (at_most_data (k + 1) n) (λ ws. at-most-give) (omega arith)) (omega arith)
 
 -- rows take none
-pub at-most-send : (ws : List ℕ) (k n : ℕ) → AtMost 0 (sendFrom ws k n)
-unfolding sendFrom
-at-most-send ws k zero = at-most-give
-at-most-send ws k (suc n) = at-most-after (at-most-row _ _) (λ _. at-most-send ws (k + 1) n)
+pub at_most_send : (ws : List ℕ) (k n : ℕ) → AtMost 0 (send_from ws k n)
+unfolding send_from
+at_most_send ws k zero = at-most-give
+at_most_send ws k (suc n) = at-most-after (at-most-row _ _) (λ _. at_most_send ws (k + 1) n)
 
-abbrev pub isEnded : Pace → Bool
-isEnded Going = false
-isEnded (Stopped (Refused e)) = false
-isEnded (Stopped ScriptEnded) = true
-isEnded (Stopped TraceFull) = false
+abbrev pub is_ended : Pace → Bool
+is_ended Going = false
+is_ended (Stopped (Refused e)) = false
+is_ended (Stopped ScriptEnded) = true
+is_ended (Stopped TraceFull) = false
 
 -- At most so many words more; and where the script ended, all of its words.
 pub record Taken (n : ℕ) (s : List ℕ) (u : ℕ) (q : Pace) (u' : ℕ) : Type 0 where
   pub most : u' ≤ u + n
-  pub all : isEnded q ≡ true → u ≤ length s → u' ≡ length s
+  pub all : is_ended q ≡ true → u ≤ length s → u' ≡ length s
 
 abbrev TakenBy : {A : Type 0} → ℕ → List ℕ → ℕ → After A → Type 0
 TakenBy n s u x = Taken n s u x.state.progress.pace x.state.progress.used
 
-none-taken : (n : ℕ) (s : List ℕ) (u : ℕ) (q : Pace) → isEnded q ≡ false → Taken n s u q u
+none-taken : (n : ℕ) (s : List ℕ) (u : ℕ) (q : Pace) → is_ended q ≡ false → Taken n s u q u
 none-taken n s u q e = record { most = omega arith; all = λ e' h. absurd (apart e e') }
   where
-    apart : isEnded q ≡ false → isEnded q ≡ true → ⊥
+    apart : is_ended q ≡ false → is_ended q ≡ true → ⊥
     apart e e' = let z : ◌≡◌ {A = ℕ} 0 1 = cc in omega arith
 
 run-taken : (s : List ℕ) (n : ℕ) {A : Type 0} (d : A) (p : Plan A) (u m : ℕ) (h : Line) (l : List Row) → at_most n p → TakenBy n s u (run s d p u m h l)
@@ -298,7 +298,7 @@ run-taken s n d (hold h' p) u m h l b = run-taken s n d p u m h' l b
 pub taken : {s : List ℕ} {n : ℕ} {A : Type 0} {d : A} {p : Plan A} {w : State} {v : A} {w' : State}
     → w.progress.pace ≡ Going → AtMost n p → Gave s A d p w v w'
     → Taken n s w.progress.used w'.progress.pace w'.progress.used
-unfolding doesAt
+unfolding does_at
 taken {s} {n} {A} {d} {p} {w} {v} {w'} g b e =
     rw (← ap (λ (x : After A). x.state) (rw g at e.same))
     at (run-taken s n d p w.progress.used w.progress.rows w.progress.line w.list b.words)

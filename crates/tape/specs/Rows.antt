@@ -42,23 +42,23 @@ abbrev pub FIFO : ℕ
 FIFO = 12
 
 -- CLKCR = divisor field + 256 if enabled + 2048 if wide + 1024 and 16384 (flow control) if bypass
-abbrev pub clkcrOf : Clock → Bool → Bool → ℕ
-clkcrOf clock wide on = clock.divisor + cond on 256 0 + cond wide 2048 0 + cond clock.bypass (1024 + 16384) 0
+abbrev pub clkcr_of : Clock → Bool → Bool → ℕ
+clkcr_of clock wide on = clock.divisor + cond on 256 0 + cond wide 2048 0 + cond clock.bypass (1024 + 16384) 0
 
 -- a CLKCR value, its bit of 256 as asked
-abbrev pub clkenOf : ℕ → Bool → ℕ
-clkenOf value on = value / 512 * 512 + value % 256 + cond on 256 0
+abbrev pub clken_of : ℕ → Bool → ℕ
+clken_of value on = value / 512 * 512 + value % 256 + cond on 256 0
 
 -- the bits below it and above it are as they were
-pub clken-alone : (value : ℕ) (on : Bool)
-    → (clkenOf value on % 256 ≡ value % 256) × (clkenOf value on / 256 % 2 ≡ cond on 1 0) × (clkenOf value on / 512 ≡ value / 512)
-clken-alone value true = omega arith
-clken-alone value false = omega arith
+pub clken_alone : (value : ℕ) (on : Bool)
+    → (clken_of value on % 256 ≡ value % 256) × (clken_of value on / 256 % 2 ≡ cond on 1 0) × (clken_of value on / 512 ≡ value / 512)
+clken_alone value true = omega arith
+clken_alone value false = omega arith
 
 -- CMD = index + 64 * wait kind + 1024
-abbrev pub cmdOf : ℕ → ℕ → ℕ
-cmdOf index wait = index + 64 * wait + 1024
+abbrev pub cmd_of : ℕ → ℕ → ℕ
+cmd_of index wait = index + 64 * wait + 1024
 
 -- DCTRL = 9 + 2 if reading + 16 * block size
-abbrev pub dctrlOf : Bool → ℕ → ℕ
-dctrlOf reading size = 9 + cond reading 2 0 + 16 * size
+abbrev pub dctrl_of : Bool → ℕ → ℕ
+dctrl_of reading size = 9 + cond reading 2 0 + 16 * size

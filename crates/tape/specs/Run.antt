@@ -42,9 +42,9 @@ noted row line =
     }
 
 -- how a refused call has stopped
-abbrev pub haltOf : Cause → Halt
-haltOf (failed e) = Refused e
-haltOf ended = ScriptEnded
+abbrev pub halt_of : Cause → Halt
+halt_of (failed e) = Refused e
+halt_of ended = ScriptEnded
 
 -- a value, and d where a plan has stopped
 unfoldable pub kept_at : {A : Type 0} → A → A → Pace → A
@@ -52,9 +52,9 @@ kept_at d v Going = v
 kept_at d v (Stopped x) = d
 
 -- whether no more is to be tried: it has stopped, or this was enough
-unfoldable pub overAt : Pace → Bool → Bool
-overAt Going b = b
-overAt (Stopped x) b = true
+unfoldable pub over_at : Pace → Bool → Bool
+over_at Going b = b
+over_at (Stopped x) b = true
 
 -- a call stops once
 unfoldable pub stop_at : Pace → Halt → Pace
@@ -71,7 +71,7 @@ module _ (s : List ℕ) where
   -- goes on as it does then; where there is no room it stops as it is
   unfoldable pub run : {A : Type 0} → A → Plan A → ℕ → ℕ → Line → List Row → After A
   run d (give a) u n h l = after a Going u n h l
-  run d (refuse c) u n h l = after d (Stopped (haltOf c)) u n h l
+  run d (refuse c) u n h l = after d (Stopped (halt_of c)) u n h l
   run d (read r k z) u n h l =
       cond (ltb u (length s)) (run d (k (get_or s u 0)) (u + 1) n h l) (run d z u n h l)
   run d (write r p) u n h l =
@@ -83,12 +83,12 @@ module _ (s : List ℕ) where
   run_from d p w = run d p w.progress.used w.progress.rows w.progress.line w.list
 
   -- a call that has stopped is passed on as it is
-  unfoldable pub doesAt : {A : Type 0} → A → Pace → Plan A → State → After A
-  doesAt d Going p w = run_from d p w
-  doesAt d (Stopped x) p w = stopped d x w
+  unfoldable pub does_at : {A : Type 0} → A → Pace → Plan A → State → After A
+  does_at d Going p w = run_from d p w
+  does_at d (Stopped x) p w = stopped d x w
 
   abbrev pub does : {A : Type 0} → A → Plan A → State → After A
-  does d p w = doesAt d w.progress.pace p w
+  does d p w = does_at d w.progress.pace p w
 
   -- how f and g go on from where a plan has come: f of what it gave, g of why it was refused
   unfoldable pub next_at : {A B : Type 0} → B → (A → Plan B) → (Cause → Plan B) → A → Pace → State → After B

@@ -7,7 +7,7 @@ use Rattle.tape.specs.declared.progress.Line.{Line}
 use Rattle.tape.specs.declared.script.Reading.{Reading}
 use Rattle.tape.specs.declared.script.Reading.TheVariants.{Status, Data}
 use Rattle.tape.specs.Plan.{Nothing, Plan, ended, give, refuse, read, write, look, hold, ◌then◌, until}
-use Rattle.tape.specs.Rows.{POWER, CLKCR, ARG, CMD, DTIMER, DLEN, DCTRL, ICR, MASK, DCTRL2, FIFO, clkenOf}
+use Rattle.tape.specs.Rows.{POWER, CLKCR, ARG, CMD, DTIMER, DLEN, DCTRL, ICR, MASK, DCTRL2, FIFO, clken_of}
 
 -- one word
 unfoldable pub word : Reading → Plan ℕ
@@ -21,29 +21,29 @@ row register value = write (record { register = register; value = value }) (give
 abbrev pub holding : (Line → Line) → Plan Nothing
 holding f = look (λ line. hold (f line) (give tt))
 
-unfoldable pub holdGated : Bool → Plan Nothing
-holdGated gated =
+unfoldable pub hold_gated : Bool → Plan Nothing
+hold_gated gated =
     holding (λ line. record { clkcr = line.clkcr; gated = gated; clock = line.clock; signalling = line.signalling })
 
-unfoldable pub holdClock : Hertz → Plan Nothing
-holdClock clock =
+unfoldable pub hold_clock : Hertz → Plan Nothing
+hold_clock clock =
     holding (λ line. record { clkcr = line.clkcr; gated = line.gated; clock = clock; signalling = line.signalling })
 
-unfoldable pub holdSignalling : Signalling → Plan Nothing
-holdSignalling signalling =
+unfoldable pub hold_signalling : Signalling → Plan Nothing
+hold_signalling signalling =
     holding (λ line. record { clkcr = line.clkcr; gated = line.gated; clock = line.clock; signalling = signalling })
 
 -- Idle wait: at most `limit` status words; idle when status has no bit of 0x800, or of 0x3800 before a data phase or a
 -- clock change
-abbrev pub idleMask : Bool → ℕ
-idleMask transfer = cond transfer 0x3800 0x800
+abbrev pub idle_mask : Bool → ℕ
+idle_mask transfer = cond transfer 0x3800 0x800
 
-unfoldable pub waitIdle : ℕ → Bool → Plan Nothing
-waitIdle limit transfer = until limit (clear (idleMask transfer)) (word Status) then λ _. give tt
+unfoldable pub wait_idle : ℕ → Bool → Plan Nothing
+wait_idle limit transfer = until limit (clear (idle_mask transfer)) (word Status) then λ _. give tt
 
 -- Reset rows, in order
-unfoldable pub resetController : Plan Nothing
-resetController =
+unfoldable pub reset_controller : Plan Nothing
+reset_controller =
     row MASK 0
     then λ _. row DCTRL2 0
     then λ _. row DCTRL 0
@@ -56,25 +56,25 @@ resetController =
     then λ _. row ICR 0x00c0_07ff
 
 -- stop rows
-unfoldable pub stopData : Plan Nothing
-stopData = row MASK 0 then λ _. row DCTRL 0 then λ _. row ICR 0x73a
+unfoldable pub stop_data : Plan Nothing
+stop_data = row MASK 0 then λ _. row DCTRL 0 then λ _. row ICR 0x73a
 
 -- CLKCR as it was last written, on or off
-unfoldable pub setClken : Bool → Plan Nothing
-setClken on = look (λ line. row CLKCR (clkenOf line.clkcr on))
+unfoldable pub set_clken : Bool → Plan Nothing
+set_clken on = look (λ line. row CLKCR (clken_of line.clkcr on))
 
 -- n data words, one after the other, of which k came before
-unfoldable pub dataFrom : ℕ → ℕ → Plan (List ℕ)
-dataFrom k zero = give []
-dataFrom k (suc n) = word (Data k) then λ w. dataFrom (k + 1) n then λ ws. give (w ∷ ws)
+unfoldable pub data_from : ℕ → ℕ → Plan (List ℕ)
+data_from k zero = give []
+data_from k (suc n) = word (Data k) then λ w. data_from (k + 1) n then λ ws. give (w ∷ ws)
 
-abbrev pub dataWords : ℕ → Plan (List ℕ)
-dataWords n = dataFrom 0 n
+abbrev pub data_words : ℕ → Plan (List ℕ)
+data_words n = data_from 0 n
 
 -- n words of ws from place k on, one after the other, each a row of FIFO
-unfoldable pub sendFrom : List ℕ → ℕ → ℕ → Plan Nothing
-sendFrom ws k zero = give tt
-sendFrom ws k (suc n) = row FIFO (get_or ws k 0) then λ _. sendFrom ws (k + 1) n
+unfoldable pub send_from : List ℕ → ℕ → ℕ → Plan Nothing
+send_from ws k zero = give tt
+send_from ws k (suc n) = row FIFO (get_or ws k 0) then λ _. send_from ws (k + 1) n
 
-abbrev pub sendWords : List ℕ → ℕ → Plan Nothing
-sendWords ws n = sendFrom ws 0 n
+abbrev pub send_words : List ℕ → ℕ → Plan Nothing
+send_words ws n = send_from ws 0 n

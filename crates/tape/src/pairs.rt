@@ -1,6 +1,6 @@
 // Rows for those who keep them in 32-bit words: two words a row, register and value.
 ghost use Rattle.std.specs.Prelude.{◌≡◌, cond, ◌*◌, ◌≤◌, length};
-ghost use Rattle.tape.specs.Layout.{rowsIn, pairsOver, tooShort};
+ghost use Rattle.tape.specs.Layout.{rows_in, pairs_over, too_short};
 
 use crate::rows::Row;
 use types::error::Answer;
@@ -9,7 +9,7 @@ use types::error::Answer;
 fn lay(rows: &[u64], count: usize, target: &mut [u32])
     requires count_in_bounds { count ≤ length rows.now }
     requires count_in_bounds_2 { 2 * count ≤ length target.old }
-    ensures { target.new ≡ pairsOver count (rowsIn rows.now) target.old }
+    ensures { target.new ≡ pairs_over count (rows_in rows.now) target.old }
 {
     let mut k = 0;
     while k < count {
@@ -23,8 +23,8 @@ fn lay(rows: &[u64], count: usize, target: &mut [u32])
 // The first `count` rows of a list into a list of 32-bit words, of which those past the rows stay. Refused, before a word of it is
 // written, where there are fewer rows, or it has fewer than two words for each.
 pub fn convert(rows: &[u64], count: usize, target: &mut [u32]) -> Answer
-    ensures answered { result ≡ cond (tooShort count (rowsIn rows.now) target.old) Answer.TraceFull Answer.Accepted }
-    ensures laid { target.new ≡ cond (tooShort count (rowsIn rows.now) target.old) target.old (pairsOver count (rowsIn rows.now) target.old) }
+    ensures answered { result ≡ cond (too_short count (rows_in rows.now) target.old) Answer.TraceFull Answer.Accepted }
+    ensures laid { target.new ≡ cond (too_short count (rows_in rows.now) target.old) target.old (pairs_over count (rows_in rows.now) target.old) }
 {
     if rows.len() < count {
         return Answer::TraceFull;

@@ -1,7 +1,7 @@
 // How far a call has come, and why it stopped.
 ghost use Rattle.std.specs.Prelude.{◌≡◌, List, Bool, false, ℕ, ◌+◌, ◌^◌, ◌<◌};
 ghost use Rattle.tape.specs.Plan.{give, hold, fail, ensure};
-ghost use Rattle.tape.specs.Run.{at, noted, overAt, stop_at, Did, Gave};
+ghost use Rattle.tape.specs.Run.{at, noted, over_at, stop_at, Did, Gave};
 
 use crate::rows::Row;
 use types::card::Signalling;
@@ -124,7 +124,7 @@ impl Progress {
 
     // Whether a loop ends here: the call has stopped, or this was enough.
     pub fn over(self, enough: bool) -> bool
-        ensures { result ≡ overAt self.pace enough }
+        ensures { result ≡ over_at self.pace enough }
     {
         let pace = self.pace;
         match pace {

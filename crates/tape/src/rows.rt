@@ -1,7 +1,7 @@
 // The row list, and how rows are packed.
 ghost use Rattle.std.specs.Prelude.{◌≡◌, List, cond, ℕ, ◌≤◌};
-ghost use Rattle.tape.specs.Layout.{word_of, row_of, rowsIn};
-ghost use Rattle.tape.specs.Rows.{clkenOf, clkcrOf, cmdOf, dctrlOf};
+ghost use Rattle.tape.specs.Layout.{word_of, row_of, rows_in};
+ghost use Rattle.tape.specs.Rows.{clken_of, clkcr_of, cmd_of, dctrl_of};
 ghost use Rattle.tape.specs.Run.{at, Did};
 ghost use Rattle.tape.specs.Steps.{row};
 
@@ -114,7 +114,7 @@ impl DataControl {
 
 // Writes one row.
 pub fn write_row(p: Progress, rows: &mut [u64], register: u32, value: u32) -> Progress
-    ensures { (s : List ℕ) → Did s (row register value) (at p (rowsIn rows.old)) (at result (rowsIn rows.new)) }
+    ensures { (s : List ℕ) → Did s (row register value) (at p (rows_in rows.old)) (at result (rows_in rows.new)) }
 {
     let pace = p.pace;
     let line = p.line;
@@ -149,7 +149,7 @@ fn flag(on: bool, bits: u32) -> u32
 
 // A CLKCR value with its bit 8 as asked, the others as they are.
 pub fn with_clken(value: u32, on: bool) -> u32
-    ensures { result ≡ clkenOf value on }
+    ensures { result ≡ clken_of value on }
 {
     value / ClockControl::ABOVE * ClockControl::ABOVE
         + value % ClockControl::ENABLED
@@ -159,7 +159,7 @@ pub fn with_clken(value: u32, on: bool) -> u32
 // CLKCR: the divisor's field, and bits for the clock's being on, for four data lines, and for the bypass, which needs
 // flow control.
 pub fn clkcr(clock: Clock, wide: bool, on: bool) -> u32
-    ensures { result ≡ clkcrOf clock wide on }
+    ensures { result ≡ clkcr_of clock wide on }
 {
     clock.divisor as u32
         + flag(on, ClockControl::ENABLED)
@@ -172,14 +172,14 @@ pub fn clkcr(clock: Clock, wide: bool, on: bool) -> u32
 
 // CMD: the command's index, and how it waits for its response.
 pub fn cmd(index: u8, wait: u8) -> u32
-    ensures { result ≡ cmdOf index wait }
+    ensures { result ≡ cmd_of index wait }
 {
     index as u32 + CommandControl::WAIT * wait as u32 + CommandControl::ENABLED
 }
 
 // DCTRL: the data path and its DMA on, the direction, and the block size as a power of two.
 pub fn dctrl(reading: bool, block_size: u8) -> u32
-    ensures { result ≡ dctrlOf reading block_size }
+    ensures { result ≡ dctrl_of reading block_size }
 {
     DataControl::ENABLED
         + DataControl::DMA

@@ -4,7 +4,7 @@ ghost use Rattle.types.specs.Bits.{clear};
 ghost use Rattle.tape.specs.Plan.{give};
 ghost use Rattle.tape.specs.Polls.{leading};
 ghost use Rattle.tape.specs.Run.{at, Behind, Gave, Lies};
-ghost use Rattle.tape.specs.Steps.{word, dataWords};
+ghost use Rattle.tape.specs.Steps.{word, data_words};
 
 use crate::progress::{Halt, Pace, Progress, Word};
 use crate::rows::Row;
@@ -160,7 +160,7 @@ pub fn quiet(words: &[u32], limit: u32, done: u32, wrong: u32) -> usize
 // and it takes no longer for many than for one.
 pub fn take_data(p: Progress, rest: &[u32], start: usize, count: usize) -> Data
     requires { (start ≤ p.used) × (start + length rest.now < 2 ^ 64) }
-    ensures took { (s : List ℕ) (l : List Row) → Behind start rest.now s → Gave s (List ℕ) [] (dataWords count) (at p l) (take result.count (drop result.place s)) (at result.progress l) }
+    ensures took { (s : List ℕ) (l : List Row) → Behind start rest.now s → Gave s (List ℕ) [] (data_words count) (at p l) (take result.count (drop result.place s)) (at result.progress l) }
     ensures lie { Lies p.used count result }
 {
     let pace = p.pace;

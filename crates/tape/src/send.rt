@@ -1,9 +1,9 @@
 // The words of a write: each is a row of FIFO, in order.
 ghost use Rattle.std.specs.Prelude.{List, ℕ, ◌+◌, ◌*◌, ◌-◌, ◌/◌, ◌≤◌, ◌≡◌, length};
 ghost use Rattle.types.specs.Words.{words_of};
-ghost use Rattle.tape.specs.Layout.{rowsIn, sentOver};
+ghost use Rattle.tape.specs.Layout.{rows_in, sent_over};
 ghost use Rattle.tape.specs.Run.{at, Did};
-ghost use Rattle.tape.specs.Steps.{sendWords};
+ghost use Rattle.tape.specs.Steps.{send_words};
 
 use crate::progress::{Halt, Pace, Progress};
 use crate::rows::Row;
@@ -13,7 +13,7 @@ use types::words;
 fn lay(rows: &mut [u64], place: usize, bytes: &[u8], count: usize)
     requires count_in_bounds { count ≤ length rows.old - place }
     requires count_in_bounds_2 { 4 * count ≤ length bytes.now }
-    ensures { rowsIn rows.new ≡ sentOver (words_of bytes.now) 0 count place (rowsIn rows.old) }
+    ensures { rows_in rows.new ≡ sent_over (words_of bytes.now) 0 count place (rows_in rows.old) }
 {
     let mut i = 0;
     while i < count {
@@ -39,7 +39,7 @@ fn room(rows: &[u64], written: usize) -> usize
 
 // Sends the words of these bytes, as many as there is room for. A loop over plain words, since a write may have 65,408 of them.
 fn send_block(p: Progress, rows: &mut [u64], bytes: &[u8]) -> Progress
-    ensures { (s : List ℕ) → Did s (sendWords (words_of bytes.now) (length bytes.now / 4)) (at p (rowsIn rows.old)) (at result (rowsIn rows.new)) }
+    ensures { (s : List ℕ) → Did s (send_words (words_of bytes.now) (length bytes.now / 4)) (at p (rows_in rows.old)) (at result (rows_in rows.new)) }
 {
     let pace = p.pace;
     let line = p.line;
@@ -69,7 +69,7 @@ fn send_block(p: Progress, rows: &mut [u64], bytes: &[u8]) -> Progress
 
 // Sends the words of the data, block after block.
 pub fn send_data(p: Progress, rows: &mut [u64], data: &[u8]) -> Progress
-    ensures { (s : List ℕ) → Did s (sendWords (words_of «data».now) (128 * (length «data».now / 512))) (at p (rowsIn rows.old)) (at result (rowsIn rows.new)) }
+    ensures { (s : List ℕ) → Did s (send_words (words_of «data».now) (128 * (length «data».now / 512))) (at p (rows_in rows.old)) (at result (rows_in rows.new)) }
 {
     let blocks = data.len() / 512;
     let mut sent = p;

@@ -1,9 +1,9 @@
 // The driver's smallest steps: idle wait, reset rows, stop rows, the card clock, the guard.
 ghost use Rattle.std.specs.Prelude.{◌≡◌, List, ℕ, ◌+◌, ◌^◌, ◌<◌, length};
-ghost use Rattle.tape.specs.Layout.{rowsIn};
+ghost use Rattle.tape.specs.Layout.{rows_in};
 ghost use Rattle.tape.specs.Plan.{Nothing, give, refusing};
 ghost use Rattle.tape.specs.Run.{at, Behind, Did, Settled};
-ghost use Rattle.tape.specs.Steps.{holdGated, holdClock, holdSignalling, idleMask, waitIdle, resetController, stopData, setClken};
+ghost use Rattle.tape.specs.Steps.{hold_gated, hold_clock, hold_signalling, idle_mask, wait_idle, reset_controller, stop_data, set_clken};
 
 use crate::progress::{Halt, Line, Pace, Progress};
 use crate::rows::{Icr, Row};
@@ -15,7 +15,7 @@ use types::error::Error;
 
 // What has to end before a command, or before a data phase or a clock change.
 fn idle_mask(data: bool) -> u32
-    ensures { result ≡ idleMask «data» }
+    ensures { result ≡ idle_mask «data» }
 {
     if data { Sta::BUSY } else { Sta::COMMAND }
 }
@@ -23,7 +23,7 @@ fn idle_mask(data: bool) -> u32
 // Polls the status, at most `limit` times, until the controller is idle. `rest` is what is left of the script.
 pub fn wait_idle(p: Progress, rest: &[u32], limit: u32, data: bool) -> Progress
     requires { p.used + length rest.now < 2 ^ 64 }
-    ensures { (s : List ℕ) (l : List Row) → Behind p.used rest.now s → Did s (waitIdle limit «data») (at p l) (at result l) }
+    ensures { (s : List ℕ) (l : List Row) → Behind p.used rest.now s → Did s (wait_idle limit «data») (at p l) (at result l) }
 {
     let pace = p.pace;
     let start = p.used;
@@ -41,7 +41,7 @@ pub fn wait_idle(p: Progress, rest: &[u32], limit: u32, data: bool) -> Progress
 
 // The reset rows.
 pub fn reset_controller(p: Progress, rows: &mut [u64]) -> Progress
-    ensures { (s : List ℕ) → Did s resetController (at p (rowsIn rows.old)) (at result (rowsIn rows.new)) }
+    ensures { (s : List ℕ) → Did s reset_controller (at p (rows_in rows.old)) (at result (rows_in rows.new)) }
 {
     let mask = rows::write_row(p, rows, Row::MASK, 0);
     let dctrl2 = rows::write_row(mask, rows, Row::DCTRL2, 0);
@@ -57,7 +57,7 @@ pub fn reset_controller(p: Progress, rows: &mut [u64]) -> Progress
 
 // The stop rows.
 pub fn stop_data(p: Progress, rows: &mut [u64]) -> Progress
-    ensures { (s : List ℕ) → Did s stopData (at p (rowsIn rows.old)) (at result (rowsIn rows.new)) }
+    ensures { (s : List ℕ) → Did s stop_data (at p (rows_in rows.old)) (at result (rows_in rows.new)) }
 {
     let mask = rows::write_row(p, rows, Row::MASK, 0);
     let dctrl = rows::write_row(mask, rows, Row::DCTRL, 0);
@@ -66,7 +66,7 @@ pub fn stop_data(p: Progress, rows: &mut [u64]) -> Progress
 
 // Opens or closes the card clock: CLKCR as it was last written, on or off.
 pub fn set_clken(p: Progress, rows: &mut [u64], on: bool) -> Progress
-    ensures { (s : List ℕ) → Did s (setClken on) (at p (rowsIn rows.old)) (at result (rowsIn rows.new)) }
+    ensures { (s : List ℕ) → Did s (set_clken on) (at p (rows_in rows.old)) (at result (rows_in rows.new)) }
 {
     let value = rows::with_clken(p.line.clkcr, on);
     rows::write_row(p, rows, Row::CLKCR, value)
@@ -74,7 +74,7 @@ pub fn set_clken(p: Progress, rows: &mut [u64], on: bool) -> Progress
 
 // What a guard makes of a call: the reset rows, and the stop once more, unless there is no room.
 pub fn close(p: Progress, rows: &mut [u64]) -> Progress
-    ensures { (s : List ℕ) → Settled s Nothing Nothing tt give (refusing resetController) tt (at p (rowsIn rows.old)) tt (at result (rowsIn rows.new)) }
+    ensures { (s : List ℕ) → Settled s Nothing Nothing tt give (refusing reset_controller) tt (at p (rows_in rows.old)) tt (at result (rows_in rows.new)) }
 {
     let pace = p.pace;
     match pace {
@@ -91,7 +91,7 @@ pub fn close(p: Progress, rows: &mut [u64]) -> Progress
 
 // The host is gated from here on, or is not: its clock runs only around a command or a data phase.
 pub fn hold_gated(p: Progress, gated: bool) -> Progress
-    ensures { (s : List ℕ) (l : List Row) → Did s (holdGated gated) (at p l) (at result l) }
+    ensures { (s : List ℕ) (l : List Row) → Did s (hold_gated gated) (at p l) (at result l) }
 {
     let mut line = p.line;
     line.gated = gated;
@@ -100,7 +100,7 @@ pub fn hold_gated(p: Progress, gated: bool) -> Progress
 
 // The card clock's frequency from here on.
 pub fn hold_clock(p: Progress, clock: Hertz) -> Progress
-    ensures { (s : List ℕ) (l : List Row) → Did s (holdClock clock) (at p l) (at result l) }
+    ensures { (s : List ℕ) (l : List Row) → Did s (hold_clock clock) (at p l) (at result l) }
 {
     let mut line = p.line;
     line.clock = clock;
@@ -109,7 +109,7 @@ pub fn hold_clock(p: Progress, clock: Hertz) -> Progress
 
 // The signalling from here on.
 pub fn hold_signalling(p: Progress, signalling: Signalling) -> Progress
-    ensures { (s : List ℕ) (l : List Row) → Did s (holdSignalling signalling) (at p l) (at result l) }
+    ensures { (s : List ℕ) (l : List Row) → Did s (hold_signalling signalling) (at p l) (at result l) }
 {
     let line = p.line;
     let clock = line.clock;

@@ -1,19 +1,19 @@
 // A book told event by event on standard output, its calls taken one answer at a time.
 ghost use Rattle.std.specs.Prelude.{◌≡◌, [], false, ◌+◌, ◌*◌, ◌≤◌, ◌<◌, min, length, take, replicate};
-ghost use Rattle.tape.specs.Layout.{rowsIn};
+ghost use Rattle.tape.specs.Layout.{rows_in};
 ghost use Rattle.text.specs.Ink.{inked};
-ghost use Rattle.host.specs.Calls.{calledOf};
+ghost use Rattle.host.specs.Calls.{called_of};
 ghost use Rattle.calls.specs.Serve.{comes};
 ghost use Rattle.step.specs.Next.{Lent};
 ghost use Rattle.underway.specs.Under.{under};
-ghost use Rattle.feed.specs.Turns.{lent, way_of, starts, fedFrom, calledAt};
+ghost use Rattle.feed.specs.Turns.{lent, way_of, starts, fed_from, called_at};
 ghost use Rattle.types.specs.Words.{words_of};
-ghost use Rattle.book.specs.Readers.{askedAt, callAsked, opened_of};
+ghost use Rattle.book.specs.Readers.{asked_at, call_asked, opened_of};
 ghost use Rattle.bench.specs.Bench.{asking};
-ghost use Rattle.bench.specs.Trace.{bytes_at, placeAfter, call_at};
+ghost use Rattle.bench.specs.Trace.{bytes_at, place_after, call_at};
 ghost use Rattle.sheet.specs.Sheet.{Fits};
 ghost use Rattle.tracing.specs.Traced.{start_of, calls_of};
-ghost use Rattle.telling.specs.Told.{Tellings, leaf, evented, eventsOf, begun, begins, endsOn, callOut};
+ghost use Rattle.telling.specs.Told.{Tellings, leaf, evented, events_of, begun, begins, ends_on, call_out};
 
 use bench::{serve, trace};
 use book::layout;
@@ -82,7 +82,7 @@ fn tell_event(sheet: Sheet, event: Event, out: &mut [u8]) -> Sheet
 
 // A call whose last turn this was.
 fn ended(feeding: Feeding, sheet: Sheet) -> Told
-    ensures called { (g : Lent) → result.called ≡ calledAt (way_of g feeding) }
+    ensures called { (g : Lent) → result.called ≡ called_at (way_of g feeding) }
     ensures sheet { result.sheet ≡ sheet }
 {
     Told {
@@ -102,9 +102,9 @@ fn take_turns(
     out: &mut [u8],
 ) -> Told
     requires { Fits sheet out.old }
-    ensures answered { result.called ≡ calledOf (fedFrom script.now (starts (under (lent (words_of «data».now) []) call)) (rowsIn rows.old)) }
+    ensures answered { result.called ≡ called_of (fed_from script.now (starts (under (lent (words_of «data».now) []) call)) (rows_in rows.old)) }
     ensures fits { Fits result.sheet out.new }
-    ensures told { leaf result.sheet.at out.new ≡ eventsOf script.now (starts (under (lent (words_of «data».now) []) call)) (rowsIn rows.old) (leaf sheet.at out.old) }
+    ensures told { leaf result.sheet.at out.new ≡ events_of script.now (starts (under (lent (words_of «data».now) []) call)) (rows_in rows.old) (leaf sheet.at out.old) }
 {
     let mut feeding = Feeding::begin(call);
     let mut page = sheet;
@@ -131,9 +131,9 @@ fn tell_events(
     out: &mut [u8],
 ) -> Told
     requires { Fits sheet out.old }
-    ensures answered { result.called ≡ calledOf (comes host (asking (rowsIn rows.old) buffer.old words.now asked)) }
+    ensures answered { result.called ≡ called_of (comes host (asking (rows_in rows.old) buffer.old words.now asked)) }
     ensures fits { Fits result.sheet out.new }
-    ensures told { leaf result.sheet.at out.new ≡ eventsOf (callAsked words.now asked).script (starts (begins host words.now asked buffer.old)) (rowsIn rows.old) (leaf sheet.at out.old) }
+    ensures told { leaf result.sheet.at out.new ≡ events_of (call_asked words.now asked).script (starts (begins host words.now asked buffer.old)) (rows_in rows.old) (leaf sheet.at out.old) }
 {
     let bytes = buffer.len();
     let script = serve::script_of(words, asked);
@@ -144,7 +144,7 @@ fn tell_events(
 // The last two lines of a call; then the sheet is handed over.
 fn tell_end(told: Told, number: u32, kind: u32, out: &mut [u8]) -> Sheet
     requires { Fits told.sheet out.old }
-    ensures { out.new ≡ (endsOn number kind told.called (leaf told.sheet.at out.old)).out }
+    ensures { out.new ≡ (ends_on number kind told.called (leaf told.sheet.at out.old)).out }
 {
     let called = told.called;
     let next = called.host;
@@ -164,9 +164,9 @@ fn tell_exact(
     out: &mut [u8],
 ) -> Place
     requires { 512 ≤ length out.old }
-    ensures served { result.host ≡ (comes host (asking (rowsIn rows.old) buffer.old words.now asked)).host }
+    ensures served { result.host ≡ (comes host (asking (rows_in rows.old) buffer.old words.now asked)).host }
     ensures passed { result.body_at ≡ min (asked.body_at + asked.body_len) (length words.now) }
-    ensures told { out.new ≡ callOut number host words.now asked buffer.old (rowsIn rows.old) out.old }
+    ensures told { out.new ≡ call_out number host words.now asked buffer.old (rows_in rows.old) out.old }
 {
     let blank = Sheet {
         at: 0,
@@ -196,9 +196,9 @@ fn tell_in(
     out: &mut [u8],
 ) -> Place
     requires { (4096 ≤ length list.old) × (8192 ≤ length buffer.old) × (512 ≤ length out.old) }
-    ensures served { result.host ≡ (comes host (asking (rowsIn (take (min room 4096) list.old)) (take (bytes_at words.now k body_at) buffer.old) words.now (askedAt words.now k body_at))).host }
-    ensures passed { result.body_at ≡ placeAfter words.now k body_at }
-    ensures told { out.new ≡ callOut (k + 1) host words.now (askedAt words.now k body_at) (take (bytes_at words.now k body_at) buffer.old) (rowsIn (take (min room 4096) list.old)) out.old }
+    ensures served { result.host ≡ (comes host (asking (rows_in (take (min room 4096) list.old)) (take (bytes_at words.now k body_at) buffer.old) words.now (asked_at words.now k body_at))).host }
+    ensures passed { result.body_at ≡ place_after words.now k body_at }
+    ensures told { out.new ≡ call_out (k + 1) host words.now (asked_at words.now k body_at) (take (bytes_at words.now k body_at) buffer.old) (rows_in (take (min room 4096) list.old)) out.old }
 {
     let asked = layout::call_at(words, k as u32, body_at);
     let rows = pen::least(room, 4096);
@@ -225,8 +225,8 @@ fn tell_call(
 ) -> Place
     requires { 512 ≤ length out.old }
     ensures served { result.host ≡ (comes host (call_at words.now k body_at room)).host }
-    ensures passed { result.body_at ≡ placeAfter words.now k body_at }
-    ensures told { out.new ≡ callOut (k + 1) host words.now (askedAt words.now k body_at) (replicate (bytes_at words.now k body_at) 0) (rowsIn (replicate (min room 4096) 0)) out.old }
+    ensures passed { result.body_at ≡ place_after words.now k body_at }
+    ensures told { out.new ≡ call_out (k + 1) host words.now (asked_at words.now k body_at) (replicate (bytes_at words.now k body_at) 0) (rows_in (replicate (min room 4096) 0)) out.old }
 {
     let mut list = [0u64; 4096];
     let mut buffer = [0u8; 8192];

@@ -1,19 +1,19 @@
 -- Numbers as text, computed from the definitions.
 use Rattle.std.specs.Prelude.{[], ◌∷◌, ◌≡◌, refl}
-use Rattle.text.specs.Digits.{decimalIn, decimalOf, hexOf}
+use Rattle.text.specs.Digits.{decimal_in, decimal_of, hex_of}
 use Rattle.text.specs.Ink.{inked, next}
 
-zero : decimalOf 0 ≡ 48 ∷ []
-unfolding decimalIn decimalOf
+zero : decimal_of 0 ≡ 48 ∷ []
+unfolding decimal_in decimal_of
 zero = refl
 
-block : decimalOf 512 ≡ 53 ∷ 49 ∷ 50 ∷ []
-unfolding decimalIn decimalOf
+block : decimal_of 512 ≡ 53 ∷ 49 ∷ 50 ∷ []
+unfolding decimal_in decimal_of
 block = refl
 
 -- 00c007ff
-mask : hexOf 8 0xc007ff ≡ 48 ∷ 48 ∷ 99 ∷ 48 ∷ 48 ∷ 55 ∷ 102 ∷ 102 ∷ []
-unfolding hexOf
+mask : hex_of 8 0xc007ff ≡ 48 ∷ 48 ∷ 99 ∷ 48 ∷ 48 ∷ 55 ∷ 102 ∷ 102 ∷ []
+unfolding hex_of
 mask = refl
 
 -- 17 into four bytes from the third on: all of it; 256: its first two digits

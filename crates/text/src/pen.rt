@@ -1,7 +1,7 @@
 // The pen: each function lays text into the buffer from a place on, and gives the next place.
 ghost use Rattle.std.specs.Prelude.{◌≡◌, [], ◌∷◌, min, ◌<◌};
 ghost use Rattle.text.specs.Ink.{Laid};
-ghost use Rattle.text.specs.Digits.{decimalOf, hexDigit, hexOf};
+ghost use Rattle.text.specs.Digits.{decimal_of, hex_digit, hex_of};
 
 pub fn least(a: usize, b: usize) -> usize
     ensures { result ≡ min a b }
@@ -33,7 +33,7 @@ pub fn put(buffer: &mut [u8], at: usize, text: &[u8]) -> usize
 
 // A number in decimal, without leading zeros.
 pub fn put_decimal(buffer: &mut [u8], at: usize, n: u64) -> usize
-    ensures { Laid at (decimalOf n) buffer.old result buffer.new }
+    ensures { Laid at (decimal_of n) buffer.old result buffer.new }
 {
     let digit = 48 + (n % 10) as u8;
     if n < 10 {
@@ -45,14 +45,14 @@ pub fn put_decimal(buffer: &mut [u8], at: usize, n: u64) -> usize
 
 fn hex_digit(n: u8) -> u8
     requires { n < 16 }
-    ensures { result ≡ hexDigit n }
+    ensures { result ≡ hex_digit n }
 {
     if n < 10 { 48 + n } else { 87 + n }
 }
 
 // The low digits of a number in hexadecimal, lower case, exactly so many.
 pub fn put_hex(buffer: &mut [u8], at: usize, digits: u8, n: u64) -> usize
-    ensures { Laid at (hexOf digits n) buffer.old result buffer.new }
+    ensures { Laid at (hex_of digits n) buffer.old result buffer.new }
 {
     if digits == 0 {
         return least(at, buffer.len());

@@ -17,27 +17,27 @@ use Rattle.types.proofs.Back.{length-words}
 use Rattle.book.proofs.Opening.{opened_some}
 use Rattle.bench.specs.declared.trace.Opening.{Opening}
 use Rattle.bench.specs.Opens.{OpensAs, head_of}
-use Rattle.bench.specs.Trace.{bytes_at, placeAfter, call_at, callText}
-use Rattle.bench.proofs.Opens.{words-lie}
-use Rattle.tracing.specs.Traced.{Point, stepped, afterCalls, Traces, start_of, calls_of}
+use Rattle.bench.specs.Trace.{bytes_at, place_after, call_at, call_text}
+use Rattle.bench.proofs.Opens.{words_lie}
+use Rattle.tracing.specs.Traced.{Point, stepped, after_calls, Traces, start_of, calls_of}
 
 -- after k calls
 pub record Stands (ws : List ℕ) (room : ℕ) (start : Point) (k : ℕ) (host : Sdmmc) (place : ℕ) (out : List ℕ) : Type 0 where
-  pub hosted : host ≡ (afterCalls ws room start k).host
-  pub placed : place ≡ (afterCalls ws room start k).place
-  pub laid : out ≡ (afterCalls ws room start k).out
+  pub hosted : host ≡ (after_calls ws room start k).host
+  pub placed : place ≡ (after_calls ws room start k).place
+  pub laid : out ≡ (after_calls ws room start k).out
 
 pub first : (ws : List ℕ) (room : ℕ) (start : Point) → Stands ws room start 0 start.host start.place start.out
-unfolding afterCalls
+unfolding after_calls
 first ws room start = record { hosted = refl; placed = refl; laid = refl }
 
 -- and after one more
 pub one_more : (ws : List ℕ) (room : ℕ) (start : Point) (k : ℕ) (host host' : Sdmmc) (place place' at : ℕ) (out out' : List ℕ) → Stands ws room start k host place out
-    → host' ≡ (comes host (call_at ws k place room)).host → place' ≡ placeAfter ws k place
-    → Laid 0 (callText (k + 1) host (bytes_at ws k place) (call_at ws k place room)) out at out' → Stands ws room start (k + 1) host' place' out'
-unfolding afterCalls
+    → host' ≡ (comes host (call_at ws k place room)).host → place' ≡ place_after ws k place
+    → Laid 0 (call_text (k + 1) host (bytes_at ws k place) (call_at ws k place room)) out at out' → Stands ws room start (k + 1) host' place' out'
+unfolding after_calls
 one_more ws room start k host host' place place' at out out' s h p l =
-    let was : record { host = host; place = place; out = out } ≡ afterCalls ws room start k = λ i. record { host = s.hosted i; place = s.placed i; out = s.laid i } in
+    let was : record { host = host; place = place; out = out } ≡ after_calls ws room start k = λ i. record { host = s.hosted i; place = s.placed i; out = s.laid i } in
     rw add-one
     (record {
       hosted = h ∙ ap (λ (x : Point). (stepped ws room k x).host) was;
@@ -69,7 +69,7 @@ opened-calls O.Bad ws r s = s.calls
 
 -- where there is no call, its words do not matter
 none-traced : (ws ws' : List ℕ) (room : ℕ) (start : Point) (all : Bool) (out : List ℕ) → Traces ws room start 0 all out → Traces ws' room start 0 all out
-unfolding afterCalls
+unfolding after_calls
 none-traced ws ws' room start all out t =
     let none : t.served ≡ 0 = omega (arith, t.within) in
     record { served = 0; within = omega arith; whole = λ e. refl; left = rw none at t.left }
@@ -81,7 +81,7 @@ module _ (bytes words last : List ℕ) (room : ℕ) (r : Opening) (all : Bool) (
   unfolding OpensAs calls_of
   by (O.Words n) e s t =
       let many : r.words ≡ n = s.words ∙ length-words bytes ∙ sym (opened_some bytes (length words) n e).2 in
-      let lie : take r.words last ≡ words_of bytes = rw many (words-lie bytes words last n e f) in
+      let lie : take r.words last ≡ words_of bytes = rw many (words_lie bytes words last n e f) in
       rw lie at t
   by O.Bad e s t = none-traced (take r.words last) (words_of bytes) room _ all out'' t
 
@@ -95,6 +95,6 @@ module _ (bytes words last : List ℕ) (room : ℕ) (r : Opening) (all : Bool) (
 -- its first text could not be written
 pub not-begun : (o : Opened) (ws : List ℕ) (room : ℕ) (r : Opening) (out out' : List ℕ) → OpensAs o ws r → Laid 0 (head_of o ws) out r.at out'
     → Traces ws room (start_of o ws out) (calls_of o ws) false out'
-unfolding afterCalls
+unfolding after_calls
 not-begun o ws room r out out' s l =
     record { served = 0; within = omega arith; whole = never; left = ap (λ (p : Point). p.out) (opened-start o ws out out' r s l) }

@@ -2,14 +2,14 @@
 use Rattle.std.specs.Prelude.{ℕ, zero, suc, ◌+◌, ◌≤◌, Bool, true, List, ◌≡◌}
 use Rattle.text.specs.Ink.{inked}
 use Rattle.host.specs.declared.host.Sdmmc.{Sdmmc}
-use Rattle.host.specs.Calls.{noHost, made}
+use Rattle.host.specs.Calls.{no_host, made}
 use Rattle.calls.specs.Serve.{comes}
 use Rattle.book.specs.declared.layout.Opened.{Opened}
 use Rattle.book.specs.declared.layout.Opened.TheVariants as O
-use Rattle.book.specs.Layout.{count_of, contentsOf, bookIn}
-use Rattle.bench.specs.Bench.{settingsOf}
+use Rattle.book.specs.Layout.{count_of, contents_of, book_in}
+use Rattle.bench.specs.Bench.{settings_of}
 use Rattle.bench.specs.Opens.{head_of}
-use Rattle.bench.specs.Trace.{bytes_at, placeAfter, call_at, callText, callsServed}
+use Rattle.bench.specs.Trace.{bytes_at, place_after, call_at, call_text, calls_served}
 
 -- the next host, where the next body starts, and what the buffer holds
 pub record Point : Type 0 where
@@ -21,14 +21,14 @@ pub record Point : Type 0 where
 abbrev pub stepped : List ℕ → ℕ → ℕ → Point → Point
 stepped ws room k p = record {
   host = (comes p.host (call_at ws k p.place room)).host;
-  place = placeAfter ws k p.place;
-  out = inked 0 (callText (k + 1) p.host (bytes_at ws k p.place) (call_at ws k p.place room)) p.out;
+  place = place_after ws k p.place;
+  out = inked 0 (call_text (k + 1) p.host (bytes_at ws k p.place) (call_at ws k p.place room)) p.out;
 }
 
 -- after the first so many calls
-unfoldable pub afterCalls : List ℕ → ℕ → Point → ℕ → Point
-afterCalls ws room start zero = start
-afterCalls ws room start (suc k) = stepped ws room k (afterCalls ws room start k)
+unfoldable pub after_calls : List ℕ → ℕ → Point → ℕ → Point
+after_calls ws room start zero = start
+after_calls ws room start (suc k) = stepped ws room k (after_calls ws room start k)
 
 -- so many of the calls were traced, all of them where all was written, and this is what the buffer holds. How many could be
 -- written is in no contract
@@ -36,17 +36,17 @@ pub record Traces (ws : List ℕ) (room : ℕ) (start : Point) (calls : ℕ) (al
   pub served : ℕ
   pub within : served ≤ calls
   pub whole : all ≡ true → served ≡ calls
-  pub left : out ≡ (afterCalls ws room start served).out
+  pub left : out ≡ (after_calls ws room start served).out
 
 -- a book that was opened: its host, where its first body starts, and the host's text in the buffer; and its calls, where there is a host
 unfoldable pub start_of : Opened → List ℕ → List ℕ → Point
 start_of (O.Words n) ws out = record {
-  host = (made (settingsOf (bookIn ws))).host;
-  place = contentsOf ws;
+  host = (made (settings_of (book_in ws))).host;
+  place = contents_of ws;
   out = inked 0 (head_of (O.Words n) ws) out;
 }
-start_of O.Bad ws out = record { host = noHost; place = 0; out = inked 0 (head_of O.Bad ws) out }
+start_of O.Bad ws out = record { host = no_host; place = 0; out = inked 0 (head_of O.Bad ws) out }
 
 unfoldable pub calls_of : Opened → List ℕ → ℕ
-calls_of (O.Words n) ws = callsServed (made (settingsOf (bookIn ws))).answer (count_of ws)
+calls_of (O.Words n) ws = calls_served (made (settings_of (book_in ws))).answer (count_of ws)
 calls_of O.Bad ws = 0

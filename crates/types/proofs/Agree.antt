@@ -21,16 +21,16 @@ use Rattle.types.specs.declared.error.Field.{Field}
 use Rattle.types.specs.declared.error.Field.TheVariants.{CsdVersion, BlockLength, RateUnit, RateValue, RateReservedBit}
 use Rattle.types.specs.Answer.{flag}
 use Rattle.types.specs.Bits.{bits, bit}
-use Rattle.types.specs.Leaf.{count_of, rateOf, rateUnits, rateTenths, unitsOf, address_of, protectionOf, protectNumber}
-use Rattle.types.specs.Sd.{Code, reserved, means, code_in, Version, version1, version2, csdStructure, structures, readBlLen, blockLengths, cSize1, cSizeMult, cSize2, bytes1, bytes2, bytesBy, capacityBy, sdCapacity, isReserved, lengthFault, atFault, firstFault}
-use Rattle.types.specs.Sd.{permWriteProtect, tmpWriteProtect}
-use Rattle.types.specs.Sd.{wide_of, tranSpeed, transferUnits, timeValues, rateBy, sdRate, unitBytes, errorPlaces, lockedPlaces, appPlaces, shortErrorPlaces}
-use Rattle.types.specs.Words.{counted, halvesOf}
-use Rattle.types.proofs.Counted.{getD-counted}
+use Rattle.types.specs.Leaf.{count_of, rate_of, rate_units, rate_tenths, units_of, address_of, protection_of, protect_number}
+use Rattle.types.specs.Sd.{Code, reserved, means, code_in, Version, version1, version2, csd_structure, structures, read_bl_len, block_lengths, c_size1, c_size_mult, c_size2, bytes1, bytes2, bytes_by, capacity_by, sd_capacity, is_reserved, length_fault, at_fault, first_fault}
+use Rattle.types.specs.Sd.{perm_write_protect, tmp_write_protect}
+use Rattle.types.specs.Sd.{wide_of, tran_speed, transfer_units, time_values, rate_by, sd_rate, unit_bytes, error_places, locked_places, app_places, short_error_places}
+use Rattle.types.specs.Words.{counted, halves_of}
+use Rattle.types.proofs.Counted.{get_d_counted}
 
 -- A field's codes: where SD's list is what a rule says of each code from 0 on, the rule says what SD has at any of them.
 listed : {A : Type 0} (codes : List (Code A)) (rule : ℕ → Code A) (n : ℕ) → codes ≡ map rule (counted 0 n) → (k : ℕ) → k < n → code_in codes k ≡ rule k
-listed codes rule n e k h = rw e (getD-counted rule 0 n k reserved h ∙ ap rule (zero-add k))
+listed codes rule n e k h = rw e (get_d_counted rule 0 n k reserved h ∙ ap rule (zero-add k))
 
 -- Capacity.
 
@@ -45,7 +45,7 @@ structure-codes : structures ≡ map by-structure (counted 0 4)
 unfolding by-structure counted
 structure-codes = refl
 
-length-codes : (version : Version) → blockLengths version ≡ map (by_length version) (counted 0 16)
+length-codes : (version : Version) → block_lengths version ≡ map (by_length version) (counted 0 16)
 unfolding by_length counted
 length-codes version1 = refl
 length-codes version2 = refl
@@ -58,8 +58,8 @@ whole-blocks n m l h =
     ∙ sym (mul_assoc (n * 2 ^ m) (2 ^ (l - 9)) 512)
     ∙ ap (λ (x : ℕ). x * 512) (mul_assoc n (2 ^ m) (2 ^ (l - 9)) ∙ ap (λ (x : ℕ). n * x) (sym (pow-add 2 m (l - 9))))
 
-half-megabytes : (n : ℕ) → n * (512 * 1024) ≡ n * 1024 * 512
-half-megabytes n = omega arith
+half_megabytes : (n : ℕ) → n * (512 * 1024) ≡ n * 1024 * 512
+half_megabytes n = omega arith
 
 abbrev blocks : ℕ → CountAnswer
 blocks n = Count.Blocks (record { 0 = n })
@@ -76,70 +76,70 @@ as_many : {field : Field} (n : ℕ) {bytes : ℕ} → bytes ≡ n * 512 → AsSd
 as_many n e = rw e (has n)
 
 module _ (csd : ℕ) where
-  abbrev length-code : Version → Code ℕ
-  length-code version = code_in (blockLengths version) (readBlLen csd)
+  abbrev length_code : Version → Code ℕ
+  length_code version = code_in (block_lengths version) (read_bl_len csd)
 
-  length-is : (version : Version) → length-code version ≡ by_length version (readBlLen csd)
-  length-is version = listed (blockLengths version) (by_length version) 16 (length-codes version) (readBlLen csd) (omega arith)
+  length-is : (version : Version) → length_code version ≡ by_length version (read_bl_len csd)
+  length-is version = listed (block_lengths version) (by_length version) 16 (length-codes version) (read_bl_len csd) (omega arith)
 
   abbrev count1 : CountAnswer
-  count1 = blocks ((cSize1 csd + 1) * 2 ^ (cSizeMult csd + 2 + (readBlLen csd - 9)))
+  count1 = blocks ((c_size1 csd + 1) * 2 ^ (c_size_mult csd + 2 + (read_bl_len csd - 9)))
 
   abbrev count2 : CountAnswer
-  count2 = blocks ((cSize2 csd + 1) * 1024)
+  count2 = blocks ((c_size2 csd + 1) * 1024)
 
-  version-1 : AsSd BlockLength (cond (ltb (readBlLen csd) 9 || ltb 11 (readBlLen csd)) (refused BlockLength) count1) (bytesBy csd version1 (length-code version1))
-  unfolding bytesBy bytes1 by_length
-  version-1 = rw (length-is version1) (by (ltb (readBlLen csd) 9) (ltb 11 (readBlLen csd)) refl)
+  version_1 : AsSd BlockLength (cond (ltb (read_bl_len csd) 9 || ltb 11 (read_bl_len csd)) (refused BlockLength) count1) (bytes_by csd version1 (length_code version1))
+  unfolding bytes_by bytes1 by_length
+  version_1 = rw (length-is version1) (by (ltb (read_bl_len csd) 9) (ltb 11 (read_bl_len csd)) refl)
     where
-      by : (short long : Bool) → ltb (readBlLen csd) 9 ≡ short
-          → AsSd BlockLength (cond (short || long) (refused BlockLength) count1) (bytesBy csd version1 (cond (short || long) reserved (means (2 ^ readBlLen csd))))
+      by : (short long : Bool) → ltb (read_bl_len csd) 9 ≡ short
+          → AsSd BlockLength (cond (short || long) (refused BlockLength) count1) (bytes_by csd version1 (cond (short || long) reserved (means (2 ^ read_bl_len csd))))
       by true long t = has-none
       by false true t = has-none
-      by false false t = as_many _ (whole-blocks (cSize1 csd + 1) (cSizeMult csd + 2) (readBlLen csd) (ltb-false (readBlLen csd) 9 t))
+      by false false t = as_many _ (whole-blocks (c_size1 csd + 1) (c_size_mult csd + 2) (read_bl_len csd) (ltb-false (read_bl_len csd) 9 t))
 
-  version-2 : AsSd BlockLength (cond (eqb (readBlLen csd) 9) count2 (refused BlockLength)) (bytesBy csd version2 (length-code version2))
-  unfolding bytesBy bytes2 by_length
-  version-2 = rw (length-is version2) (by (eqb (readBlLen csd) 9))
+  version_2 : AsSd BlockLength (cond (eqb (read_bl_len csd) 9) count2 (refused BlockLength)) (bytes_by csd version2 (length_code version2))
+  unfolding bytes_by bytes2 by_length
+  version_2 = rw (length-is version2) (by (eqb (read_bl_len csd) 9))
     where
-      by : (nine : Bool) → AsSd BlockLength (cond nine count2 (refused BlockLength)) (bytesBy csd version2 (cond nine (means (2 ^ readBlLen csd)) reserved))
-      by true = as_many _ (half-megabytes (cSize2 csd + 1))
+      by : (nine : Bool) → AsSd BlockLength (cond nine count2 (refused BlockLength)) (bytes_by csd version2 (cond nine (means (2 ^ read_bl_len csd)) reserved))
+      by true = as_many _ (half_megabytes (c_size2 csd + 1))
       by false = has-none
 
   -- THE CAPACITY IS SD'S, for every register, and refused exactly where SD has none
-  pub capacity : AsSd (firstFault csd) (count_of csd) (sdCapacity csd)
-  unfolding count_of sdCapacity capacityBy atFault isReserved by-structure
+  pub capacity : AsSd (first_fault csd) (count_of csd) (sd_capacity csd)
+  unfolding count_of sd_capacity capacity_by at_fault is_reserved by-structure
   capacity =
-      rw (listed structures by-structure 4 structure-codes (csdStructure csd) (mod-lt (csd / 2 ^ 126) (lit< {n = 4} tt)))
-      (by (eqb (csdStructure csd) 0) (eqb (csdStructure csd) 1))
+      rw (listed structures by-structure 4 structure-codes (csd_structure csd) (mod-lt (csd / 2 ^ 126) (lit< {n = 4} tt)))
+      (by (eqb (csd_structure csd) 0) (eqb (csd_structure csd) 1))
     where
       by : (one two : Bool)
-          → AsSd (cond (isReserved (cond one (means version1) (cond two (means version2) reserved))) CsdVersion BlockLength)
-          (cond one (cond (ltb (readBlLen csd) 9 || ltb 11 (readBlLen csd)) (refused BlockLength) count1)
-          (cond two (cond (eqb (readBlLen csd) 9) count2 (refused BlockLength)) (refused CsdVersion)))
-          (capacityBy csd (cond one (means version1) (cond two (means version2) reserved)))
-      by true two = version-1
-      by false true = version-2
+          → AsSd (cond (is_reserved (cond one (means version1) (cond two (means version2) reserved))) CsdVersion BlockLength)
+          (cond one (cond (ltb (read_bl_len csd) 9 || ltb 11 (read_bl_len csd)) (refused BlockLength) count1)
+          (cond two (cond (eqb (read_bl_len csd) 9) count2 (refused BlockLength)) (refused CsdVersion)))
+          (capacity_by csd (cond one (means version1) (cond two (means version2) reserved)))
+      by true two = version_1
+      by false true = version_2
       by false false = has-none
 
 -- Rate.
 
 by-unit : ℕ → Code ℕ
-by-unit k = cond (ltb 3 k) reserved (means (get_or rateUnits k 0 / 1_000))
+by-unit k = cond (ltb 3 k) reserved (means (get_or rate_units k 0 / 1_000))
 
 by_value : ℕ → Code ℕ
-by_value k = cond (eqb k 0) reserved (means (get_or rateTenths k 0))
+by_value k = cond (eqb k 0) reserved (means (get_or rate_tenths k 0))
 
-unit-codes : transferUnits ≡ map by-unit (counted 0 8)
+unit-codes : transfer_units ≡ map by-unit (counted 0 8)
 unfolding by-unit counted
 unit-codes = refl
 
-value-codes : timeValues ≡ map by_value (counted 0 16)
+value-codes : time_values ≡ map by_value (counted 0 16)
 unfolding by_value counted
 value-codes = refl
 
 -- the units are whole kilobits
-tens : (k : ℕ) → get_or rateUnits k 0 / 10 ≡ 100 * (get_or rateUnits k 0 / 1_000)
+tens : (k : ℕ) → get_or rate_units k 0 / 10 ≡ 100 * (get_or rate_units k 0 / 1_000)
 tens zero = refl
 tens (suc zero) = refl
 tens (suc (suc zero)) = refl
@@ -151,27 +151,27 @@ scaled a t =
     let ten : a * 1_000 ≡ 100 * a * 10 = omega arith in
     sym (ap (λ (x : ℕ). x * t / 10) ten ∙ ap (λ (x : ℕ). x / 10) (mul_right_comm (100 * a) 10 t) ∙ mul-div_left (100 * a * t) (lit< {n = 10} tt))
 
-pub rate : (byte : ℕ) → rateOf byte ≡ sdRate byte
-unfolding rateOf sdRate rateBy by-unit by_value
+pub rate : (byte : ℕ) → rate_of byte ≡ sd_rate byte
+unfolding rate_of sd_rate rate_by by-unit by_value
 rate byte =
     rw (
-      listed transferUnits by-unit 8 unit-codes (bits byte 2 0) (omega arith),
-      listed timeValues by_value 16 value-codes (bits byte 6 3) (omega arith),
+      listed transfer_units by-unit 8 unit-codes (bits byte 2 0) (omega arith),
+      listed time_values by_value 16 value-codes (bits byte 6 3) (omega arith),
     )
     (by (bit byte 7) (ltb 3 (bits byte 2 0)) (eqb (bits byte 6 3) 0))
   where
     unit : ℕ
-    unit = get_or rateUnits (bits byte 2 0) 0
+    unit = get_or rate_units (bits byte 2 0) 0
 
     tenths : ℕ
-    tenths = get_or rateTenths (bits byte 6 3) 0
+    tenths = get_or rate_tenths (bits byte 6 3) 0
 
     by : (top over none : Bool)
         → cond top (Rate.Refused (UnsupportedCardType RateReservedBit))
         (cond over (Rate.Refused (UnsupportedCardType RateUnit))
         (cond none (Rate.Refused (UnsupportedCardType RateValue)) (Rate.Rate (unit / 10 * tenths))))
         ≡ cond top (Rate.Refused (UnsupportedCardType RateReservedBit))
-        (rateBy (cond over reserved (means (unit / 1_000))) (cond none reserved (means tenths)))
+        (rate_by (cond over reserved (means (unit / 1_000))) (cond none reserved (means tenths)))
     by true over none = refl
     by false true none = refl
     by false false true = refl
@@ -182,8 +182,8 @@ rate byte =
 -- and what it is refused for is at fault by SD's codes.
 
 pub data CountFault (csd : ℕ) : Error → Type 0 where
-  of-version : atFault CsdVersion csd ≡ true → CountFault csd (UnsupportedCardType CsdVersion)
-  of_length : atFault BlockLength csd ≡ true → CountFault csd (UnsupportedCardType BlockLength)
+  of-version : at_fault CsdVersion csd ≡ true → CountFault csd (UnsupportedCardType CsdVersion)
+  of_length : at_fault BlockLength csd ≡ true → CountFault csd (UnsupportedCardType BlockLength)
 
 -- refused, then SD has none, and the field is that one
 refused_as : {field : Field} {a : CountAnswer} {c : Code ℕ} {e : Error} → AsSd field a c → a ≡ Count.Refused e
@@ -191,49 +191,49 @@ refused_as : {field : Field} {a : CountAnswer} {c : Code ℕ} {e : Error} → As
 refused_as (has n) r = let z : ◌≡◌ {A = ℕ} 0 1 = cc in absurd (omega arith)
 refused_as has-none r = (cc, refl)
 
-pub count-fault : (csd : ℕ) (e : Error) → count_of csd ≡ Count.Refused e → CountFault csd e
-unfolding sdCapacity capacityBy bytesBy atFault lengthFault isReserved
-count-fault csd e r =
+pub count_fault : (csd : ℕ) (e : Error) → count_of csd ≡ Count.Refused e → CountFault csd e
+unfolding sd_capacity capacity_by bytes_by at_fault length_fault is_reserved
+count_fault csd e r =
     let f = refused_as (capacity csd) r in
-    rw (← f.0) (by (code_in structures (csdStructure csd)) refl f.1)
+    rw (← f.0) (by (code_in structures (csd_structure csd)) refl f.1)
   where
-    length : (version : Version) (code : Code ℕ) → bytesBy csd version code ≡ reserved → isReserved code ≡ true
+    length : (version : Version) (code : Code ℕ) → bytes_by csd version code ≡ reserved → is_reserved code ≡ true
     length version reserved r = refl
     length version1 (means n) r = let z : ◌≡◌ {A = ℕ} 0 1 = cc in absurd (omega arith)
     length version2 (means n) r = let z : ◌≡◌ {A = ℕ} 0 1 = cc in absurd (omega arith)
 
-    by : (code : Code Version) → code_in structures (csdStructure csd) ≡ code → capacityBy csd code ≡ reserved
-        → CountFault csd (UnsupportedCardType (cond (isReserved code) CsdVersion BlockLength))
+    by : (code : Code Version) → code_in structures (csd_structure csd) ≡ code → capacity_by csd code ≡ reserved
+        → CountFault csd (UnsupportedCardType (cond (is_reserved code) CsdVersion BlockLength))
     by reserved c r = of-version (rw c)
-    by (means version) c r = of_length (rw c (length version (code_in (blockLengths version) (readBlLen csd)) r))
+    by (means version) c r = of_length (rw c (length version (code_in (block_lengths version) (read_bl_len csd)) r))
 
 pub data RateFault (csd : ℕ) : Error → Type 0 where
-  of-reserved-bit : atFault RateReservedBit csd ≡ true → RateFault csd (UnsupportedCardType RateReservedBit)
-  of-unit : atFault RateUnit csd ≡ true → RateFault csd (UnsupportedCardType RateUnit)
-  of-value : atFault RateValue csd ≡ true → RateFault csd (UnsupportedCardType RateValue)
+  of-reserved-bit : at_fault RateReservedBit csd ≡ true → RateFault csd (UnsupportedCardType RateReservedBit)
+  of-unit : at_fault RateUnit csd ≡ true → RateFault csd (UnsupportedCardType RateUnit)
+  of-value : at_fault RateValue csd ≡ true → RateFault csd (UnsupportedCardType RateValue)
 
-pub rate-fault : (csd : ℕ) (e : Error) → rateOf (tranSpeed csd) ≡ Rate.Refused e → RateFault csd e
-unfolding sdRate rateBy atFault isReserved
-rate-fault csd e r = by (bit (tranSpeed csd) 7) refl (sym (rate (tranSpeed csd)) ∙ r)
+pub rate_fault : (csd : ℕ) (e : Error) → rate_of (tran_speed csd) ≡ Rate.Refused e → RateFault csd e
+unfolding sd_rate rate_by at_fault is_reserved
+rate_fault csd e r = by (bit (tran_speed csd) 7) refl (sym (rate (tran_speed csd)) ∙ r)
   where
-    codes : (unit value : Code ℕ) → code_in transferUnits (bits (tranSpeed csd) 2 0) ≡ unit → code_in timeValues (bits (tranSpeed csd) 6 3) ≡ value
-        → rateBy unit value ≡ Rate.Refused e → RateFault csd e
+    codes : (unit value : Code ℕ) → code_in transfer_units (bits (tran_speed csd) 2 0) ≡ unit → code_in time_values (bits (tran_speed csd) 6 3) ≡ value
+        → rate_by unit value ≡ Rate.Refused e → RateFault csd e
     codes reserved value u v r = let same : UnsupportedCardType RateUnit ≡ e = cc in rw (← same) (of-unit (rw u))
     codes (means k) reserved u v r = let same : UnsupportedCardType RateValue ≡ e = cc in rw (← same) (of-value (rw v))
     codes (means k) (means t) u v r = let z : ◌≡◌ {A = ℕ} 0 1 = cc in absurd (omega arith)
 
-    by : (top : Bool) → bit (tranSpeed csd) 7 ≡ top
+    by : (top : Bool) → bit (tran_speed csd) 7 ≡ top
         → cond top (Rate.Refused (UnsupportedCardType RateReservedBit))
-        (rateBy (code_in transferUnits (bits (tranSpeed csd) 2 0)) (code_in timeValues (bits (tranSpeed csd) 6 3)))
+        (rate_by (code_in transfer_units (bits (tran_speed csd) 2 0)) (code_in time_values (bits (tran_speed csd) 6 3)))
         ≡ Rate.Refused e → RateFault csd e
     by true t r = let same : UnsupportedCardType RateReservedBit ≡ e = cc in rw (← same) (of-reserved-bit t)
-    by false t r = codes (code_in transferUnits (bits (tranSpeed csd) 2 0)) (code_in timeValues (bits (tranSpeed csd) 6 3)) refl refl r
+    by false t r = codes (code_in transfer_units (bits (tran_speed csd) 2 0)) (code_in time_values (bits (tran_speed csd) 6 3)) refl refl r
 
 -- Address: accepted exactly where 1 to 511 blocks are asked for, all on the card, and what stands for the bytes before the
 -- first of them, in SD's unit, fits 32 bits as the index does; and then it is that.
 
 pub record Follows (class : CardCapacity) (blocks index count address : ℕ) : Type 0 where
-  pub place : address * unitBytes class ≡ 512 * index
+  pub place : address * unit_bytes class ≡ 512 * index
   pub fits : index < 2 ^ 32 → address < 2 ^ 32
   pub some : 1 ≤ count
   pub most : count ≤ 511
@@ -243,9 +243,9 @@ positive : {n : ℕ} → (n ≡ 0 → ⊥) → 1 ≤ n
 positive {n = zero} h = absurd (h refl)
 positive {n = suc n} h = omega arith
 
-units : (class : CardCapacity) (index a : ℕ) → unitsOf class index ≡ Address.Address a
-    → (a * unitBytes class ≡ 512 * index) × (index < 2 ^ 32 → a < 2 ^ 32)
-unfolding unitsOf
+units : (class : CardCapacity) (index a : ℕ) → units_of class index ≡ Address.Address a
+    → (a * unit_bytes class ≡ 512 * index) × (index < 2 ^ 32 → a < 2 ^ 32)
+unfolding units_of
 units SDSC index a e = by (ltb (512 * index) (2 ^ 32)) refl e
   where
     by : (b : Bool) → ltb (512 * index) (2 ^ 32) ≡ b → cond b (Address.Address (512 * index)) (Address.Refused AddressOutOfRange) ≡ Address.Address a
@@ -260,7 +260,7 @@ unfolding address_of
 address class blocks index count a e = by (eqb count 0) (ltb 511 count) (ltb blocks (index + count)) refl refl refl e
   where
     by : (none many past : Bool) → eqb count 0 ≡ none → ltb 511 count ≡ many → ltb blocks (index + count) ≡ past
-        → cond (none || many) (Address.Refused InvalidBufferLength) (cond past (Address.Refused AddressOutOfRange) (unitsOf class index)) ≡ Address.Address a
+        → cond (none || many) (Address.Refused InvalidBufferLength) (cond past (Address.Refused AddressOutOfRange) (units_of class index)) ≡ Address.Address a
         → Follows class blocks index count a
     by true many past n m p e = let z : ◌≡◌ {A = ℕ} 0 1 = cc in absurd (omega arith)
     by false true past n m p e = let z : ◌≡◌ {A = ℕ} 0 1 = cc in absurd (omega arith)
@@ -276,10 +276,10 @@ address class blocks index count a e = by (eqb count 0) (ltb 511 count) (ltb blo
         }
 
 -- and the other way, for an index of 32 bits
-in-units : (class : CardCapacity) (index a : ℕ) → a * unitBytes class ≡ 512 * index → a < 2 ^ 32 → unitsOf class index ≡ Address.Address a
-unfolding unitsOf
-in-units SDSC index a e small = let same : 512 * index ≡ a = omega arith in rw (same, lt-ltb a (2 ^ 32) small)
-in-units SDHC index a e small = let same : index ≡ a = omega arith in ap Address.Address same
+in_units : (class : CardCapacity) (index a : ℕ) → a * unit_bytes class ≡ 512 * index → a < 2 ^ 32 → units_of class index ≡ Address.Address a
+unfolding units_of
+in_units SDSC index a e small = let same : 512 * index ≡ a = omega arith in rw (same, lt-ltb a (2 ^ 32) small)
+in_units SDHC index a e small = let same : index ≡ a = omega arith in ap Address.Address same
 
 pub address-accepted : (class : CardCapacity) (blocks index count a : ℕ) → index < 2 ^ 32 → Follows class blocks index count a
     → address_of class blocks index count ≡ Address.Address a
@@ -290,12 +290,12 @@ address-accepted class blocks index count a word f =
       le-ltb 511 count f.most,
       le-ltb blocks (index + count) f.inside,
     )
-    (in-units class index a f.place (f.fits word))
+    (in_units class index a f.place (f.fits word))
 
 -- Write protection: the flags are SD's, and their number is the two bits, the permanent one on top.
 
-pub protection : (csd : ℕ) → ((protectionOf csd).permanent ≡ permWriteProtect csd) × ((protectionOf csd).temporary ≡ tmpWriteProtect csd)
-unfolding protectionOf
+pub protection : (csd : ℕ) → ((protection_of csd).permanent ≡ perm_write_protect csd) × ((protection_of csd).temporary ≡ tmp_write_protect csd)
+unfolding protection_of
 protection csd = (refl, refl)
 
 as_number : (n : ℕ) → n < 2 → flag (eqb n 1) ≡ n
@@ -303,8 +303,8 @@ as_number zero h = refl
 as_number (suc zero) h = refl
 as_number (suc (suc n)) h = absurd (omega arith)
 
-pub protect-number : (csd : ℕ) → protectNumber (protectionOf csd) ≡ bits csd 13 12
-unfolding protectionOf
+pub protect-number : (csd : ℕ) → protect_number (protection_of csd) ≡ bits csd 13 12
+unfolding protection_of
 protect-number csd =
     let half : csd / 2 ^ 12 / 2 ≡ csd / 2 ^ 13 = shr-shr csd 12 1 in
     rw (as_number (bits csd 13 13) (omega arith), as_number (bits csd 12 12) (omega arith)) (omega (arith, half))
@@ -315,13 +315,13 @@ abbrev mask_of : List ℕ → ℕ
 mask_of [] = 0
 mask_of (k ∷ ks) = 2 ^ k + mask_of ks
 
-pub masks : map mask_of (errorPlaces ∷ lockedPlaces ∷ appPlaces ∷ shortErrorPlaces ∷ [])
+pub masks : map mask_of (error_places ∷ locked_places ∷ app_places ∷ short_error_places ∷ [])
     ≡ 0xfdff_e008 ∷ 0x0200_0000 ∷ 0x20 ∷ 0xe000 ∷ []
 masks = refl
 
 -- Registers: the halves of a long response are the 128-bit register with its first word on top.
 
 pub register : (words : List ℕ)
-    → wide_of (halvesOf words) ≡ get_or words 0 0 * 2 ^ 96 + get_or words 1 0 * 2 ^ 64 + get_or words 2 0 * 2 ^ 32 + get_or words 3 0
-unfolding halvesOf
+    → wide_of (halves_of words) ≡ get_or words 0 0 * 2 ^ 96 + get_or words 1 0 * 2 ^ 64 + get_or words 2 0 * 2 ^ 32 + get_or words 3 0
+unfolding halves_of
 register words = omega arith

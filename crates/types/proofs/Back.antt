@@ -16,10 +16,10 @@ length-words (a ∷ b ∷ c ∷ []) = refl
 length-words (a ∷ b ∷ c ∷ d ∷ bytes) = omega (arith, length-words bytes)
 
 -- word i, of its four bytes
-abbrev pub wordAt : List ℕ → ℕ → ℕ
-wordAt bytes at = word4 (get_or bytes at 0) (get_or bytes (at + 1) 0) (get_or bytes (at + 2) 0) (get_or bytes (at + 3) 0)
+abbrev pub word_at : List ℕ → ℕ → ℕ
+word_at bytes at = word4 (get_or bytes at 0) (get_or bytes (at + 1) 0) (get_or bytes (at + 2) 0) (get_or bytes (at + 3) 0)
 
-pub word-is : (i : ℕ) (bytes : List ℕ) → 4 * i + 4 ≤ length bytes → get_or (words_of bytes) i 0 ≡ wordAt bytes (4 * i)
+pub word-is : (i : ℕ) (bytes : List ℕ) → 4 * i + 4 ≤ length bytes → get_or (words_of bytes) i 0 ≡ word_at bytes (4 * i)
 unfolding words_of
 word-is i [] h = absurd (omega arith)
 word-is i (a ∷ []) h = absurd (omega arith)
@@ -49,17 +49,17 @@ words_back [] h = refl
 words_back (w ∷ ws) h = rw (word_back w (h 0)) (ap (λ (l : List ℕ). w ∷ l) (words_back ws (λ i. h (suc i))))
 
 module _ (a b c d : ℕ) (ha : a < 256) (hb : b < 256) (hc : c < 256) (hd : d < 256) where
-  byte-0 : word4 a b c d % 256 ≡ a
-  byte-0 = omega arith
+  byte_0 : word4 a b c d % 256 ≡ a
+  byte_0 = omega arith
 
-  byte-1 : word4 a b c d / 2 ^ 8 % 256 ≡ b
-  byte-1 = omega arith
+  byte_1 : word4 a b c d / 2 ^ 8 % 256 ≡ b
+  byte_1 = omega arith
 
-  byte-2 : word4 a b c d / 2 ^ 16 % 256 ≡ c
-  byte-2 = omega arith
+  byte_2 : word4 a b c d / 2 ^ 16 % 256 ≡ c
+  byte_2 = omega arith
 
-  byte-3 : word4 a b c d / 2 ^ 24 % 256 ≡ d
-  byte-3 = omega arith
+  byte_3 : word4 a b c d / 2 ^ 24 % 256 ≡ d
+  byte_3 = omega arith
 
 pub bytes_back : (bytes : List ℕ) → ((i : ℕ) → get_or bytes i 0 < 256) → length bytes % 4 ≡ 0 → bytes_of (words_of bytes) ≡ bytes
 unfolding words_of bytes_of
@@ -68,7 +68,7 @@ bytes_back (a ∷ []) h e = absurd (omega arith)
 bytes_back (a ∷ b ∷ []) h e = absurd (omega arith)
 bytes_back (a ∷ b ∷ c ∷ []) h e = absurd (omega arith)
 bytes_back (a ∷ b ∷ c ∷ d ∷ bytes) h e =
-    rw (byte-0 a b c d (h 0) (h 1) (h 2) (h 3), byte-1 a b c d (h 0) (h 1) (h 2) (h 3), byte-2 a b c d (h 0) (h 1) (h 2) (h 3), byte-3 a b c d (h 0) (h 1) (h 2) (h 3))
+    rw (byte_0 a b c d (h 0) (h 1) (h 2) (h 3), byte_1 a b c d (h 0) (h 1) (h 2) (h 3), byte_2 a b c d (h 0) (h 1) (h 2) (h 3), byte_3 a b c d (h 0) (h 1) (h 2) (h 3))
     (ap (λ (l : List ℕ). a ∷ b ∷ c ∷ d ∷ l) (bytes_back bytes (λ i. h (suc (suc (suc (suc i))))) (omega arith)))
 
 -- words of bytes fit

@@ -12,7 +12,7 @@ use Rattle.types.specs.declared.register.CountAnswer.TheVariants.{Blocks, Refuse
 use Rattle.types.specs.declared.error.Error.TheVariants.{UnsupportedCardType}
 use Rattle.types.specs.declared.error.Field.{Field}
 use Rattle.types.specs.declared.error.Field.TheVariants as F
-use Rattle.types.specs.Answer.{fieldNumber}
+use Rattle.types.specs.Answer.{field_number}
 use Rattle.types.specs.Bits.{bits}
 use Rattle.types.specs.Leaf.{count_of}
 
@@ -54,13 +54,13 @@ count_most csd n e = by (eqb (bits csd 127 126) 0) (ltb (bits csd 83 80) 9) (ltb
     by false short long true false h e = let z : ◌≡◌ {A = ℕ} 0 1 = cc in absurd (omega arith)
     by false short long false nine h e = let z : ◌≡◌ {A = ℕ} 0 1 = cc in absurd (omega arith)
 
-pub field-most : (field : Field) → (1 ≤ fieldNumber field) × (fieldNumber field ≤ 8)
-unfolding fieldNumber
-field-most F.CsdVersion = (omega arith, omega arith)
-field-most F.BlockLength = (omega arith, omega arith)
-field-most F.RateUnit = (omega arith, omega arith)
-field-most F.RateValue = (omega arith, omega arith)
-field-most F.RateReservedBit = (omega arith, omega arith)
-field-most F.CsdAndOcr = (omega arith, omega arith)
-field-most F.Voltage = (omega arith, omega arith)
-field-most F.AppCommand = (omega arith, omega arith)
+pub field_most : (field : Field) → (1 ≤ field_number field) × (field_number field ≤ 8)
+unfolding field_number
+field_most F.CsdVersion = (omega arith, omega arith)
+field_most F.BlockLength = (omega arith, omega arith)
+field_most F.RateUnit = (omega arith, omega arith)
+field_most F.RateValue = (omega arith, omega arith)
+field_most F.RateReservedBit = (omega arith, omega arith)
+field_most F.CsdAndOcr = (omega arith, omega arith)
+field_most F.Voltage = (omega arith, omega arith)
+field_most F.AppCommand = (omega arith, omega arith)

@@ -14,12 +14,12 @@ unfolding counted
 length-counted f a zero = refl
 length-counted f a (suc n) = ap suc (length-counted f (a + 1) n)
 
-pub getD-counted : {A : Type 0} (f : ℕ → A) (a n i : ℕ) (d : A) → i < n → get_or (map f (counted a n)) i d ≡ f (a + i)
+pub get_d_counted : {A : Type 0} (f : ℕ → A) (a n i : ℕ) (d : A) → i < n → get_or (map f (counted a n)) i d ≡ f (a + i)
 unfolding counted
-getD-counted f a zero i d h = absurd (not-suc-le-zero h)
-getD-counted f a (suc n) zero d h = rw add-zero
-getD-counted f a (suc n) (suc i) d h =
-    getD-counted f (a + 1) n i d (le_of_suc-le-suc h) ∙ ap f (omega arith)
+get_d_counted f a zero i d h = absurd (not-suc-le-zero h)
+get_d_counted f a (suc n) zero d h = rw add-zero
+get_d_counted f a (suc n) (suc i) d h =
+    get_d_counted f (a + 1) n i d (le_of_suc-le-suc h) ∙ ap f (omega arith)
 
 -- the first i of s, laid over the start of z
 abbrev pub over : List ℕ → List ℕ → ℕ → List ℕ

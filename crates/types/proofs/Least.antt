@@ -12,26 +12,26 @@ use Rattle.types.specs.declared.clock.ClockAnswer.TheVariants.{Set, Refused}
 use Rattle.types.specs.declared.error.Error.{Error}
 use Rattle.types.specs.declared.error.Error.TheVariants.{BadClock}
 use Rattle.types.specs.Least.{Enough, Least}
-use Rattle.types.specs.Leaf.{roundedUp, divisor_of, clockOf}
+use Rattle.types.specs.Leaf.{rounded_up, divisor_of, clock_of}
 
 module _ (source requested : ℕ) (nonzero : 1 ≤ source) (low : 1 ≤ requested) (high : requested ≤ 80_000_000) where
   -- the quotient rounded up is enough
-  up-slow : source ≤ roundedUp source requested * requested
-  up-slow = omega (arith, div-add-mod' (source + (requested - 1)) requested, mod-lt (source + (requested - 1)) low)
+  up_slow : source ≤ rounded_up source requested * requested
+  up_slow = omega (arith, div-add-mod' (source + (requested - 1)) requested, mod-lt (source + (requested - 1)) low)
 
   -- and whatever is enough is no less
-  up_least : (e : ℕ) → source ≤ e * requested → roundedUp source requested ≤ e
+  up_least : (e : ℕ) → source ≤ e * requested → rounded_up source requested ≤ e
   up_least e h =
       let short : source + (requested - 1) < (e + 1) * requested = rw add-mul (omega arith) in
       omega (arith, (div-lt_iff_lt-mul {x = source + (requested - 1)} {y = e + 1} low).1 short)
 
-  at-least-2 : 2 ≤ divisor_of source requested
+  at_least_2 : 2 ≤ divisor_of source requested
   unfolding divisor_of
-  at-least-2 = le-max_left 2 _
+  at_least_2 = le-max_left 2 _
 
   slow-enough : source ≤ divisor_of source requested * requested
   unfolding divisor_of
-  slow-enough = le_trans up-slow (mul-le-mul_right requested (le-max_right 2 (roundedUp source requested)))
+  slow-enough = le_trans up_slow (mul-le-mul_right requested (le-max_right 2 (rounded_up source requested)))
 
   no_less : (e : ℕ) → 2 ≤ e → source ≤ e * requested → divisor_of source requested ≤ e
   unfolding divisor_of
@@ -41,21 +41,21 @@ module _ (source requested : ℕ) (nonzero : 1 ≤ source) (low : 1 ≤ requeste
   pub found : (d : ℕ) → Least source requested d → d ≡ divisor_of source requested
   found d h =
       let less = no_less d h.enough.from2 h.enough.slow in
-      le_antisymm (h.least _ (record { from2 = at-least-2; to257 = le_trans less h.enough.to257; slow = slow-enough })) less
+      le_antisymm (h.least _ (record { from2 = at_least_2; to257 = le_trans less h.enough.to257; slow = slow-enough })) less
 
   -- and where none is, it is over 257
   pub over : ((d : ℕ) → Enough source requested d → ⊥) → 257 < divisor_of source requested
-  over none = not-le _ _ (λ h. none _ (record { from2 = at-least-2; to257 = h; slow = slow-enough }))
+  over none = not-le _ _ (λ h. none _ (record { from2 = at_least_2; to257 = h; slow = slow-enough }))
 
   -- what the definition comes to on this domain
-  comes-to : clockOf source requested false
+  comes-to : clock_of source requested false
       ≡ cond (ltb 257 (divisor_of source requested)) (Refused BadClock)
       (Set (record { divisor = divisor_of source requested - 2; bypass = false; frequency = record { 0 = source / divisor_of source requested } }))
-  unfolding clockOf
+  unfolding clock_of
   comes-to = rw (ne_eqb source 0 (λ e. omega arith), ne_eqb requested 0 (λ e. omega arith), le-ltb 80_000_000 requested high)
 
   -- an answer's divisor is the least
-  pub set-least : (c : Clock) → clockOf source requested false ≡ Set c → Least source requested (c.divisor + 2)
+  pub set-least : (c : Clock) → clock_of source requested false ≡ Set c → Least source requested (c.divisor + 2)
   set-least c e = by (ltb 257 (divisor_of source requested)) refl
     where
       by : (b : Bool) → ltb 257 (divisor_of source requested) ≡ b → Least source requested (c.divisor + 2)
@@ -66,15 +66,15 @@ module _ (source requested : ℕ) (nonzero : 1 ≤ source) (low : 1 ≤ requeste
       by false t =
           let set = rw t at comes-to in
           let field : c.divisor ≡ divisor_of source requested - 2 = cc in
-          let d : c.divisor + 2 ≡ divisor_of source requested = omega (arith, at-least-2) in
+          let d : c.divisor + 2 ≡ divisor_of source requested = omega (arith, at_least_2) in
           rw d
           (record {
-            enough = record { from2 = at-least-2; to257 = ltb-false _ _ t; slow = slow-enough };
+            enough = record { from2 = at_least_2; to257 = ltb-false _ _ t; slow = slow-enough };
             least = λ e h. no_less e h.from2 h.slow;
           })
 
   -- it is refused only if there is none
-  pub refused_none : (x : Error) → clockOf source requested false ≡ Refused x → (d : ℕ) → Enough source requested d → ⊥
+  pub refused_none : (x : Error) → clock_of source requested false ≡ Refused x → (d : ℕ) → Enough source requested d → ⊥
   refused_none x e d h = by (ltb 257 (divisor_of source requested)) refl
     where
       by : (b : Bool) → ltb 257 (divisor_of source requested) ≡ b → ⊥
@@ -85,10 +85,10 @@ module _ (source requested : ℕ) (nonzero : 1 ≤ source) (low : 1 ≤ requeste
           omega arith
 
   -- and always if there is none
-  pub none-refused : ((d : ℕ) → Enough source requested d → ⊥) → clockOf source requested false ≡ Refused BadClock
+  pub none-refused : ((d : ℕ) → Enough source requested d → ⊥) → clock_of source requested false ≡ Refused BadClock
   none-refused none = by (ltb 257 (divisor_of source requested)) refl
     where
-      by : (b : Bool) → ltb 257 (divisor_of source requested) ≡ b → clockOf source requested false ≡ Refused BadClock
+      by : (b : Bool) → ltb 257 (divisor_of source requested) ≡ b → clock_of source requested false ≡ Refused BadClock
       by true t = rw (comes-to, t)
       by false t =
-          absurd (none (divisor_of source requested) (record { from2 = at-least-2; to257 = ltb-false _ _ t; slow = slow-enough }))
+          absurd (none (divisor_of source requested) (record { from2 = at_least_2; to257 = ltb-false _ _ t; slow = slow-enough }))

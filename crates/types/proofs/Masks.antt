@@ -67,8 +67,8 @@ clear-says mask word e k h =
     let off = bit-digit word k ∙ other-zero (digit word k) (digit mask k) (digit_lt word k) none one in
     ne_eqb (bits word k k) 1 (λ on. omega arith)
 
-pub clear-if : (mask word : ℕ) → ((k : ℕ) → bit mask k ≡ true → bit word k ≡ false) → clear mask word ≡ true
-clear-if mask word h = eq-eqb (bit_and word mask) 0 (no_digit (bit_and word mask) (λ k. digit_and word mask k ∙ off k))
+pub clear_if : (mask word : ℕ) → ((k : ℕ) → bit mask k ≡ true → bit word k ≡ false) → clear mask word ≡ true
+clear_if mask word h = eq-eqb (bit_and word mask) 0 (no_digit (bit_and word mask) (λ k. digit_and word mask k ∙ off k))
   where
     off : (k : ℕ) → bit_and (digit word k) (digit mask k) ≡ 0
     off k =

@@ -34,46 +34,46 @@ abbrev pub carried : Told → ℕ
 carried t = get_or t.values 0 0
 
 -- Document 02, P4: the field that made a card unsupported, 1 to 8 in its order
-unfoldable pub fieldNumber : Field → ℕ
-fieldNumber F.CsdVersion = 1
-fieldNumber F.BlockLength = 2
-fieldNumber F.RateUnit = 3
-fieldNumber F.RateValue = 4
-fieldNumber F.RateReservedBit = 5
-fieldNumber F.CsdAndOcr = 6
-fieldNumber F.Voltage = 7
-fieldNumber F.AppCommand = 8
+unfoldable pub field_number : Field → ℕ
+field_number F.CsdVersion = 1
+field_number F.BlockLength = 2
+field_number F.RateUnit = 3
+field_number F.RateValue = 4
+field_number F.RateReservedBit = 5
+field_number F.CsdAndOcr = 6
+field_number F.Voltage = 7
+field_number F.AppCommand = 8
 
-unfoldable pub errorTold : Error → Told
-errorTold E.Timeout = told 1 []
-errorTold E.SoftwareTimeout = told 2 []
-errorTold E.Crc = told 3 []
-errorTold E.StBitErr = told 4 []
-errorTold E.Overrun = told 5 []
-errorTold E.Underrun = told 6 []
-errorTold E.Dma = told 7 []
-errorTold E.IncompleteTransfer = told 8 []
-errorTold E.ResponseMismatch = told 9 []
-errorTold (E.CardStatus word) = told 10 (word ∷ [])
-errorTold E.CardLocked = told 11 []
-errorTold E.UnsupportedCardVersion = told 12 []
-errorTold (E.UnsupportedCardType field) = told 13 (fieldNumber field ∷ [])
-errorTold E.UnsupportedBusWidth = told 14 []
-errorTold E.SignalingSwitchFailed = told 15 []
-errorTold E.NoCard = told 16 []
-errorTold E.BadClock = told 17 []
-errorTold E.InvalidConfig = told 18 []
-errorTold E.InvalidBufferLength = told 19 []
-errorTold E.AddressOutOfRange = told 20 []
-errorTold E.WriteProtected = told 26 []
+unfoldable pub error_told : Error → Told
+error_told E.Timeout = told 1 []
+error_told E.SoftwareTimeout = told 2 []
+error_told E.Crc = told 3 []
+error_told E.StBitErr = told 4 []
+error_told E.Overrun = told 5 []
+error_told E.Underrun = told 6 []
+error_told E.Dma = told 7 []
+error_told E.IncompleteTransfer = told 8 []
+error_told E.ResponseMismatch = told 9 []
+error_told (E.CardStatus word) = told 10 (word ∷ [])
+error_told E.CardLocked = told 11 []
+error_told E.UnsupportedCardVersion = told 12 []
+error_told (E.UnsupportedCardType field) = told 13 (field_number field ∷ [])
+error_told E.UnsupportedBusWidth = told 14 []
+error_told E.SignalingSwitchFailed = told 15 []
+error_told E.NoCard = told 16 []
+error_told E.BadClock = told 17 []
+error_told E.InvalidConfig = told 18 []
+error_told E.InvalidBufferLength = told 19 []
+error_told E.AddressOutOfRange = told 20 []
+error_told E.WriteProtected = told 26 []
 
 -- a call's answer; the last three are added by document 01
-unfoldable pub answerTold : Answer → Told
-answerTold Accepted = told 0 []
-answerTold (Refused e) = errorTold e
-answerTold ScriptEnded = told 21 []
-answerTold TraceFull = told 22 []
-answerTold BadBook = told 23 []
+unfoldable pub answer_told : Answer → Told
+answer_told Accepted = told 0 []
+answer_told (Refused e) = error_told e
+answer_told ScriptEnded = told 21 []
+answer_told TraceFull = told 22 []
+answer_told BadBook = told 23 []
 
 -- The answers of the plain functions.
 
@@ -82,34 +82,34 @@ flag true = 1
 flag false = 0
 
 -- divisor field, bypass, frequency in hertz
-unfoldable pub clockTold : ClockAnswer → Told
-clockTold (Clock.Set c) = told 0 (c.divisor ∷ flag c.bypass ∷ c.frequency.0 ∷ [])
-clockTold (Clock.Refused e) = errorTold e
+unfoldable pub clock_told : ClockAnswer → Told
+clock_told (Clock.Set c) = told 0 (c.divisor ∷ flag c.bypass ∷ c.frequency.0 ∷ [])
+clock_told (Clock.Refused e) = error_told e
 
 -- blocks of 512 bytes
-unfoldable pub countTold : CountAnswer → Told
-countTold (Count.Blocks n) = told 0 (n.0 ∷ [])
-countTold (Count.Refused e) = errorTold e
+unfoldable pub count_told : CountAnswer → Told
+count_told (Count.Blocks n) = told 0 (n.0 ∷ [])
+count_told (Count.Refused e) = error_told e
 
 -- bytes
-unfoldable pub sizeTold : SizeAnswer → Told
-sizeTold (Size.Bytes n) = told 0 (n ∷ [])
-sizeTold (Size.Refused e) = errorTold e
+unfoldable pub size_told : SizeAnswer → Told
+size_told (Size.Bytes n) = told 0 (n ∷ [])
+size_told (Size.Refused e) = error_told e
 
 -- bits a second
-unfoldable pub rateTold : RateAnswer → Told
-rateTold (Rate.Rate n) = told 0 (n ∷ [])
-rateTold (Rate.Refused e) = errorTold e
+unfoldable pub rate_told : RateAnswer → Told
+rate_told (Rate.Rate n) = told 0 (n ∷ [])
+rate_told (Rate.Refused e) = error_told e
 
 -- the argument of the read command
-unfoldable pub addressTold : AddressAnswer → Told
-addressTold (Address.Address a) = told 0 (a ∷ [])
-addressTold (Address.Refused e) = errorTold e
+unfoldable pub address_told : AddressAnswer → Told
+address_told (Address.Address a) = told 0 (a ∷ [])
+address_told (Address.Refused e) = error_told e
 
-unfoldable pub configTold : ConfigAnswer → Told
-configTold Config.Sound = told 0 []
-configTold (Config.Refused e) = errorTold e
+unfoldable pub config_told : ConfigAnswer → Told
+config_told Config.Sound = told 0 []
+config_told (Config.Refused e) = error_told e
 
-unfoldable pub dataTold : DataAnswer → Told
-dataTold Data.Clean = told 0 []
-dataTold (Data.Failed e) = errorTold e
+unfoldable pub data_told : DataAnswer → Told
+data_told Data.Clean = told 0 []
+data_told (Data.Failed e) = error_told e

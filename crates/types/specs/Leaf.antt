@@ -22,17 +22,17 @@ use Rattle.types.specs.Answer.{flag}
 use Rattle.types.specs.Bits.{bits, bit, clear}
 
 -- a quotient rounded up
-abbrev pub roundedUp : ℕ → ℕ → ℕ
-roundedUp a b = (a + (b - 1)) / b
+abbrev pub rounded_up : ℕ → ℕ → ℕ
+rounded_up a b = (a + (b - 1)) / b
 
 -- Clock. Source/request rounded up, at least 2
 unfoldable pub divisor_of : ℕ → ℕ → ℕ
-divisor_of source requested = max 2 (roundedUp source requested)
+divisor_of source requested = max 2 (rounded_up source requested)
 
 -- source 0, request 0 or over 80,000,000: 17. With bypass allowed and source at most the request: field 0, bypass,
 -- frequency = source. Else the divisor; over 257 is 17; field = divisor - 2; frequency = source/divisor rounded down
-unfoldable pub clockOf : ℕ → ℕ → Bool → ClockAnswer
-clockOf source requested bypass =
+unfoldable pub clock_of : ℕ → ℕ → Bool → ClockAnswer
+clock_of source requested bypass =
     cond (eqb source 0) (Clock.Refused E.BadClock)
     (cond (eqb requested 0) (Clock.Refused E.BadClock)
     (cond (ltb 80_000_000 requested) (Clock.Refused E.BadClock)
@@ -54,13 +54,13 @@ pub record Rule : Type 0 where
 abbrev pub rule : ℕ → Error → Rule
 rule mask error = record { mask = mask; error = error }
 
-unfoldable pub firstMatch : ℕ → List Rule → DataAnswer
-firstMatch word [] = Data.Clean
-firstMatch word (r ∷ rs) = cond (clear r.mask word) (firstMatch word rs) (Data.Failed r.error)
+unfoldable pub first_match : ℕ → List Rule → DataAnswer
+first_match word [] = Data.Clean
+first_match word (r ∷ rs) = cond (clear r.mask word) (first_match word rs) (Data.Failed r.error)
 
 unfoldable pub data_of : ℕ → DataAnswer
 data_of status =
-    firstMatch status
+    first_match status
     (rule 0x8 E.Timeout ∷ rule 0x2 E.Crc ∷ rule 0x20 E.Overrun ∷ rule 0x10 E.Underrun ∷ rule 0x200 E.StBitErr ∷ [])
 
 -- Capacity. Bits 127:126 = 0: bits 83:80 = L in 9 to 11, else 13 (block length); count = (bits 73:62 + 1) * 2^(bits 49:47 + 2 + L - 9).
@@ -77,42 +77,42 @@ count_of csd =
     (Count.Refused (E.UnsupportedCardType F.CsdVersion)))
 
 -- Rate, of the byte in CSD bits 103:96
-abbrev pub rateUnits : List ℕ
-rateUnits = 100_000 ∷ 1_000_000 ∷ 10_000_000 ∷ 100_000_000 ∷ []
+abbrev pub rate_units : List ℕ
+rate_units = 100_000 ∷ 1_000_000 ∷ 10_000_000 ∷ 100_000_000 ∷ []
 
-abbrev pub rateTenths : List ℕ
-rateTenths = 0 ∷ 10 ∷ 12 ∷ 13 ∷ 15 ∷ 20 ∷ 25 ∷ 30 ∷ 35 ∷ 40 ∷ 45 ∷ 50 ∷ 55 ∷ 60 ∷ 70 ∷ 80 ∷ []
+abbrev pub rate_tenths : List ℕ
+rate_tenths = 0 ∷ 10 ∷ 12 ∷ 13 ∷ 15 ∷ 20 ∷ 25 ∷ 30 ∷ 35 ∷ 40 ∷ 45 ∷ 50 ∷ 55 ∷ 60 ∷ 70 ∷ 80 ∷ []
 
 -- bit 7 set, low three bits over 3, or bits 6:3 zero: 13, and of several the first (P4: reserved bit, unit, value). Else the
 -- unit divided by 10, times the value
-unfoldable pub rateOf : ℕ → RateAnswer
-rateOf byte =
+unfoldable pub rate_of : ℕ → RateAnswer
+rate_of byte =
     cond (bit byte 7) (Rate.Refused (E.UnsupportedCardType F.RateReservedBit))
     (cond (ltb 3 (bits byte 2 0)) (Rate.Refused (E.UnsupportedCardType F.RateUnit))
     (cond (eqb (bits byte 6 3) 0) (Rate.Refused (E.UnsupportedCardType F.RateValue))
-    (Rate.Rate (get_or rateUnits (bits byte 2 0) 0 / 10 * get_or rateTenths (bits byte 6 3) 0))))
+    (Rate.Rate (get_or rate_units (bits byte 2 0) 0 / 10 * get_or rate_tenths (bits byte 6 3) 0))))
 
 -- Address. 19 for 0 blocks or over 511; 20 when index plus count exceeds the block count; then SDSC 512 * index, SDHC
 -- the index. A product over 32 bits gives 20
-unfoldable pub unitsOf : CardCapacity → ℕ → AddressAnswer
-unitsOf SDSC index = cond (ltb (512 * index) (2 ^ 32)) (Address.Address (512 * index)) (Address.Refused E.AddressOutOfRange)
-unitsOf SDHC index = Address.Address index
+unfoldable pub units_of : CardCapacity → ℕ → AddressAnswer
+units_of SDSC index = cond (ltb (512 * index) (2 ^ 32)) (Address.Address (512 * index)) (Address.Refused E.AddressOutOfRange)
+units_of SDHC index = Address.Address index
 
 unfoldable pub address_of : CardCapacity → ℕ → ℕ → ℕ → AddressAnswer
 address_of class blocks index count =
     cond (eqb count 0 || ltb 511 count) (Address.Refused E.InvalidBufferLength)
-    (cond (ltb blocks (index + count)) (Address.Refused E.AddressOutOfRange) (unitsOf class index))
+    (cond (ltb blocks (index + count)) (Address.Refused E.AddressOutOfRange) (units_of class index))
 
 -- Size. 512 * count; a count over 4,294,967,296 gives 20
 unfoldable pub size_of : ℕ → SizeAnswer
 size_of count = cond (ltb 4_294_967_296 count) (Size.Refused E.AddressOutOfRange) (Size.Bytes (512 * count))
 
 -- Write protection (P8), of a CSD: bit 13 permanent, bit 12 temporary; either stops a write; 2 if permanent plus 1 if temporary
-unfoldable pub protectionOf : ℕ → Protection
-protectionOf csd = record { permanent = bit csd 13; temporary = bit csd 12 }
+unfoldable pub protection_of : ℕ → Protection
+protection_of csd = record { permanent = bit csd 13; temporary = bit csd 12 }
 
-abbrev pub stopsWrites : Protection → Bool
-stopsWrites p = p.permanent || p.temporary
+abbrev pub stops_writes : Protection → Bool
+stops_writes p = p.permanent || p.temporary
 
-abbrev pub protectNumber : Protection → ℕ
-protectNumber p = 2 * flag p.permanent + flag p.temporary
+abbrev pub protect_number : Protection → ℕ
+protect_number p = 2 * flag p.permanent + flag p.temporary

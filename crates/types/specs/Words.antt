@@ -38,17 +38,17 @@ counted a zero = []
 counted a (suc n) = a ∷ counted (a + 1) n
 
 -- the SD status: inner[i] is word 15 - i, bytes turned round
-unfoldable pub sdStatusOf : List ℕ → List ℕ
-sdStatusOf words = map (λ i. turned (get_or words (15 - i) 0)) (counted 0 16)
+unfoldable pub sd_status_of : List ℕ → List ℕ
+sd_status_of words = map (λ i. turned (get_or words (15 - i) 0)) (counted 0 16)
 
 -- the four words of a long response as two halves, the first word on top
-unfoldable pub halvesOf : List ℕ → Wide
-halvesOf words =
+unfoldable pub halves_of : List ℕ → Wide
+halves_of words =
     record {
       high = get_or words 0 0 * 2 ^ 32 + get_or words 1 0;
       low = get_or words 2 0 * 2 ^ 32 + get_or words 3 0;
     }
 
 -- the SCR's two words: the first on top, bytes turned round
-unfoldable pub scrOf : ℕ → ℕ → ℕ
-scrOf first second = turned first * 2 ^ 32 + turned second
+unfoldable pub scr_of : ℕ → ℕ → ℕ
+scr_of first second = turned first * 2 ^ 32 + turned second

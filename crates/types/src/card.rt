@@ -1,6 +1,6 @@
 // The record of a card, its size and its addresses.
 ghost use Rattle.std.specs.Prelude.{◌≡◌};
-ghost use Rattle.types.specs.Leaf.{address_of, unitsOf, size_of};
+ghost use Rattle.types.specs.Leaf.{address_of, units_of, size_of};
 ghost use Rattle.types.specs.declared.card.CardCapacity.TheVariants.{SDSC};
 
 use crate::error::Error;
@@ -53,7 +53,7 @@ impl Card {
 
 // The address of a block in bytes, for a card that counts so.
 fn byte_address(index: u32) -> AddressAnswer
-    ensures { result ≡ unitsOf SDSC index }
+    ensures { result ≡ units_of SDSC index }
 {
     let address = BlockCount::BLOCK * index as u64;
     if address < 0x1_0000_0000 {

@@ -1,6 +1,6 @@
 // Frequencies, and the clock divisor.
 ghost use Rattle.std.specs.Prelude.{◌≡◌, ◌&&◌, ◌/◌, ◌≤◌, leb};
-ghost use Rattle.types.specs.Leaf.{clockOf};
+ghost use Rattle.types.specs.Leaf.{clock_of};
 ghost use Rattle.types.specs.Least.{Searched};
 
 use crate::error::Error;
@@ -92,7 +92,7 @@ fn may_bypass(source: Hertz, requested: Hertz, allowed: bool) -> bool
 
 // The least divisor from 2 to 257 that brings the source down to the requested frequency.
 pub fn clock_setting(source: Hertz, requested: Hertz, allow_bypass: bool) -> ClockAnswer
-    ensures { result ≡ clockOf source.0 requested.0 allow_bypass }
+    ensures { result ≡ clock_of source.0 requested.0 allow_bypass }
 {
     let s = source.0;
     let q = requested.0;

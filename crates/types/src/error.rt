@@ -1,6 +1,6 @@
 // Why the driver refuses, and the number that each answer has.
 ghost use Rattle.std.specs.Prelude.{◌≡◌};
-ghost use Rattle.types.specs.Answer.{fieldNumber, errorTold, answerTold, carried};
+ghost use Rattle.types.specs.Answer.{field_number, error_told, answer_told, carried};
 
 // What made a card unsupported: a field of its CSD, its CSD and OCR, its voltages, or that it takes no application command.
 #[derive(Drop)]
@@ -54,7 +54,7 @@ pub enum Answer {
 
 impl Field {
     pub fn number(self) -> u8
-        ensures { result ≡ fieldNumber self }
+        ensures { result ≡ field_number self }
     {
         match self {
             Field::CsdVersion => 1,
@@ -73,7 +73,7 @@ impl Error {
     // The number of each of the driver's errors is its place among them, so a compiler needs no table. What the driver does
     // not have has a number of its own, and here a place behind them.
     fn place(self) -> u8
-        ensures { ((errorTold self).number ≡ 26 → ⊥) → result ≡ (errorTold self).number }
+        ensures { ((error_told self).number ≡ 26 → ⊥) → result ≡ (error_told self).number }
     {
         match self {
             Error::Timeout => 1,
@@ -101,7 +101,7 @@ impl Error {
     }
 
     pub fn number(self) -> u8
-        ensures { result ≡ (errorTold self).number }
+        ensures { result ≡ (error_told self).number }
     {
         match self {
             Error::WriteProtected => 26,
@@ -111,7 +111,7 @@ impl Error {
 
     // The card's status word at CardStatus, the field's number at UnsupportedCardType; 0 elsewhere.
     pub fn word(self) -> u32
-        ensures { result ≡ carried (errorTold self) }
+        ensures { result ≡ carried (error_told self) }
     {
         match self {
             Error::CardStatus(word) => word,
@@ -123,7 +123,7 @@ impl Error {
 
 impl Answer {
     pub fn number(self) -> u8
-        ensures { result ≡ (answerTold self).number }
+        ensures { result ≡ (answer_told self).number }
     {
         match self {
             Answer::Accepted => 0,
@@ -136,7 +136,7 @@ impl Answer {
 
     // The word that the answer carries: the card's status at CardStatus, the field at UnsupportedCardType, 0 elsewhere.
     pub fn word(self) -> u32
-        ensures { result ≡ carried (answerTold self) }
+        ensures { result ≡ carried (answer_told self) }
     {
         match self {
             Answer::Refused(error) => error.word(),

@@ -3,7 +3,7 @@
 ghost use Rattle.std.specs.Prelude.{◌≡◌};
 ghost use Rattle.types.specs.Bits.{bits};
 ghost use Rattle.types.specs.Sd.{wide_of};
-ghost use Rattle.types.specs.Leaf.{count_of, rateOf, size_of, protectionOf, stopsWrites, protectNumber};
+ghost use Rattle.types.specs.Leaf.{count_of, rate_of, size_of, protection_of, stops_writes, protect_number};
 
 use crate::error::{Error, Field};
 
@@ -116,7 +116,7 @@ impl BlockCount {
 impl Protection {
     // Bit 13 of a CSD, PERM_WRITE_PROTECT, and bit 12, TMP_WRITE_PROTECT.
     pub fn of(csd: Wide) -> Protection
-        ensures { result ≡ protectionOf (wide_of csd) }
+        ensures { result ≡ protection_of (wide_of csd) }
     {
         let low = csd.low;
         Protection {
@@ -127,7 +127,7 @@ impl Protection {
 
     // Whether the card is not to be written to.
     pub fn stops_writes(self) -> bool
-        ensures { result ≡ stopsWrites self }
+        ensures { result ≡ stops_writes self }
     {
         if self.permanent {
             return true;
@@ -137,7 +137,7 @@ impl Protection {
 
     // 2 if permanent, plus 1 if temporary.
     pub fn number(self) -> u8
-        ensures { result ≡ protectNumber self }
+        ensures { result ≡ protect_number self }
     {
         if self.permanent {
             if self.temporary { 3 } else { 2 }
@@ -177,7 +177,7 @@ pub fn block_count(csd: Wide) -> CountAnswer
 
 // The rate in bits a second that a TRAN_SPEED byte encodes.
 pub fn transfer_rate(encoded: u8) -> RateAnswer
-    ensures { result ≡ rateOf encoded }
+    ensures { result ≡ rate_of encoded }
 {
     if encoded / 128 % 2 == 1 {
         return RateAnswer::Refused(Error::UnsupportedCardType(Field::RateReservedBit));

@@ -2,7 +2,7 @@
 ghost use Rattle.std.specs.Prelude.{◌≡◌};
 ghost use Rattle.types.specs.Leaf.{data_of};
 ghost use Rattle.types.specs.Bits.{bits, bit};
-ghost use Rattle.types.specs.Sd.{readyOf};
+ghost use Rattle.types.specs.Sd.{ready_of};
 
 use crate::error::Error;
 
@@ -67,7 +67,7 @@ impl CardStatus {
 
     // Whether the card takes data: READY_FOR_DATA, in the transfer state.
     pub fn ready(self) -> bool
-        ensures { result ≡ readyOf self.0 }
+        ensures { result ≡ ready_of self.0 }
     {
         let status = self.0;
         if status / 256 % 2 == 1 {

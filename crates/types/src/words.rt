@@ -1,6 +1,6 @@
 // Words as bytes, and registers out of words.
 ghost use Rattle.std.specs.Prelude.{◌≡◌, ◌+◌, ◌*◌, ◌^◌, min};
-ghost use Rattle.types.specs.Words.{word4, filled, bytes_of, turned, sdStatusOf, halvesOf, scrOf};
+ghost use Rattle.types.specs.Words.{word4, filled, bytes_of, turned, sd_status_of, halves_of, scr_of};
 
 use crate::register::Wide;
 use crate::status::Scr;
@@ -55,7 +55,7 @@ pub fn from_be(word: u32) -> u32
 
 // The SD status of the sixteen words of its data transfer: the last word first, each with its bytes turned round.
 pub fn sd_status(words: [u32; 16]) -> [u32; 16]
-    ensures { result ≡ sdStatusOf words }
+    ensures { result ≡ sd_status_of words }
 {
     let mut status = [0u32; 16];
     let mut i = 0;
@@ -75,7 +75,7 @@ pub fn joined(first: u32, second: u32) -> u64
 
 // The four words of a long response as one register.
 pub fn response_value(words: [u32; 4]) -> Wide
-    ensures { result ≡ halvesOf words }
+    ensures { result ≡ halves_of words }
 {
     Wide {
         high: joined(words[0], words[1]),
@@ -85,7 +85,7 @@ pub fn response_value(words: [u32; 4]) -> Wide
 
 // The SCR of the two words of its data transfer.
 pub fn scr_value(first: u32, second: u32) -> Scr
-    ensures { result.0 ≡ scrOf first second }
+    ensures { result.0 ≡ scr_of first second }
 {
     Scr(joined(from_be(first), from_be(second)))
 }

@@ -5,11 +5,11 @@ ghost use Rattle.bus.specs.Command.{command};
 ghost use Rattle.bus.specs.Transfer.{incoming, outgoing};
 ghost use Rattle.step.specs.Context.{plug};
 ghost use Rattle.step.specs.Next.{next, Lent};
-ghost use Rattle.step.specs.Transfer.{blocksOf};
-ghost use Rattle.stepping.specs.Ahead.{atPlan, siteOf};
+ghost use Rattle.step.specs.Transfer.{blocks_of};
+ghost use Rattle.stepping.specs.Ahead.{at_plan, site_of};
 ghost use Rattle.underway.specs.Under.{under};
-ghost use Rattle.underway.specs.Whole.{initCall, blocks_from, blocksCall, statusCall};
-ghost use Rattle.underway.specs.First.{firstPlan, askedBy, lineBy};
+ghost use Rattle.underway.specs.Whole.{init_call, blocks_from, blocks_call, status_call};
+ghost use Rattle.underway.specs.First.{first_plan, asked_by, line_by};
 
 use crate::call::Call;
 use bus::response::Response;
@@ -37,7 +37,7 @@ pub enum First {
 }
 
 fn init_first(host: Sdmmc, frequency: u32) -> First
-    ensures { (sent : List ℕ) → firstPlan host sent result ≡ initCall host frequency }
+    ensures { (sent : List ℕ) → first_plan host sent result ≡ init_call host frequency }
 {
     let source = host.settings.source;
     if frequency == 0 {
@@ -55,7 +55,7 @@ fn init_first(host: Sdmmc, frequency: u32) -> First
 
 // Blocks from an address on, read or sent.
 fn moves(sends: bool, address: u32, blocks: u16) -> First
-    ensures { (host : Sdmmc) (sent : List ℕ) → firstPlan host sent result ≡ blocks_from host (cond sends (outgoing sent) incoming) address (blocksOf blocks) }
+    ensures { (host : Sdmmc) (sent : List ℕ) → first_plan host sent result ≡ blocks_from host (cond sends (outgoing sent) incoming) address (blocks_of blocks) }
 {
     if sends {
         First::Sends(address, blocks)
@@ -66,7 +66,7 @@ fn moves(sends: bool, address: u32, blocks: u16) -> First
 
 // A read or a write, judged as the host on a script judges it.
 fn blocks_first(host: Sdmmc, sends: bool, index: u32, bytes: usize) -> First
-    ensures { (sent : List ℕ) → firstPlan host sent result ≡ blocksCall host (cond sends (outgoing sent) incoming) index bytes }
+    ensures { (sent : List ℕ) → first_plan host sent result ≡ blocks_call host (cond sends (outgoing sent) incoming) index bytes }
 {
     let answer = host.judged(sends, index, bytes);
     match answer {
@@ -76,7 +76,7 @@ fn blocks_first(host: Sdmmc, sends: bool, index: u32, bytes: usize) -> First
 }
 
 fn status_first(host: Sdmmc) -> First
-    ensures { (sent : List ℕ) → firstPlan host sent result ≡ statusCall host }
+    ensures { (sent : List ℕ) → first_plan host sent result ≡ status_call host }
 {
     if host.known {
         First::App
@@ -86,7 +86,7 @@ fn status_first(host: Sdmmc) -> First
 }
 
 fn asked(first: First) -> Asked
-    ensures { result ≡ askedBy first }
+    ensures { result ≡ asked_by first }
 {
     match first {
         First::Refused(_) => Asked::Status,
@@ -99,7 +99,7 @@ fn asked(first: First) -> Asked
 
 // What the host holds from the start: an initialisation begins with a fresh line.
 fn line(first: First, before: Line) -> Line
-    ensures { result ≡ lineBy first before }
+    ensures { result ≡ line_by first before }
 {
     match first {
         First::Refused(_) => before,
@@ -136,7 +136,7 @@ fn unknown() -> Known {
 
 // CMD55 of a status call.
 fn app(limit: u32, rca: u16, gated: bool) -> At
-    ensures { (j : Job) (k : Known) (held : List ℕ) (g : Lent) (h : Line) → h.gated ≡ gated → next (atPlan j k held g result) h ≡ next (plug (siteOf j k g.sent Site.App) (command limit 55 (rca * 2 ^ 16) Response.R1)) h }
+    ensures { (j : Job) (k : Known) (held : List ℕ) (g : Lent) (h : Line) → h.gated ≡ gated → next (at_plan j k held g result) h ≡ next (plug (site_of j k g.sent Site.App) (command limit 55 (rca * 2 ^ 16) Response.R1)) h }
 {
     let begun = Command::begin(limit, 55, rca as u32 * 0x1_0000, Response::R1, gated);
     match begun {
@@ -147,7 +147,7 @@ fn app(limit: u32, rca: u16, gated: bool) -> At
 
 // Where a call stands at its start.
 fn stands(job: Job, known: Known, gated: bool, first: First) -> At
-    ensures { job.asked ≡ askedBy first → (held : List ℕ) (g : Lent) (h : Line) → h.gated ≡ gated → next (atPlan job known held g result) (lineBy first h) ≡ next (firstPlan job.host g.sent first) h }
+    ensures { job.asked ≡ asked_by first → (held : List ℕ) (g : Lent) (h : Line) → h.gated ≡ gated → next (at_plan job known held g result) (line_by first h) ≡ next (first_plan job.host g.sent first) h }
 {
     match first {
         First::Refused(error) => At::Over(End::Keeping(Why::Failed(error))),
@@ -164,7 +164,7 @@ fn stands(job: Job, known: Known, gated: bool, first: First) -> At
 
 // A call at its start.
 fn begin(host: Sdmmc, first: First) -> Call
-    ensures { (g : Lent) → under g result ≡ record { before = host; ahead = next (firstPlan host g.sent first) host.line } }
+    ensures { (g : Lent) → under g result ≡ record { before = host; ahead = next (first_plan host g.sent first) host.line } }
 {
     let before = host.line;
     let job = Job {
@@ -185,7 +185,7 @@ fn begin(host: Sdmmc, first: First) -> Call
 impl Call {
     // Initialises the card: its record, and the clock and signalling for it.
     pub fn init_card(host: Sdmmc, frequency: Hertz) -> Call
-        ensures { (g : Lent) → under g result ≡ record { before = host; ahead = next (initCall host frequency.0) host.line } }
+        ensures { (g : Lent) → under g result ≡ record { before = host; ahead = next (init_call host frequency.0) host.line } }
     {
         let asked = frequency.0;
         begin(host, init_first(host, asked))
@@ -193,21 +193,21 @@ impl Call {
 
     // Reads so many bytes, 512 for each block, from an index on; its words are handed out with their places.
     pub fn read_blocks(host: Sdmmc, index: u32, bytes: usize) -> Call
-        ensures { (g : Lent) → under g result ≡ record { before = host; ahead = next (blocksCall host incoming index bytes) host.line } }
+        ensures { (g : Lent) → under g result ≡ record { before = host; ahead = next (blocks_call host incoming index bytes) host.line } }
     {
         begin(host, blocks_first(host, false, index, bytes))
     }
 
     // Writes so many bytes, 512 for each block, from an index on; its words are asked for by their places.
     pub fn write_blocks(host: Sdmmc, index: u32, bytes: usize) -> Call
-        ensures { (g : Lent) → under g result ≡ record { before = host; ahead = next (blocksCall host (outgoing g.sent) index bytes) host.line } }
+        ensures { (g : Lent) → under g result ≡ record { before = host; ahead = next (blocks_call host (outgoing g.sent) index bytes) host.line } }
     {
         begin(host, blocks_first(host, true, index, bytes))
     }
 
     // Reads the card's SD status, which is then in its record.
     pub fn read_sd_status(host: Sdmmc) -> Call
-        ensures { (g : Lent) → under g result ≡ record { before = host; ahead = next (statusCall host) host.line } }
+        ensures { (g : Lent) → under g result ≡ record { before = host; ahead = next (status_call host) host.line } }
     {
         begin(host, status_first(host))
     }

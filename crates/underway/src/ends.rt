@@ -1,12 +1,12 @@
 // What a call has come to: its answer and the next host.
 ghost use Rattle.std.specs.Prelude.{◌≡◌, take};
-ghost use Rattle.types.specs.Words.{sdStatusOf};
+ghost use Rattle.types.specs.Words.{sd_status_of};
 ghost use Rattle.step.specs.Next.{next, Lent};
-ghost use Rattle.host.specs.Calls.{answerFor};
+ghost use Rattle.host.specs.Calls.{answer_for};
 ghost use Rattle.step.specs.Transfer.{all_of};
-ghost use Rattle.step.specs.Why.{causeOf};
-ghost use Rattle.stepping.specs.Ahead.{phaseBy, hostBy, words_in, endPlan};
-ghost use Rattle.underway.specs.Under.{under, ends_at, closedAt, closedOf};
+ghost use Rattle.step.specs.Why.{cause_of};
+ghost use Rattle.stepping.specs.Ahead.{phase_by, host_by, words_in, end_plan};
+ghost use Rattle.underway.specs.Under.{under, ends_at, closed_at, closed_of};
 
 use crate::call::{Call, Closed, Outcome};
 use host::calls;
@@ -20,14 +20,14 @@ use types::words;
 
 // The SD status that sixteen words make.
 fn status_of(held: [u32; 16]) -> [u32; 16]
-    ensures { result ≡ sdStatusOf (take 16 held) }
+    ensures { result ≡ sd_status_of (take 16 held) }
 {
     words::sd_status(held)
 }
 
 // The next host of an accepted read, write or status call.
 fn accepted(job: Job, held: [u32; 16], line: Line) -> Sdmmc
-    ensures { (g : Lent) → result ≡ hostBy job.asked job.host line (all_of (phaseBy job.asked) (words_in job Gets.Asked held g)) }
+    ensures { (g : Lent) → result ≡ host_by job.asked job.host line (all_of (phase_by job.asked) (words_in job Gets.Asked held g)) }
 {
     let host = job.host;
     let card = host.card;
@@ -42,7 +42,7 @@ fn accepted(job: Job, held: [u32; 16], line: Line) -> Sdmmc
 
 // The answer of a call that is refused for this.
 fn answer_for(why: Why) -> Answer
-    ensures { result ≡ answerFor (causeOf why) }
+    ensures { result ≡ answer_for (cause_of why) }
 {
     match why {
         Why::Failed(error) => Answer::Refused(error),
@@ -61,7 +61,7 @@ fn closes(answer: Answer, host: Sdmmc) -> Closed
 
 // A call that ended so.
 fn ended(job: Job, known: Known, held: [u32; 16], line: Line, end: End) -> Closed
-    ensures { (g : Lent) → result ≡ closedAt job.host (next (endPlan job known (words_in job Gets.Asked held g) end) line) }
+    ensures { (g : Lent) → result ≡ closed_at job.host (next (end_plan job known (words_in job Gets.Asked held g) end) line) }
 {
     let host = job.host;
     let card = host.card;
@@ -96,7 +96,7 @@ fn end_of(at: At) -> Ends
 impl Call {
     // What it has come to.
     pub fn closed(self) -> Closed
-        ensures { (g : Lent) → result ≡ closedOf (under g self) }
+        ensures { (g : Lent) → result ≡ closed_of (under g self) }
     {
         let job = self.job;
         let host = job.host;

@@ -1,6 +1,6 @@
 // The rows of an initialisation outside commands and data phases.
 ghost use Rattle.std.specs.Prelude.{◌≡◌, true};
-ghost use Rattle.stepping.specs.Ahead.{lineSet, clockOn, row_at};
+ghost use Rattle.stepping.specs.Ahead.{line_set, clock_on, row_at};
 
 use bus::ready;
 use stepping::call::{Change, Job, Known, Writes};
@@ -21,7 +21,7 @@ fn written(register: u32, value: u32) -> Row
 
 // The clock of this source that is set next.
 fn clock_row(job: Job, known: Known, change: Change) -> Row
-    ensures { result ≡ clockOn job known change }
+    ensures { result ≡ clock_on job known change }
 {
     let asked = job.asked;
     let clock = known.clock;
@@ -64,7 +64,7 @@ fn clocked(line: Line, clock: Hertz, signalling: Signalling) -> Line
 
 // What the host holds once a clock row is written; the initial clock is held from the start.
 fn set(known: Known, line: Line, change: Change) -> Line
-    ensures { result ≡ lineSet known (Writes.Clock change) line }
+    ensures { result ≡ line_set known (Writes.Clock change) line }
 {
     let clock = known.clock;
     let frequency = clock.frequency;
@@ -78,7 +78,7 @@ fn set(known: Known, line: Line, change: Change) -> Line
 
 // What the host holds once a row is written, but for CLKCR.
 pub fn after(known: Known, line: Line, writes: Writes) -> Line
-    ensures { result ≡ lineSet known writes line }
+    ensures { result ≡ line_set known writes line }
 {
     match writes {
         Writes::Reset(_) => line,

@@ -1,8 +1,8 @@
 // What a call under way waits for, and how it goes on after an answer.
 ghost use Rattle.std.specs.Prelude.{◌≡◌, List, ℕ};
 ghost use Rattle.tape.specs.declared.progress.Line.{Line};
-ghost use Rattle.step.specs.Next.{next, wantOf, heard, told, missed, lineAfter, Lent, filledIn, HandedBy};
-ghost use Rattle.stepping.specs.Ahead.{busWith, rcaOf, waitRca, atPlan, standNext};
+ghost use Rattle.step.specs.Next.{next, want_of, heard, told, missed, line_after, Lent, filled_in, HandedBy};
+ghost use Rattle.stepping.specs.Ahead.{bus_with, rca_of, wait_rca, at_plan, stand_next};
 ghost use Rattle.underway.specs.Under.{kept_at, KeptAt, line_at, under, answered, unanswered, written};
 
 use crate::call::Call;
@@ -16,13 +16,13 @@ use tape::script::Reading;
 
 // What a ready wait goes by, and what a data phase does.
 fn wait_bus(job: Job, known: Known, waiting: Waiting) -> Bus
-    ensures { result ≡ busWith job (waitRca job known waiting) }
+    ensures { result ≡ bus_with job (wait_rca job known waiting) }
 {
     job.bus(job.wait_rca(known, waiting))
 }
 
 fn data_bus(job: Job, known: Known, gets: Gets) -> Bus
-    ensures { result ≡ busWith job (rcaOf job known gets) }
+    ensures { result ≡ bus_with job (rca_of job known gets) }
 {
     job.bus(job.rca(known, gets))
 }
@@ -30,7 +30,7 @@ fn data_bus(job: Job, known: Known, gets: Gets) -> Bus
 // The words that a call keeps after a word: a data word goes to its place among them.
 fn kept(asked: Asked, at: At, held: [u32; 16], word: u32) -> [u32; 16]
     ensures set { result ≡ kept_at asked at held word }
-    ensures handed { (j : Job) (k : Known) (h : Line) (g g' : Lent) → j.asked ≡ asked → HandedBy (wantOf (next (atPlan j k held g at) h)) word g g' → KeptAt asked at word held g (kept_at asked at held word) g' }
+    ensures handed { (j : Job) (k : Known) (h : Line) (g g' : Lent) → j.asked ≡ asked → HandedBy (want_of (next (at_plan j k held g at) h)) word g g' → KeptAt asked at word held g (kept_at asked at held word) g' }
 {
     match at {
         At::Command(_, _) => held,
@@ -44,7 +44,7 @@ fn kept(asked: Asked, at: At, held: [u32; 16], word: u32) -> [u32; 16]
 
 // Where a call stands after a word, which it keeps by now; unasked, where it stood.
 fn heard(job: Job, known: Known, line: Line, held: [u32; 16], at: At, word: u32) -> Stand
-    ensures { (before : List ℕ) (g g' : Lent) → KeptAt job.asked at word before g held g' → standNext job held g' result line ≡ heard (next (atPlan job known before g at) line) word }
+    ensures { (before : List ℕ) (g g' : Lent) → KeptAt job.asked at word before g held g' → stand_next job held g' result line ≡ heard (next (at_plan job known before g at) line) word }
 {
     let asked = job.asked;
     let gated = line.gated;
@@ -66,7 +66,7 @@ fn heard(job: Job, known: Known, line: Line, held: [u32; 16], at: At, word: u32)
 
 // Where a call stands that no word will come for; unasked, where it stood.
 fn unheard(job: Job, known: Known, line: Line, held: [u32; 16], at: At) -> Stand
-    ensures { (g : Lent) → standNext job held g result line ≡ missed (next (atPlan job known held g at) line) }
+    ensures { (g : Lent) → stand_next job held g result line ≡ missed (next (at_plan job known held g at) line) }
 {
     let asked = job.asked;
     let gated = line.gated;
@@ -102,7 +102,7 @@ fn line_after(known: Known, line: Line, at: At) -> Line
 
 // Where a call stands after its row, which its line has noted by now; with none to write, where it stood.
 fn moved(job: Job, known: Known, line: Line, held: [u32; 16], at: At) -> Stand
-    ensures { (g : Lent) (h : Line) → line ≡ lineAfter (next (atPlan job known held g at) h) → standNext job held g result (line_at known at line) ≡ told (next (atPlan job known held g at) h) }
+    ensures { (g : Lent) (h : Line) → line ≡ line_after (next (at_plan job known held g at) h) → stand_next job held g result (line_at known at line) ≡ told (next (at_plan job known held g at) h) }
 {
     let asked = job.asked;
     let gate = line.gated;
@@ -128,7 +128,7 @@ fn moved(job: Job, known: Known, line: Line, held: [u32; 16], at: At) -> Stand
 impl Call {
     // What it waits for: a reading by its kind, a row to write, a word of the data by its place, or nothing, once it is over.
     pub fn wants(self) -> Wants
-        ensures { (g : Lent) → filledIn g.sent result ≡ wantOf (under g self).ahead }
+        ensures { (g : Lent) → filled_in g.sent result ≡ want_of (under g self).ahead }
     {
         let job = self.job;
         let asked = job.asked;
@@ -147,7 +147,7 @@ impl Call {
 
     // After the word that it asked for; unasked, as it was.
     pub fn fed(self, word: u32) -> Call
-        ensures { (g g' : Lent) → HandedBy (wantOf (under g self).ahead) word g g' → under g' result ≡ answered (under g self) word }
+        ensures { (g g' : Lent) → HandedBy (want_of (under g self).ahead) word g g' → under g' result ≡ answered (under g self) word }
     {
         let job = self.job;
         let asked = job.asked;
@@ -189,7 +189,7 @@ impl Call {
 
     // With its row written, which it noted.
     fn noting(self, noted: Line) -> Call
-        ensures { (g : Lent) → noted ≡ lineAfter (under g self).ahead → under g result ≡ written (under g self) }
+        ensures { (g : Lent) → noted ≡ line_after (under g self).ahead → under g result ≡ written (under g self) }
     {
         let job = self.job;
         let held = self.held;

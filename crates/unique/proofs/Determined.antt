@@ -56,16 +56,16 @@ module _ {n : ℕ} (κs : Lfts n) (R : Type 0) where
 abbrev pub ToldOf : {n : ℕ} (ps : List (ParamKind n)) (r : ResultKind n) (κs : Lfts n) → Dens κs ps → Type 0
 ToldOf ps r κs a = Told κs (res_t r κs).Denot (slots ps) (kepts ps) a
 
-abbrev pub toldOf : {n : ℕ} (ps : List (ParamKind n)) (r : ResultKind n) (κs : Lfts n) (a : Dens κs ps) → Outcome ps r κs a → ToldOf ps r κs a
-toldOf ps r κs a x = told κs (res_t r κs).Denot (slots ps) (kepts ps) a x.0 x.1
+abbrev pub told_of : {n : ℕ} (ps : List (ParamKind n)) (r : ResultKind n) (κs : Lfts n) (a : Dens κs ps) → Outcome ps r κs a → ToldOf ps r κs a
+told_of ps r κs a x = told κs (res_t r κs).Denot (slots ps) (kepts ps) a x.0 x.1
 
 -- An outcome, told so, equals a definition: in a function's line each part of it by the clause that says it. The definition is
 -- read off the clauses, so the line leaves it out.
 pub determined : {n : ℕ} {ps : List (ParamKind n)} {r : ResultKind n} {Learnt : Out n ps r} (d : (κs : Lfts n) (a : Dens κs ps) → ToldOf ps r κs a)
-    → ((κs : Lfts n) (a : Dens κs ps) (x : Outcome ps r κs a) → Allows ps r Learnt κs a x → toldOf ps r κs a x ≡ d κs a)
+    → ((κs : Lfts n) (a : Dens κs ps) (x : Outcome ps r κs a) → Allows ps r Learnt κs a x → told_of ps r κs a x ≡ d κs a)
     → Unique ps r Learnt
 determined {n} {ps} {r} {Learnt} d e =
-    let told_same : UniqueIn ps r Learnt (toldOf ps r) = part-determined d e in
+    let told_same : UniqueIn ps r Learnt (told_of ps r) = part-determined d e in
     record {
       same = λ κs a x y p q.
           let parts = told-parts κs (res_t r κs).Denot (slots ps) (kepts ps) a x.0 y.0 x.1 y.1 (told_same.same κs a x y p q) in

@@ -4,5 +4,5 @@ use Rattle.sheet.proofs.sheet
 use Rattle.unique.specs.Unique.{Unique}
 use Rattle.unique.proofs.Determined.{determined}
 
-sheet-sheet-filled : Unique sheet.Sheet.filled.Kinds.ps sheet.Sheet.filled.Kinds.r sheet.Sheet.filled.Reads.Learnt
-sheet-sheet-filled = determined _ λ _ _ _ p. p
+sheet_sheet_filled : Unique sheet.Sheet.filled.Kinds.ps sheet.Sheet.filled.Kinds.r sheet.Sheet.filled.Reads.Learnt
+sheet_sheet_filled = determined _ λ _ _ _ p. p

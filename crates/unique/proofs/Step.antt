@@ -17,15 +17,15 @@ use Rattle.step.specs.declared.arm.StopStep.TheVariants as SS
 use Rattle.step.specs.declared.reset.Reset.TheVariants as R
 use Rattle.step.specs.declared.reset.ResetStep.{ResetStep}
 use Rattle.step.specs.declared.reset.ResetStep.TheVariants as RS
-use Rattle.step.specs.Arm.{armRest, armNext, stopRest, stopNext}
-use Rattle.step.specs.Command.{begunNext, commandNext, commandPlan}
+use Rattle.step.specs.Arm.{arm_rest, arm_next, stop_rest, stop_next}
+use Rattle.step.specs.Command.{begun_next, command_next, command_plan}
 use Rattle.step.specs.declared.wants.Wants.{Wants}
 use Rattle.step.specs.declared.wants.Wants.TheVariants as W
-use Rattle.step.specs.Next.{Next, Lent, lineAfter, next, filledIn}
+use Rattle.step.specs.Next.{Next, Lent, line_after, next, filled_in}
 use Rattle.feed.specs.Turns.{lent}
-use Rattle.step.specs.Ready.{readyNext, readyPlan, waitsNext}
-use Rattle.step.specs.Reset.{restLeft, stepLeft}
-use Rattle.step.specs.Transfer.{dataNext, dataPlan, HandedAt}
+use Rattle.step.specs.Ready.{ready_next, ready_plan, waits_next}
+use Rattle.step.specs.Reset.{rest_left, step_left}
+use Rattle.step.specs.Transfer.{data_next, data_plan, HandedAt}
 use Rattle.step.proofs.arm
 use Rattle.step.proofs.command
 use Rattle.step.proofs.phase
@@ -38,8 +38,8 @@ use Rattle.unique.proofs.Determined.{determined, part-determined}
 arm-arm-row : Unique arm.Arm.row.Kinds.ps arm.Arm.row.Kinds.r arm.Arm.row.Reads.Learnt
 arm-arm-row = determined _ λ _ _ _ p. p
 
-arm-stop-row : Unique arm.Stop.row.Kinds.ps arm.Stop.row.Kinds.r arm.Stop.row.Reads.Learnt
-arm-stop-row = determined _ λ _ _ _ p. p
+arm_stop_row : Unique arm.Stop.row.Kinds.ps arm.Stop.row.Kinds.r arm.Stop.row.Reads.Learnt
+arm_stop_row = determined _ λ _ _ _ p. p
 
 reset-reset-row : Unique reset.Reset.row.Kinds.ps reset.Reset.row.Kinds.r reset.Reset.row.Reads.Learnt
 reset-reset-row = determined _ λ _ _ _ p. p
@@ -47,14 +47,14 @@ reset-reset-row = determined _ λ _ _ _ p. p
 command-words-list : Unique command.Words.list.Kinds.ps command.Words.list.Kinds.r command.Words.list.Reads.Learnt
 command-words-list = determined _ λ _ _ _ p. p
 
-command-asks-reading : Unique command.Asks.reading.Kinds.ps command.Asks.reading.Kinds.r command.Asks.reading.Reads.Learnt
-command-asks-reading = determined _ λ _ _ _ p. p
+command_asks_reading : Unique command.Asks.reading.Kinds.ps command.Asks.reading.Kinds.r command.Asks.reading.Reads.Learnt
+command_asks_reading = determined _ λ _ _ _ p. p
 
-command-command-wants : Unique command.Command.wants.Kinds.ps command.Command.wants.Kinds.r command.Command.wants.Reads.Learnt
-command-command-wants = determined _ λ _ _ _ p. p
+command_command_wants : Unique command.Command.wants.Kinds.ps command.Command.wants.Kinds.r command.Command.wants.Reads.Learnt
+command_command_wants = determined _ λ _ _ _ p. p
 
-ready-ready-wants : Unique ready.Ready.wants.Kinds.ps ready.Ready.wants.Kinds.r ready.Ready.wants.Reads.Learnt
-ready-ready-wants = determined _ λ _ _ _ p. p
+ready_ready_wants : Unique ready.Ready.wants.Kinds.ps ready.Ready.wants.Kinds.r ready.Ready.wants.Reads.Learnt
+ready_ready_wants = determined _ λ _ _ _ p. p
 
 phase-phase-transfer : Unique phase.Phase.transfer.Kinds.ps phase.Phase.transfer.Kinds.r phase.Phase.transfer.Reads.Learnt
 phase-phase-transfer = determined _ λ _ _ _ p. p
@@ -83,12 +83,12 @@ unfolding marked
 at_mark zero = refl
 at_mark (suc k) = at_mark k
 
-one-mark : (k k' : ℕ) → get_or (marked k) k 0 ≡ get_or (marked k) k' 0 → k ≡ k'
+one_mark : (k k' : ℕ) → get_or (marked k) k 0 ≡ get_or (marked k) k' 0 → k ≡ k'
 unfolding marked
-one-mark zero zero e = refl
-one-mark zero (suc k') e = absurd (omega (arith, e))
-one-mark (suc k) zero e = absurd (omega (arith, at_mark k, e))
-one-mark (suc k) (suc k') e = ap suc (one-mark k k' e)
+one_mark zero zero e = refl
+one_mark zero (suc k') e = absurd (omega (arith, e))
+one_mark (suc k) zero e = absurd (omega (arith, at_mark k, e))
+one_mark (suc k) (suc k') e = ap suc (one_mark k k' e)
 
 abbrev value_of : Wants → ℕ
 value_of (W.Read r) = 0
@@ -103,34 +103,34 @@ kind_of (W.Send k) = 2
 kind_of W.Nothing = 3
 
 -- a row is the same with every list of words
-no_row : (k : ℕ) (r : Row) → ((sent : List ℕ) → filledIn sent (W.Send k) ≡ W.Write r) → ⊥
-unfolding filledIn
+no_row : (k : ℕ) (r : Row) → ((sent : List ℕ) → filled_in sent (W.Send k) ≡ W.Write r) → ⊥
+unfolding filled_in
 no_row k r e = omega (arith, at_mark k, ap value_of (e (marked k)), ap value_of (e []))
 
-pub wants-told : (x y : Wants) → ((sent : List ℕ) → filledIn sent x ≡ filledIn sent y) → x ≡ y
-unfolding filledIn
-wants-told (W.Read r) (W.Read r') e = e []
-wants-told (W.Read r) (W.Write r') e = e []
-wants-told (W.Read r) (W.Send k) e = absurd (omega (arith, ap kind_of (e [])))
-wants-told (W.Read r) W.Nothing e = e []
-wants-told (W.Write r) (W.Read r') e = e []
-wants-told (W.Write r) (W.Write r') e = e []
-wants-told (W.Write r) (W.Send k) e = absurd (no_row k r (λ sent. sym (e sent)))
-wants-told (W.Write r) W.Nothing e = e []
-wants-told (W.Send k) (W.Read r') e = absurd (omega (arith, ap kind_of (e [])))
-wants-told (W.Send k) (W.Write r') e = absurd (no_row k r' e)
-wants-told (W.Send k) (W.Send k') e = ap W.Send (one-mark k k' (ap value_of (e (marked k))))
-wants-told (W.Send k) W.Nothing e = absurd (omega (arith, ap kind_of (e [])))
-wants-told W.Nothing (W.Read r') e = e []
-wants-told W.Nothing (W.Write r') e = e []
-wants-told W.Nothing (W.Send k) e = absurd (omega (arith, ap kind_of (e [])))
-wants-told W.Nothing W.Nothing e = refl
+pub wants_told : (x y : Wants) → ((sent : List ℕ) → filled_in sent x ≡ filled_in sent y) → x ≡ y
+unfolding filled_in
+wants_told (W.Read r) (W.Read r') e = e []
+wants_told (W.Read r) (W.Write r') e = e []
+wants_told (W.Read r) (W.Send k) e = absurd (omega (arith, ap kind_of (e [])))
+wants_told (W.Read r) W.Nothing e = e []
+wants_told (W.Write r) (W.Read r') e = e []
+wants_told (W.Write r) (W.Write r') e = e []
+wants_told (W.Write r) (W.Send k) e = absurd (no_row k r (λ sent. sym (e sent)))
+wants_told (W.Write r) W.Nothing e = e []
+wants_told (W.Send k) (W.Read r') e = absurd (omega (arith, ap kind_of (e [])))
+wants_told (W.Send k) (W.Write r') e = absurd (no_row k r' e)
+wants_told (W.Send k) (W.Send k') e = ap W.Send (one_mark k k' (ap value_of (e (marked k))))
+wants_told (W.Send k) W.Nothing e = absurd (omega (arith, ap kind_of (e [])))
+wants_told W.Nothing (W.Read r') e = e []
+wants_told W.Nothing (W.Write r') e = e []
+wants_told W.Nothing (W.Send k) e = absurd (omega (arith, ap kind_of (e [])))
+wants_told W.Nothing W.Nothing e = refl
 
-transfer-data-wants : Unique transfer.Data.wants.Kinds.ps transfer.Data.wants.Kinds.r transfer.Data.wants.Reads.Learnt
-transfer-data-wants = record { same = λ _ _ x y p q i. (wants-told x.0 y.0 (λ sent. p (lent sent []) ∙ sym (q (lent sent []))) i, x.1) }
+transfer_data_wants : Unique transfer.Data.wants.Kinds.ps transfer.Data.wants.Kinds.r transfer.Data.wants.Reads.Learnt
+transfer_data_wants = record { same = λ _ _ x y p q i. (wants_told x.0 y.0 (λ sent. p (lent sent []) ∙ sym (q (lent sent []))) i, x.1) }
 
-transfer-data-keeps : Unique transfer.Data.keeps.Kinds.ps transfer.Data.keeps.Kinds.r transfer.Data.keeps.Reads.Learnt
-transfer-data-keeps = determined _ λ _ _ _ p. p.0
+transfer_data_keeps : Unique transfer.Data.keeps.Kinds.ps transfer.Data.keeps.Kinds.r transfer.Data.keeps.Reads.Learnt
+transfer_data_keeps = determined _ λ _ _ _ p. p.0
 
 -- no transfer
 abbrev none : Transfer
@@ -147,8 +147,8 @@ arm_at (_ ∷ _ ∷ _ ∷ _ ∷ []) = AS.At A.Off
 arm_at (_ ∷ _ ∷ _ ∷ _ ∷ _ ∷ []) = AS.At A.Mask
 arm_at (_ ∷ _ ∷ _ ∷ _ ∷ _ ∷ _ ∷ _) = AS.At A.Dctrl2
 
-arm-told : (timeout : ℕ) (transfer : Transfer) (s : ArmStep) → s ≡ arm_at (armNext timeout transfer s)
-unfolding armNext armRest
+arm-told : (timeout : ℕ) (transfer : Transfer) (s : ArmStep) → s ≡ arm_at (arm_next timeout transfer s)
+unfolding arm_next arm_rest
 arm-told timeout transfer (AS.At A.Dctrl2) = refl
 arm-told timeout transfer (AS.At A.Mask) = refl
 arm-told timeout transfer (AS.At A.Off) = refl
@@ -166,31 +166,31 @@ stop_at (_ ∷ []) = SS.At S.Icr
 stop_at (_ ∷ _ ∷ []) = SS.At S.Dctrl
 stop_at (_ ∷ _ ∷ _ ∷ _) = SS.At S.Mask
 
-stop-told : (s : StopStep) → s ≡ stop_at (stopNext s)
-unfolding stopNext stopRest
-stop-told (SS.At S.Mask) = refl
-stop-told (SS.At S.Dctrl) = refl
-stop-told (SS.At S.Icr) = refl
-stop-told SS.Done = refl
+stop_told : (s : StopStep) → s ≡ stop_at (stop_next s)
+unfolding stop_next stop_rest
+stop_told (SS.At S.Mask) = refl
+stop_told (SS.At S.Dctrl) = refl
+stop_told (SS.At S.Icr) = refl
+stop_told SS.Done = refl
 
-arm-stop-after : Unique arm.Stop.after.Kinds.ps arm.Stop.after.Kinds.r arm.Stop.after.Reads.Learnt
-arm-stop-after = determined _ λ _ _ x p. stop-told x.0 ∙ ap stop_at p
+arm_stop_after : Unique arm.Stop.after.Kinds.ps arm.Stop.after.Kinds.r arm.Stop.after.Reads.Learnt
+arm_stop_after = determined _ λ _ _ x p. stop_told x.0 ∙ ap stop_at p
 
-abbrev resetAt : List Row → ResetStep
-resetAt [] = RS.Done
-resetAt (_ ∷ []) = RS.At R.Icr
-resetAt (_ ∷ _ ∷ []) = RS.At R.Dlen
-resetAt (_ ∷ _ ∷ _ ∷ []) = RS.At R.Dtimer
-resetAt (_ ∷ _ ∷ _ ∷ _ ∷ []) = RS.At R.Arg
-resetAt (_ ∷ _ ∷ _ ∷ _ ∷ _ ∷ []) = RS.At R.Clkcr
-resetAt (_ ∷ _ ∷ _ ∷ _ ∷ _ ∷ _ ∷ []) = RS.At R.Power
-resetAt (_ ∷ _ ∷ _ ∷ _ ∷ _ ∷ _ ∷ _ ∷ []) = RS.At R.Cmd
-resetAt (_ ∷ _ ∷ _ ∷ _ ∷ _ ∷ _ ∷ _ ∷ _ ∷ []) = RS.At R.Dctrl
-resetAt (_ ∷ _ ∷ _ ∷ _ ∷ _ ∷ _ ∷ _ ∷ _ ∷ _ ∷ []) = RS.At R.Dctrl2
-resetAt (_ ∷ _ ∷ _ ∷ _ ∷ _ ∷ _ ∷ _ ∷ _ ∷ _ ∷ _ ∷ _) = RS.At R.Mask
+abbrev reset_at : List Row → ResetStep
+reset_at [] = RS.Done
+reset_at (_ ∷ []) = RS.At R.Icr
+reset_at (_ ∷ _ ∷ []) = RS.At R.Dlen
+reset_at (_ ∷ _ ∷ _ ∷ []) = RS.At R.Dtimer
+reset_at (_ ∷ _ ∷ _ ∷ _ ∷ []) = RS.At R.Arg
+reset_at (_ ∷ _ ∷ _ ∷ _ ∷ _ ∷ []) = RS.At R.Clkcr
+reset_at (_ ∷ _ ∷ _ ∷ _ ∷ _ ∷ _ ∷ []) = RS.At R.Power
+reset_at (_ ∷ _ ∷ _ ∷ _ ∷ _ ∷ _ ∷ _ ∷ []) = RS.At R.Cmd
+reset_at (_ ∷ _ ∷ _ ∷ _ ∷ _ ∷ _ ∷ _ ∷ _ ∷ []) = RS.At R.Dctrl
+reset_at (_ ∷ _ ∷ _ ∷ _ ∷ _ ∷ _ ∷ _ ∷ _ ∷ _ ∷ []) = RS.At R.Dctrl2
+reset_at (_ ∷ _ ∷ _ ∷ _ ∷ _ ∷ _ ∷ _ ∷ _ ∷ _ ∷ _ ∷ _) = RS.At R.Mask
 
-reset-told : (s : ResetStep) → s ≡ resetAt (stepLeft s)
-unfolding stepLeft restLeft
+reset-told : (s : ResetStep) → s ≡ reset_at (step_left s)
+unfolding step_left rest_left
 reset-told (RS.At R.Mask) = refl
 reset-told (RS.At R.Dctrl2) = refl
 reset-told (RS.At R.Dctrl) = refl
@@ -204,72 +204,72 @@ reset-told (RS.At R.Icr) = refl
 reset-told RS.Done = refl
 
 reset-reset-after : Unique reset.Reset.after.Kinds.ps reset.Reset.after.Kinds.r reset.Reset.after.Reads.Learnt
-reset-reset-after = determined _ λ _ _ x p. reset-told x.0 ∙ ap resetAt p
+reset-reset-after = determined _ λ _ _ x p. reset-told x.0 ∙ ap reset_at p
 
 -- Exceptions: a state under way. What is ahead of it is promised, whatever the host holds, and not the state: two that differ in
 -- what is never looked at again are the same.
 
-command-command-begin : UniqueIn command.Command.begin.Kinds.ps command.Command.begin.Kinds.r command.Command.begin.Reads.Learnt
+command_command_begin : UniqueIn command.Command.begin.Kinds.ps command.Command.begin.Kinds.r command.Command.begin.Reads.Learnt
     {X = λ _ _. Line → Next (List ℕ)}
-    (λ _ _ x h. begunNext x.0 h)
-command-command-begin = part-determined _ λ _ _ _ p i h. p h i
+    (λ _ _ x h. begun_next x.0 h)
+command_command_begin = part-determined _ λ _ _ _ p i h. p h i
 
 command-command-fed : UniqueIn command.Command.fed.Kinds.ps command.Command.fed.Kinds.r command.Command.fed.Reads.Learnt
     {X = λ _ _. Line → Next (List ℕ)}
-    (λ _ _ x h. commandNext x.0 h)
+    (λ _ _ x h. command_next x.0 h)
 command-command-fed = part-determined _ λ _ _ _ p i h. p h i
 
 command-command-missed : UniqueIn command.Command.missed.Kinds.ps command.Command.missed.Kinds.r command.Command.missed.Reads.Learnt
     {X = λ _ _. Line → Next (List ℕ)}
-    (λ _ _ x h. commandNext x.0 h)
+    (λ _ _ x h. command_next x.0 h)
 command-command-missed = part-determined _ λ _ _ _ p i h. p h i
 
 command-command-went : UniqueIn command.Command.went.Kinds.ps command.Command.went.Kinds.r command.Command.went.Reads.Learnt
     {X = λ _ _. Line → Next (List ℕ)}
-    (λ _ a x h. commandNext x.0 (lineAfter (next (commandPlan a.0) h)))
+    (λ _ a x h. command_next x.0 (line_after (next (command_plan a.0) h)))
 command-command-went = part-determined _ λ _ _ _ p i h. p h i
 
-ready-bus-wait-ready : UniqueIn ready.Bus.wait_ready.Kinds.ps ready.Bus.wait_ready.Kinds.r ready.Bus.wait_ready.Reads.Learnt
+ready_bus_wait_ready : UniqueIn ready.Bus.wait_ready.Kinds.ps ready.Bus.wait_ready.Kinds.r ready.Bus.wait_ready.Reads.Learnt
     {X = λ _ a. (h : Line) → h.gated ≡ a.1.0 → Next Nothing}
-    (λ _ a x h same. waitsNext a.0 x.0 h)
-ready-bus-wait-ready = part-determined _ λ _ _ _ p i h same. p h same i
+    (λ _ a x h same. waits_next a.0 x.0 h)
+ready_bus_wait_ready = part-determined _ λ _ _ _ p i h same. p h same i
 
 ready-bus-tries : UniqueIn ready.Bus.tries.Kinds.ps ready.Bus.tries.Kinds.r ready.Bus.tries.Reads.Learnt
     {X = λ _ _. Line → Next Nothing}
-    (λ _ a x h. readyNext a.0 x.0 h)
+    (λ _ a x h. ready_next a.0 x.0 h)
 ready-bus-tries = part-determined _ λ _ _ _ p i h. p h i
 
 ready-ready-fed : UniqueIn ready.Ready.fed.Kinds.ps ready.Ready.fed.Kinds.r ready.Ready.fed.Reads.Learnt
     {X = λ _ _. Line → Next Nothing}
-    (λ _ a x h. readyNext a.1.0 x.0 h)
+    (λ _ a x h. ready_next a.1.0 x.0 h)
 ready-ready-fed = part-determined _ λ _ _ _ p i h. p h i
 
 ready-ready-missed : UniqueIn ready.Ready.missed.Kinds.ps ready.Ready.missed.Kinds.r ready.Ready.missed.Reads.Learnt
     {X = λ _ _. Line → Next Nothing}
-    (λ _ a x h. readyNext a.1.0 x.0 h)
+    (λ _ a x h. ready_next a.1.0 x.0 h)
 ready-ready-missed = part-determined _ λ _ _ _ p i h. p h i
 
 ready-ready-went : UniqueIn ready.Ready.went.Kinds.ps ready.Ready.went.Kinds.r ready.Ready.went.Reads.Learnt
     {X = λ _ a. (h : Line) → h.gated ≡ a.1.1.0 → Next Nothing}
-    (λ _ a x h same. readyNext a.1.0 x.0 (lineAfter (next (readyPlan a.1.0 a.0) h)))
+    (λ _ a x h same. ready_next a.1.0 x.0 (line_after (next (ready_plan a.1.0 a.0) h)))
 ready-ready-went = part-determined _ λ _ _ _ p i h same. p h same i
 
-transfer-bus-begin-data : UniqueIn ready.Bus.begin_data.Kinds.ps ready.Bus.begin_data.Kinds.r ready.Bus.begin_data.Reads.Learnt
+transfer_bus_begin_data : UniqueIn ready.Bus.begin_data.Kinds.ps ready.Bus.begin_data.Kinds.r ready.Bus.begin_data.Reads.Learnt
     {X = λ _ _. Lent → Line → Next (List ℕ)}
-    (λ _ a x ws h. next (dataPlan a.0 a.1.0 ws x.0) h)
-transfer-bus-begin-data = part-determined _ λ _ _ _ p i ws h. p ws h i
+    (λ _ a x ws h. next (data_plan a.0 a.1.0 ws x.0) h)
+transfer_bus_begin_data = part-determined _ λ _ _ _ p i ws h. p ws h i
 
-transfer-data-fed : UniqueIn transfer.Data.fed.Kinds.ps transfer.Data.fed.Kinds.r transfer.Data.fed.Reads.Learnt
+transfer_data_fed : UniqueIn transfer.Data.fed.Kinds.ps transfer.Data.fed.Kinds.r transfer.Data.fed.Reads.Learnt
     {X = λ _ a. (ws ws' : Lent) (h : Line) → h.gated ≡ a.1.1.1.0 → HandedAt a.1.1.0 a.0 a.1.1.1.1.0 ws ws' → Next (List ℕ)}
-    (λ _ a x ws ws' h same handed. dataNext a.1.0 a.1.1.0 ws' x.0 h)
-transfer-data-fed = part-determined _ λ _ _ _ p i ws ws' h same handed. p ws ws' h same handed i
+    (λ _ a x ws ws' h same handed. data_next a.1.0 a.1.1.0 ws' x.0 h)
+transfer_data_fed = part-determined _ λ _ _ _ p i ws ws' h same handed. p ws ws' h same handed i
 
-transfer-data-missed : UniqueIn transfer.Data.missed.Kinds.ps transfer.Data.missed.Kinds.r transfer.Data.missed.Reads.Learnt
+transfer_data_missed : UniqueIn transfer.Data.missed.Kinds.ps transfer.Data.missed.Kinds.r transfer.Data.missed.Reads.Learnt
     {X = λ _ a. Lent → (h : Line) → h.gated ≡ a.1.1.1.0 → Next (List ℕ)}
-    (λ _ a x ws h same. dataNext a.1.0 a.1.1.0 ws x.0 h)
-transfer-data-missed = part-determined _ λ _ _ _ p i ws h same. p ws h same i
+    (λ _ a x ws h same. data_next a.1.0 a.1.1.0 ws x.0 h)
+transfer_data_missed = part-determined _ λ _ _ _ p i ws h same. p ws h same i
 
-transfer-data-went : UniqueIn transfer.Data.went.Kinds.ps transfer.Data.went.Kinds.r transfer.Data.went.Reads.Learnt
+transfer_data_went : UniqueIn transfer.Data.went.Kinds.ps transfer.Data.went.Kinds.r transfer.Data.went.Reads.Learnt
     {X = λ _ a. Lent → (h : Line) → h.gated ≡ a.1.1.1.0 → Next (List ℕ)}
-    (λ _ a x ws h same. dataNext a.1.0 a.1.1.0 ws x.0 (lineAfter (next (dataPlan a.1.0 a.1.1.0 ws a.0) h)))
-transfer-data-went = part-determined _ λ _ _ _ p i ws h same. p ws h same i
+    (λ _ a x ws h same. data_next a.1.0 a.1.1.0 ws x.0 (line_after (next (data_plan a.1.0 a.1.1.0 ws a.0) h)))
+transfer_data_went = part-determined _ λ _ _ _ p i ws h same. p ws h same i

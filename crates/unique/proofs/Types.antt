@@ -18,14 +18,14 @@ card-block-address = determined _ λ _ _ _ p. p
 clock-clock-setting : Unique clock.clock_setting.Kinds.ps clock.clock_setting.Kinds.r clock.clock_setting.Reads.Learnt
 clock-clock-setting = determined _ λ _ _ _ p. p
 
-config-config-default : Unique config.Config.default.Kinds.ps config.Config.default.Kinds.r config.Config.default.Reads.Learnt
-config-config-default = determined _ λ _ _ _ p. p
+config_config_default : Unique config.Config.default.Kinds.ps config.Config.default.Kinds.r config.Config.default.Reads.Learnt
+config_config_default = determined _ λ _ _ _ p. p
 
 config-config-judge : Unique config.Config.judge.Kinds.ps config.Config.judge.Kinds.r config.Config.judge.Reads.Learnt
 config-config-judge = determined _ λ _ _ _ p. p
 
-error-field-number : Unique error.Field.number.Kinds.ps error.Field.number.Kinds.r error.Field.number.Reads.Learnt
-error-field-number = determined _ λ _ _ _ p. p
+error_field_number : Unique error.Field.number.Kinds.ps error.Field.number.Kinds.r error.Field.number.Reads.Learnt
+error_field_number = determined _ λ _ _ _ p. p
 
 error-error-number : Unique error.Error.number.Kinds.ps error.Error.number.Kinds.r error.Error.number.Reads.Learnt
 error-error-number = determined _ λ _ _ _ p. p
@@ -45,8 +45,8 @@ register-wide-structure = determined _ λ _ _ _ p. p
 register-wide-transfer-rate : Unique register.Wide.transfer_rate.Kinds.ps register.Wide.transfer_rate.Kinds.r register.Wide.transfer_rate.Reads.Learnt
 register-wide-transfer-rate = determined _ λ _ _ _ p. p
 
-register-blockcount-bytes : Unique register.BlockCount.bytes.Kinds.ps register.BlockCount.bytes.Kinds.r register.BlockCount.bytes.Reads.Learnt
-register-blockcount-bytes = determined _ λ _ _ _ p. p
+register_blockcount_bytes : Unique register.BlockCount.bytes.Kinds.ps register.BlockCount.bytes.Kinds.r register.BlockCount.bytes.Reads.Learnt
+register_blockcount_bytes = determined _ λ _ _ _ p. p
 
 register-protection-of : Unique register.Protection.of.Kinds.ps register.Protection.of.Kinds.r register.Protection.of.Reads.Learnt
 register-protection-of = determined _ λ _ _ _ p. p
@@ -63,11 +63,11 @@ register-block-count = determined _ λ _ _ _ p. p
 register-transfer-rate : Unique register.transfer_rate.Kinds.ps register.transfer_rate.Kinds.r register.transfer_rate.Reads.Learnt
 register-transfer-rate = determined _ λ _ _ _ p. p
 
-status-data-error : Unique status.data_error.Kinds.ps status.data_error.Kinds.r status.data_error.Reads.Learnt
-status-data-error = determined _ λ _ _ _ p. p
+status_data_error : Unique status.data_error.Kinds.ps status.data_error.Kinds.r status.data_error.Reads.Learnt
+status_data_error = determined _ λ _ _ _ p. p
 
-status-cardstatus-ready : Unique status.CardStatus.ready.Kinds.ps status.CardStatus.ready.Kinds.r status.CardStatus.ready.Reads.Learnt
-status-cardstatus-ready = determined _ λ _ _ _ p. p
+status_cardstatus_ready : Unique status.CardStatus.ready.Kinds.ps status.CardStatus.ready.Kinds.r status.CardStatus.ready.Reads.Learnt
+status_cardstatus_ready = determined _ λ _ _ _ p. p
 
 status-scr-version : Unique status.Scr.version.Kinds.ps status.Scr.version.Kinds.r status.Scr.version.Reads.Learnt
 status-scr-version = determined _ λ _ _ _ p. p
@@ -78,20 +78,20 @@ status-scr-bus-width-one = determined _ λ _ _ _ p. p
 status-scr-bus-width-four : Unique status.Scr.bus_width_four.Kinds.ps status.Scr.bus_width_four.Kinds.r status.Scr.bus_width_four.Reads.Learnt
 status-scr-bus-width-four = determined _ λ _ _ _ p. p
 
-words-little : Unique words.little.Kinds.ps words.little.Kinds.r words.little.Reads.Learnt
-words-little = determined _ λ _ _ _ p. p
+words_little : Unique words.little.Kinds.ps words.little.Kinds.r words.little.Reads.Learnt
+words_little = determined _ λ _ _ _ p. p
 
-words-fill : Unique words.fill.Kinds.ps words.fill.Kinds.r words.fill.Reads.Learnt
-words-fill = determined _ λ _ _ _ p i. (p i, tt)
+words_fill : Unique words.fill.Kinds.ps words.fill.Kinds.r words.fill.Reads.Learnt
+words_fill = determined _ λ _ _ _ p i. (p i, tt)
 
 words-status-bytes : Unique words.status_bytes.Kinds.ps words.status_bytes.Kinds.r words.status_bytes.Reads.Learnt
 words-status-bytes = determined _ λ _ _ _ p. p
 
-words-from-be : Unique words.from_be.Kinds.ps words.from_be.Kinds.r words.from_be.Reads.Learnt
-words-from-be = determined _ λ _ _ _ p. p
+words_from_be : Unique words.from_be.Kinds.ps words.from_be.Kinds.r words.from_be.Reads.Learnt
+words_from_be = determined _ λ _ _ _ p. p
 
-words-sd-status : Unique words.sd_status.Kinds.ps words.sd_status.Kinds.r words.sd_status.Reads.Learnt
-words-sd-status = determined _ λ _ _ _ p. p
+words_sd_status : Unique words.sd_status.Kinds.ps words.sd_status.Kinds.r words.sd_status.Reads.Learnt
+words_sd_status = determined _ λ _ _ _ p. p
 
 words-joined : Unique words.joined.Kinds.ps words.joined.Kinds.r words.joined.Reads.Learnt
 words-joined = determined _ λ _ _ _ p. p

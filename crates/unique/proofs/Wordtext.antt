@@ -7,7 +7,7 @@ use lib.ListN.{length, drop, take-append-drop}
 use lib.Seq.{length-take-le}
 use Rattle.wordtext.specs.declared.book.Reading.{Reading}
 use Rattle.wordtext.specs.declared.scan.Scan.{Scan}
-use Rattle.wordtext.specs.Text.{State, Holds, read_of, laid, bookOver}
+use Rattle.wordtext.specs.Text.{State, Holds, read_of, laid, book_over}
 use Rattle.wordtext.proofs.book
 use Rattle.wordtext.proofs.place
 use Rattle.wordtext.proofs.token
@@ -31,7 +31,7 @@ book-read-words : Unique book.read_words.Kinds.ps book.read_words.Kinds.r book.r
 book-read-words = determined _ λ _ _ _ p i. (p.1.0 i, p.0 i)
 
 book-read-book : Unique book.read_book.Kinds.ps book.read_book.Kinds.r book.read_book.Reads.Learnt
-book-read-book = determined _ λ _ a _ p i. ((p.1.0 ∙ ap (λ (r : Reading). bookOver r (read_of 4096 a.0.now).words a.1.0.now) p.0) i, p.0 i)
+book-read-book = determined _ λ _ a _ p i. ((p.1.0 ∙ ap (λ (r : Reading). book_over r (read_of 4096 a.0.now).words a.1.0.now) p.0) i, p.0 i)
 
 place-place-at : Unique place.place_at.Kinds.ps place.place_at.Kinds.r place.place_at.Reads.Learnt
 place-place-at = determined _ λ _ _ _ p. p
@@ -42,8 +42,8 @@ token-token-after = determined _ λ _ _ _ p. p
 token-token-completed : Unique token.Token.completed.Kinds.ps token.Token.completed.Kinds.r token.Token.completed.Reads.Learnt
 token-token-completed = determined _ λ _ _ _ p. p
 
-token-token-began : Unique token.Token.began.Kinds.ps token.Token.began.Kinds.r token.Token.began.Reads.Learnt
-token-token-began = determined _ λ _ _ _ p. p
+token_token_began : Unique token.Token.began.Kinds.ps token.Token.began.Kinds.r token.Token.began.Reads.Learnt
+token_token_began = determined _ λ _ _ _ p. p
 
-token-token-verdict : Unique token.Token.verdict.Kinds.ps token.Token.verdict.Kinds.r token.Token.verdict.Reads.Learnt
-token-token-verdict = determined _ λ _ _ _ p. p
+token_token_verdict : Unique token.Token.verdict.Kinds.ps token.Token.verdict.Kinds.r token.Token.verdict.Reads.Learnt
+token_token_verdict = determined _ λ _ _ _ p. p

@@ -10,19 +10,19 @@ use Rattle.wordtext.specs.declared.place.Place.{Place}
 use Rattle.wordtext.specs.declared.scan.Scan.{Scan}
 use Rattle.wordtext.specs.declared.token.Verdict.{Verdict}
 use Rattle.wordtext.specs.declared.token.Verdict.TheVariants as W
-use Rattle.wordtext.specs.Token.{verdictOf}
-use Rattle.wordtext.specs.Text.{State, read_of, answerBy, answerAt, answer_of, place_of, laid, Holds}
+use Rattle.wordtext.specs.Token.{verdict_of}
+use Rattle.wordtext.specs.Text.{State, read_of, answer_by, answer_at, answer_of, place_of, laid, Holds}
 
 -- by what the code holds at the end
 module _ (text was list : List ℕ) (s : Scan) (holds : Holds (read_of (length was) text) was s list) where
   long : length (take s.count list) ≡ s.count
   long = length-take-le s.count list (omega (arith, holds.size, holds.fits))
 
-  pub held-answer : answerBy (verdictOf s.token) (place_of text s.start) s.count ≡ answer_of (length was) text
+  pub held-answer : answer_by (verdict_of s.token) (place_of text s.start) s.count ≡ answer_of (length was) text
   unfolding answer_of
   held-answer =
-      ap (answerBy (verdictOf s.token) (place_of text s.start)) (sym long)
-      ∙ ap (λ (t : State). answerAt t text) holds.same
+      ap (answer_by (verdict_of s.token) (place_of text s.start)) (sym long)
+      ∙ ap (λ (t : State). answer_at t text) holds.same
 
   pub held-list : list ≡ laid (read_of (length was) text).words was
   held-list =
@@ -32,13 +32,13 @@ module _ (text was list : List ℕ) (s : Scan) (holds : Holds (read_of (length w
       ∙ ap (λ (t : State). laid t.words was) holds.same
 
 -- an accepted text says how many words there are
-accepted : (v : Verdict) (p : Place) (k n : ℕ) → answerBy v p k ≡ Words n → k ≡ n
+accepted : (v : Verdict) (p : Place) (k n : ℕ) → answer_by v p k ≡ Words n → k ≡ n
 accepted W.Right p k n e = cc
 accepted (W.Wrong cause) p k n e = cc
 
 pub words_count : (room : ℕ) (text : List ℕ) (n : ℕ) → answer_of room text ≡ Words n → length (read_of room text).words ≡ n
 unfolding answer_of
-words_count room text n e = accepted (verdictOf (read_of room text).token) _ _ n e
+words_count room text n e = accepted (verdict_of (read_of room text).token) _ _ n e
 
 -- and those are the first so many of the list
 pub first-words : (words list : List ℕ) (n : ℕ) → length words ≡ n → take n (laid words list) ≡ words

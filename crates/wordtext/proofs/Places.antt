@@ -10,11 +10,11 @@ use lib.ListN.{length, get_or, take}
 use lib.Seq.{take-suc, take_all}
 use Rattle.wordtext.specs.declared.place.Place.{Place}
 use Rattle.wordtext.specs.Token.{NEWLINE}
-use Rattle.wordtext.specs.Text.{moved, placeFrom, place_of}
+use Rattle.wordtext.specs.Text.{moved, place_from, place_of}
 
 -- the place after one byte more
-from_more : (p : Place) (xs : List ℕ) (b : ℕ) → placeFrom p (xs ++ b ∷ []) ≡ moved (placeFrom p xs) b
-unfolding placeFrom
+from_more : (p : Place) (xs : List ℕ) (b : ℕ) → place_from p (xs ++ b ∷ []) ≡ moved (place_from p xs) b
+unfolding place_from
 from_more p [] b = refl
 from_more p (x ∷ xs) b = from_more (moved p x) xs b
 
@@ -27,8 +27,8 @@ unfolding place_of
 place-all text i j h k = rw (take_all i text h, take_all j text k)
 
 -- a byte moves line and column by at most one
-pub moved-little : (p : Place) (b k : ℕ) → p.line ≤ k → p.column ≤ k → 1 ≤ k → ((moved p b).line ≤ k + 1) × ((moved p b).column ≤ k + 1)
-moved-little p b k line column one = by (eqb b NEWLINE)
+pub moved_little : (p : Place) (b k : ℕ) → p.line ≤ k → p.column ≤ k → 1 ≤ k → ((moved p b).line ≤ k + 1) × ((moved p b).column ≤ k + 1)
+moved_little p b k line column one = by (eqb b NEWLINE)
   where
     by : (t : Bool)
         → ((cond {A = Place} t (record { line = p.line + 1; column = 1 }) (record { line = p.line; column = p.column + 1 })).line ≤ k + 1)

@@ -11,7 +11,7 @@ use Rattle.wordtext.specs.declared.scan.Scan.{Scan}
 use Rattle.wordtext.specs.declared.token.Cause.TheVariants.{TooMany}
 use Rattle.wordtext.specs.declared.token.Token.TheVariants.{Wrong}
 use Rattle.wordtext.specs.declared.token.Given.TheVariants as G
-use Rattle.wordtext.specs.Token.{NEWLINE, after, completed, beganAt}
+use Rattle.wordtext.specs.Token.{NEWLINE, after, completed, began_at}
 use Rattle.wordtext.specs.Text.{State, taken, step, scan, state_of, Holds}
 
 -- one byte, by what it completes
@@ -21,14 +21,14 @@ module _ (s : Scan) (at b : ℕ) (list : List ℕ) (fits : s.count ≤ length li
 
   pub by-none : completed s.token b ≡ G.Nothing
       → Holds (step (length list) at (state_of s list) b) list
-      (record { token = after s.token b; start = beganAt s.token at s.start; count = s.count })
+      (record { token = after s.token b; start = began_at s.token at s.start; count = s.count })
       list
   unfolding taken
   by-none e = record { same = rw e; rest = refl; size = refl; fits = fits }
 
   pub by_word : (w : ℕ) → completed s.token b ≡ G.Word w → s.count < length list
       → Holds (step (length list) at (state_of s list) b) list
-      (record { token = after s.token b; start = beganAt s.token at s.start; count = s.count + 1 })
+      (record { token = after s.token b; start = began_at s.token at s.start; count = s.count + 1 })
       (set list s.count w)
   unfolding taken
   by_word w e room =
@@ -41,7 +41,7 @@ module _ (s : Scan) (at b : ℕ) (list : List ℕ) (fits : s.count ≤ length li
 
   pub by-full : (w : ℕ) → completed s.token b ≡ G.Word w → length list ≤ s.count
       → Holds (step (length list) at (state_of s list) b) list
-      (record { token = Wrong TooMany; start = beganAt s.token at s.start; count = s.count })
+      (record { token = Wrong TooMany; start = began_at s.token at s.start; count = s.count })
       list
   unfolding taken
   by-full w e full = record { same = rw (e, long, le-ltb _ _ full); rest = refl; size = refl; fits = fits }

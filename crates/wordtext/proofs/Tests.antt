@@ -16,7 +16,7 @@ both false q h =
     let z : ◌≡◌ {A = ℕ} 0 1 = cc in
     absurd (omega arith)
 
-pub between-true : (low high b : ℕ) → between low high b ≡ true → (low ≤ b) × (b ≤ high)
-between-true low high b h =
+pub between_true : (low high b : ℕ) → between low high b ≡ true → (low ≤ b) × (b ≤ high)
+between_true low high b h =
     let parts = both (leb low b) (leb b high) h in
     (leb-true low b parts.0, leb-true b high parts.1)

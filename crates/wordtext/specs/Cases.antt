@@ -4,8 +4,8 @@ use Rattle.wordtext.specs.declared.book.Reading.{Reading}
 use Rattle.wordtext.specs.declared.book.Reading.TheVariants.{Words, Refused}
 use Rattle.wordtext.specs.declared.place.Place.{Place}
 use Rattle.wordtext.specs.declared.token.Cause.TheVariants.{NotANumber, TooLarge, TooMany}
-use Rattle.wordtext.specs.Token.{ends_at, digitOf, withDigit, goneOn, closed, after, completed, beganAt}
-use Rattle.wordtext.specs.Text.{taken, scan, read_of, placeFrom, place_of, answer_of}
+use Rattle.wordtext.specs.Token.{ends_at, digit_of, with_digit, gone_on, closed, after, completed, began_at}
+use Rattle.wordtext.specs.Text.{taken, scan, read_of, place_from, place_of, answer_of}
 
 -- the answer, and the words before the text's end or the first thing that is none
 pub record Told : Type 0 where
@@ -42,5 +42,5 @@ table =
     ∷ []
 
 pub cases : map (λ (c : Case). c.got) table ≡ map (λ (c : Case). c.due) table
-unfolding ends_at digitOf withDigit goneOn closed after completed beganAt taken scan read_of placeFrom place_of answer_of
+unfolding ends_at digit_of with_digit gone_on closed after completed began_at taken scan read_of place_from place_of answer_of
 cases = refl

@@ -12,7 +12,7 @@ use Rattle.wordtext.specs.declared.token.Given.{Given}
 use Rattle.wordtext.specs.declared.token.Given.TheVariants as G
 use Rattle.wordtext.specs.declared.token.Verdict.{Verdict}
 use Rattle.wordtext.specs.declared.token.Verdict.TheVariants as W
-use Rattle.wordtext.specs.Token.{NEWLINE, after, completed, beganAt, verdictOf}
+use Rattle.wordtext.specs.Token.{NEWLINE, after, completed, began_at, verdict_of}
 
 -- how far a reading has come: what is in hand, where that began, and the words before it
 pub record State : Type 0 where
@@ -35,7 +35,7 @@ taken room s (G.Word w) =
 abbrev pub step : ℕ → ℕ → State → ℕ → State
 step room at s b =
     taken room
-    (record { token = after s.token b; start = beganAt s.token at s.start; words = s.words })
+    (record { token = after s.token b; start = began_at s.token at s.start; words = s.words })
     (completed s.token b)
 
 -- all bytes, of which the first stands at `at`; the text's end ends its last line
@@ -50,33 +50,33 @@ read_of room text = scan room 0 at_first text
 abbrev pub moved : Place → ℕ → Place
 moved p b = cond (eqb b NEWLINE) (record { line = p.line + 1; column = 1 }) (record { line = p.line; column = p.column + 1 })
 
-unfoldable pub placeFrom : Place → List ℕ → Place
-placeFrom p [] = p
-placeFrom p (b ∷ bs) = placeFrom (moved p b) bs
+unfoldable pub place_from : Place → List ℕ → Place
+place_from p [] = p
+place_from p (b ∷ bs) = place_from (moved p b) bs
 
 -- the place of the byte at `at`
 unfoldable pub place_of : List ℕ → ℕ → Place
-place_of text at = placeFrom (record { line = 1; column = 1 }) (take at text)
+place_of text at = place_from (record { line = 1; column = 1 }) (take at text)
 
 -- what a text comes to: so many words, or the first thing that is none, with its place
-abbrev pub answerBy : Verdict → Place → ℕ → Reading
-answerBy W.Right place count = Words count
-answerBy (W.Wrong cause) place count = Refused cause place
+abbrev pub answer_by : Verdict → Place → ℕ → Reading
+answer_by W.Right place count = Words count
+answer_by (W.Wrong cause) place count = Refused cause place
 
-abbrev pub answerAt : State → List ℕ → Reading
-answerAt s text = answerBy (verdictOf s.token) (place_of text s.start) (length s.words)
+abbrev pub answer_at : State → List ℕ → Reading
+answer_at s text = answer_by (verdict_of s.token) (place_of text s.start) (length s.words)
 
 unfoldable pub answer_of : ℕ → List ℕ → Reading
-answer_of room text = answerAt (read_of room text) text
+answer_of room text = answer_at (read_of room text) text
 
 -- words laid over the start of a list
 abbrev pub laid : List ℕ → List ℕ → List ℕ
 laid words list = words ++ drop (length words) list
 
 -- a book's words as bytes, laid over the start of a list; where the text is refused the list stays as it is
-abbrev pub bookOver : Reading → List ℕ → List ℕ → List ℕ
-bookOver (Words count) words bytes = filled words bytes
-bookOver (Refused cause place) words bytes = bytes
+abbrev pub book_over : Reading → List ℕ → List ℕ → List ℕ
+book_over (Words count) words bytes = filled words bytes
+book_over (Refused cause place) words bytes = bytes
 
 -- how many words a reading gave
 abbrev pub count_of : Reading → ℕ

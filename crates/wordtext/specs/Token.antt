@@ -29,42 +29,42 @@ abbrev pub between : ℕ → ℕ → ℕ → Bool
 between low high b = leb low b && leb b high
 
 -- white space: tab, line feed, vertical tab, form feed, carriage return; space
-abbrev pub isWhite : ℕ → Bool
-isWhite b = between 9 13 b || eqb b 32
+abbrev pub is_white : ℕ → Bool
+is_white b = between 9 13 b || eqb b 32
 
 -- a word ends before white space, a comma or a comment
 unfoldable pub ends_at : ℕ → Bool
-ends_at b = isWhite b || eqb b COMMA || eqb b HASH
+ends_at b = is_white b || eqb b COMMA || eqb b HASH
 
 -- the value of a digit, 0 to 9, A to F or a to f; 16 where the byte is none
-unfoldable pub digitOf : ℕ → ℕ
-digitOf b = cond (between 48 57 b) (b - 48) (cond (between 65 70 b) (b - 65 + 10) (cond (between 97 102 b) (b - 97 + 10) 16))
+unfoldable pub digit_of : ℕ → ℕ
+digit_of b = cond (between 48 57 b) (b - 48) (cond (between 65 70 b) (b - 65 + 10) (cond (between 97 102 b) (b - 97 + 10) 16))
 
 -- a number in this base, with one digit more: it has to be one of the base, and the number below the limit
-unfoldable pub withDigit : ℕ → ℕ → ℕ → Grown
-withDigit base value b =
-    cond (leb base (digitOf b)) (Not NotANumber)
-    (cond (ltb (value * base + digitOf b) LIMIT) (To (value * base + digitOf b)) (Not TooLarge))
+unfoldable pub with_digit : ℕ → ℕ → ℕ → Grown
+with_digit base value b =
+    cond (leb base (digit_of b)) (Not NotANumber)
+    (cond (ltb (value * base + digit_of b) LIMIT) (To (value * base + digit_of b)) (Not TooLarge))
 
 abbrev pub told : (ℕ → Token) → Grown → Token
 told kind (To n) = kind n
 told kind (Not cause) = T.Wrong cause
 
-abbrev pub decimalOf : ℕ → ℕ → Token
-decimalOf value b = told T.Decimal (withDigit 10 value b)
+abbrev pub decimal_of : ℕ → ℕ → Token
+decimal_of value b = told T.Decimal (with_digit 10 value b)
 
-abbrev pub hexadecimalOf : ℕ → ℕ → Token
-hexadecimalOf value b = told T.Hexadecimal (withDigit 16 value b)
+abbrev pub hexadecimal_of : ℕ → ℕ → Token
+hexadecimal_of value b = told T.Hexadecimal (with_digit 16 value b)
 
 -- what is in hand, with a byte that does not end it: `0` and then `x` starts a hexadecimal
-unfoldable pub goneOn : Token → ℕ → Token
-goneOn T.Nothing b = cond (eqb b 48) T.Zero (decimalOf 0 b)
-goneOn T.Zero b = cond (eqb b 120) T.Prefix (decimalOf 0 b)
-goneOn T.Prefix b = hexadecimalOf 0 b
-goneOn (T.Decimal value) b = decimalOf value b
-goneOn (T.Hexadecimal value) b = hexadecimalOf value b
-goneOn T.Comment b = T.Comment
-goneOn (T.Wrong cause) b = T.Wrong cause
+unfoldable pub gone_on : Token → ℕ → Token
+gone_on T.Nothing b = cond (eqb b 48) T.Zero (decimal_of 0 b)
+gone_on T.Zero b = cond (eqb b 120) T.Prefix (decimal_of 0 b)
+gone_on T.Prefix b = hexadecimal_of 0 b
+gone_on (T.Decimal value) b = decimal_of value b
+gone_on (T.Hexadecimal value) b = hexadecimal_of value b
+gone_on T.Comment b = T.Comment
+gone_on (T.Wrong cause) b = T.Wrong cause
 
 -- after a word: a comment, or nothing in hand
 abbrev pub opened : ℕ → Token
@@ -83,7 +83,7 @@ closed (T.Hexadecimal value) b = opened b
 
 -- what is in hand after a byte
 unfoldable pub after : Token → ℕ → Token
-after t b = cond (ends_at b) (closed t b) (goneOn t b)
+after t b = cond (ends_at b) (closed t b) (gone_on t b)
 
 -- the word that is in hand
 abbrev pub word_of : Token → Given
@@ -100,21 +100,21 @@ unfoldable pub completed : Token → ℕ → Given
 completed t b = cond (ends_at b) (word_of t) G.Nothing
 
 -- where what is in hand began: here, where nothing was
-unfoldable pub beganAt : Token → ℕ → ℕ → ℕ
-beganAt T.Nothing at start = at
-beganAt T.Comment at start = start
-beganAt T.Zero at start = start
-beganAt T.Prefix at start = start
-beganAt (T.Decimal value) at start = start
-beganAt (T.Hexadecimal value) at start = start
-beganAt (T.Wrong cause) at start = start
+unfoldable pub began_at : Token → ℕ → ℕ → ℕ
+began_at T.Nothing at start = at
+began_at T.Comment at start = start
+began_at T.Zero at start = start
+began_at T.Prefix at start = start
+began_at (T.Decimal value) at start = start
+began_at (T.Hexadecimal value) at start = start
+began_at (T.Wrong cause) at start = start
 
 -- whether all was right so far
-abbrev pub verdictOf : Token → Verdict
-verdictOf (T.Wrong cause) = W.Wrong cause
-verdictOf T.Nothing = W.Right
-verdictOf T.Comment = W.Right
-verdictOf T.Zero = W.Right
-verdictOf T.Prefix = W.Right
-verdictOf (T.Decimal value) = W.Right
-verdictOf (T.Hexadecimal value) = W.Right
+abbrev pub verdict_of : Token → Verdict
+verdict_of (T.Wrong cause) = W.Wrong cause
+verdict_of T.Nothing = W.Right
+verdict_of T.Comment = W.Right
+verdict_of T.Zero = W.Right
+verdict_of T.Prefix = W.Right
+verdict_of (T.Decimal value) = W.Right
+verdict_of (T.Hexadecimal value) = W.Right

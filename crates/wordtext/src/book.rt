@@ -1,6 +1,6 @@
 // The words of a text, and those of a book as bytes.
 ghost use Rattle.std.specs.Prelude.{◌≡◌, ◌≤◌, length};
-ghost use Rattle.wordtext.specs.Text.{read_of, answer_of, laid, bookOver, count_of};
+ghost use Rattle.wordtext.specs.Text.{read_of, answer_of, laid, book_over, count_of};
 
 use crate::place::Place;
 use crate::token::{Cause, Verdict};
@@ -39,7 +39,7 @@ pub fn read_words(text: &[u8], words: &mut [u32]) -> Reading
 // Reads a book's words into bytes, the lowest byte of each first. The bytes stay as they are where the text is refused.
 pub fn read_book(text: &[u8], bytes: &mut [u8]) -> Reading
     ensures answer { result ≡ answer_of 4096 text.now }
-    ensures bytes { bytes.new ≡ bookOver result (read_of 4096 text.now).words bytes.old }
+    ensures bytes { bytes.new ≡ book_over result (read_of 4096 text.now).words bytes.old }
     ensures fits { (count_of result ≤ 4096) × (length bytes.new ≡ length bytes.old) }
 {
     let mut list = [0u32; Book::WORDS];

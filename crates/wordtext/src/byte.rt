@@ -1,6 +1,6 @@
 // What a byte is to a word.
 ghost use Rattle.std.specs.Prelude.{◌≡◌};
-ghost use Rattle.wordtext.specs.Token.{between, digitOf, ends_at};
+ghost use Rattle.wordtext.specs.Token.{between, digit_of, ends_at};
 
 fn within(low: u8, high: u8, b: u8) -> bool
     ensures { result ≡ between low high b }
@@ -10,7 +10,7 @@ fn within(low: u8, high: u8, b: u8) -> bool
 
 // The value of a digit; 16 where the byte is none.
 pub fn digit(b: u8) -> u8
-    ensures { result ≡ digitOf b }
+    ensures { result ≡ digit_of b }
 {
     if within(b'0', b'9', b) {
         return b - b'0';

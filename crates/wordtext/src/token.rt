@@ -1,6 +1,6 @@
 // The word in hand, as far as it has come.
 ghost use Rattle.std.specs.Prelude.{◌≡◌};
-ghost use Rattle.wordtext.specs.Token.{withDigit, decimalOf, hexadecimalOf, goneOn, opened, closed, after, word_of, completed, beganAt, verdictOf};
+ghost use Rattle.wordtext.specs.Token.{with_digit, decimal_of, hexadecimal_of, gone_on, opened, closed, after, word_of, completed, began_at, verdict_of};
 
 use crate::byte;
 
@@ -47,7 +47,7 @@ pub enum Verdict {
 }
 
 fn with_digit(base: u8, value: u32, b: u8) -> Grown
-    ensures { result ≡ withDigit base value b }
+    ensures { result ≡ with_digit base value b }
 {
     let d = byte::digit(b);
     if base <= d {
@@ -62,7 +62,7 @@ fn with_digit(base: u8, value: u32, b: u8) -> Grown
 }
 
 fn decimal(value: u32, b: u8) -> Token
-    ensures { result ≡ decimalOf value b }
+    ensures { result ≡ decimal_of value b }
 {
     match with_digit(10, value, b) {
         Grown::To(n) => Token::Decimal(n),
@@ -71,7 +71,7 @@ fn decimal(value: u32, b: u8) -> Token
 }
 
 fn hexadecimal(value: u32, b: u8) -> Token
-    ensures { result ≡ hexadecimalOf value b }
+    ensures { result ≡ hexadecimal_of value b }
 {
     match with_digit(16, value, b) {
         Grown::To(n) => Token::Hexadecimal(n),
@@ -93,7 +93,7 @@ fn opened(b: u8) -> Token
 impl Token {
     // The word in hand with one byte more, which does not end it.
     fn gone_on(self, b: u8) -> Token
-        ensures { result ≡ goneOn self b }
+        ensures { result ≡ gone_on self b }
     {
         match self {
             Token::Nothing => {
@@ -172,7 +172,7 @@ impl Token {
 
     // Where what is in hand began: here, where nothing was.
     pub fn began(self, at: usize, start: usize) -> usize
-        ensures { result ≡ beganAt self at start }
+        ensures { result ≡ began_at self at start }
     {
         match self {
             Token::Nothing => at,
@@ -187,7 +187,7 @@ impl Token {
 
     // Whether all was right up to here.
     pub fn verdict(self) -> Verdict
-        ensures { result ≡ verdictOf self }
+        ensures { result ≡ verdict_of self }
     {
         match self {
             Token::Wrong(cause) => Verdict::Wrong(cause),

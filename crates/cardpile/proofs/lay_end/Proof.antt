@@ -1,25 +1,25 @@
 use Rattle.desk.proofs.Refusals.{nothing}
 use borrow.Author.Rules.{rules}
-use Rattle.cardpile.specs.Said.{endText}
+use Rattle.cardpile.specs.Said.{end_text}
 use Rattle.cardpile.proofs.lay_end.Statement.{statement}
 use Rattle.cardpile.proofs.lay_end.Tie as tie
 
 returns : tie.Need-returns
-unfolding endText
+unfolding end_text
 returns c = rw c.enum_told.given.1 (nothing _)
 
 returns-2 : tie.Need-returns-2
-unfolding endText
+unfolding end_text
 returns-2 c = rw c.enum-told2.given.1 (nothing _)
 
 returns-3 : tie.Need-returns-3
-unfolding endText
+unfolding end_text
 returns-3 c =
     let laid = c.before.before in
     rw laid.before.before.before.enum-told3.given.1 laid.put.ensures
 
 returns-4 : tie.Need-returns-4
-unfolding endText
+unfolding end_text
 returns-4 c = rw c.enum-told4.given.1 (nothing _)
 
 pub lay-end-spec : {M : Type 1} → statement M

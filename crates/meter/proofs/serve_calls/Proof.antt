@@ -3,9 +3,9 @@ use mathlib.Core.Path.{◌≡◌, refl, ap}
 use native.Mathlib.Nat.{sub-zero}
 use native.Mathlib.Omega.{arith}
 use lib.ListN.{length}
-use Rattle.tape.specs.Layout.{rowsIn}
-use Rattle.book.specs.Layout.{contentsOf}
-use Rattle.meter.specs.Metered.{Served, servedFrom}
+use Rattle.tape.specs.Layout.{rows_in}
+use Rattle.book.specs.Layout.{contents_of}
+use Rattle.meter.specs.Metered.{Served, served_from}
 use Rattle.meter.proofs.Served.{Serving, next-served, all-served}
 use borrow.Author.Rules.{rules}
 use Rattle.meter.proofs.serve_calls.Statement.{statement}
@@ -13,8 +13,8 @@ use Rattle.meter.proofs.serve_calls.Tie as tie
 
 abbrev invariant-loop : tie.invariant-loop
 invariant-loop stepped words calls before rows₀ buffer₀ turn₀ k₀ rows buffer turn k =
-    Serving words calls (servedFrom calls words 0 (contentsOf words) (record { host = turn₀.host; list = rowsIn rows₀; buffer = buffer₀; told = before })) k turn.place
-    (record { host = turn.host; list = rowsIn rows; buffer = buffer; told = turn.told })
+    Serving words calls (served_from calls words 0 (contents_of words) (record { host = turn₀.host; list = rows_in rows₀; buffer = buffer₀; told = before })) k turn.place
+    (record { host = turn.host; list = rows_in rows; buffer = buffer; told = turn.told })
     × ((length rows ≡ length rows₀) × (length buffer ≡ length buffer₀))
 
 abbrev decreases-loop : tie.decreases-loop

@@ -5,7 +5,7 @@ use denote.Builtin.{usize}
 use denote.Plain.{uint_Lawful}
 use denote.Triple.Spec.{triple_of}
 use denote.Triple.Table.{entered, cited}
-use Rattle.reader.specs.Place.{leftAt}
+use Rattle.reader.specs.Place.{left_at}
 use Rattle.reader.proofs.Made.{New, Moved, meets}
 use Rattle.reader.proofs.Reader.new.Symbol as new-def
 use Rattle.reader.proofs.Reader.new.Symbol.{name as #new}
@@ -28,7 +28,7 @@ left-from-spec 𝓤 𝓛 𝓜 𝓡 =
     let A = 𝓛.A in
     entered 𝓤 𝓛.H (triple_of 𝓛 left-from.signature (left-from.spec 𝓛 𝓜.mem 𝓡.run))
     (tables 𝓤 𝓛.H 𝓜 𝓡 code.env).C (tables 𝓤 𝓛.H 𝓜 𝓡 code.env).Λ #left-from code.function (code.unfolded 𝓤 𝓛.H 𝓜 𝓡)
-    (meets 𝓛 𝓜.mem 𝓡.run usize leftAt (ty_int w64) (λ r v is. ((uint_Lawful 𝓛 w64).typed r _ is).0) (tables_of 𝓤 𝓛.H 𝓜 (tables 𝓤 𝓛.H 𝓜 𝓡 code.env))
+    (meets 𝓛 𝓜.mem 𝓡.run usize left_at (ty_int w64) (λ r v is. ((uint_Lawful 𝓛 w64).typed r _ is).0) (tables_of 𝓤 𝓛.H 𝓜 (tables 𝓤 𝓛.H 𝓜 𝓡 code.env))
     (cited 𝓤 𝓛.H (New 𝓛 𝓜.mem 𝓡.run) 𝓜 𝓡 code.env #new new-def.routine code.calls-reader::Reader::new (new-thm.met 𝓤 𝓛 𝓜 𝓡))
     (cited 𝓤 𝓛.H (Moved 𝓛 𝓜.mem 𝓡.run) 𝓜 𝓡 code.env #moved moved-def.routine code.calls-reader::Reader::moved (moved-thm.met 𝓤 𝓛 𝓜 𝓡)) #left
     (cited 𝓤 𝓛.H (triple_of 𝓛 left.signature (left.spec 𝓛 𝓜.mem 𝓡.run)) 𝓜 𝓡 code.env #left left-def.routine code.calls-reader::Reader::left (left-thm.met 𝓤 𝓛 𝓜 𝓡)))

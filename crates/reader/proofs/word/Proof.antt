@@ -3,7 +3,7 @@ use contract.Running.{tables, tables_of}
 use denote.Enum.Laws as EL
 use denote.Triple.Spec.{triple_of}
 use denote.Triple.Table.{entered, cited}
-use Rattle.reader.specs.Place.{wordAt}
+use Rattle.reader.specs.Place.{word_at}
 use Rattle.reader.proofs.Made.{New, Moved, meets}
 use Rattle.reader.specs.contracts.Found as F
 use Rattle.reader.proofs.Found.TheLaws as F'
@@ -28,7 +28,7 @@ word-spec 𝓤 𝓛 𝓜 𝓡 =
     let A = 𝓛.A in
     entered 𝓤 𝓛.H (triple_of 𝓛 word.signature (word.spec 𝓛 𝓜.mem 𝓡.run))
     (tables 𝓤 𝓛.H 𝓜 𝓡 code.env).C (tables 𝓤 𝓛.H 𝓜 𝓡 code.env).Λ #word code.function (code.unfolded 𝓤 𝓛.H 𝓜 𝓡)
-    (meets 𝓛 𝓜.mem 𝓡.run F.the_row wordAt F'.mir (λ r v is. ((EL.lawful F.the_type F'.the_laws 𝓛 tt).typed r _ is).0) (tables_of 𝓤 𝓛.H 𝓜 (tables 𝓤 𝓛.H 𝓜 𝓡 code.env))
+    (meets 𝓛 𝓜.mem 𝓡.run F.the_row word_at F'.mir (λ r v is. ((EL.lawful F.the_type F'.the_laws 𝓛 tt).typed r _ is).0) (tables_of 𝓤 𝓛.H 𝓜 (tables 𝓤 𝓛.H 𝓜 𝓡 code.env))
     (cited 𝓤 𝓛.H (New 𝓛 𝓜.mem 𝓡.run) 𝓜 𝓡 code.env #new new-def.routine code.calls-reader::Reader::new (new-thm.met 𝓤 𝓛 𝓜 𝓡))
     (cited 𝓤 𝓛.H (Moved 𝓛 𝓜.mem 𝓡.run) 𝓜 𝓡 code.env #moved moved-def.routine code.calls-reader::Reader::moved (moved-thm.met 𝓤 𝓛 𝓜 𝓡)) #here
     (cited 𝓤 𝓛.H (triple_of 𝓛 here.signature (here.spec 𝓛 𝓜.mem 𝓡.run)) 𝓜 𝓡 code.env #here here-def.routine code.calls-reader::Reader::here (here-thm.met 𝓤 𝓛 𝓜 𝓡)))

@@ -4,13 +4,13 @@ use mathlib.Core.Path.{ap, ◌∙◌}
 use native.Mathlib.Omega.{arith}
 use lib.ListN.{take, replicate}
 use Rattle.tape.specs.declared.rows.Row.{Row}
-use Rattle.tape.specs.Layout.{rowsIn}
+use Rattle.tape.specs.Layout.{rows_in}
 use Rattle.calls.specs.Serve as S
 use Rattle.calls.specs.Serve.{comes}
-use Rattle.book.specs.Readers.{askedAt}
+use Rattle.book.specs.Readers.{asked_at}
 use Rattle.bench.specs.Trace.{bytes_at}
 use Rattle.bench.proofs.Zeros.{part-of-zeros, zeros-call}
-use Rattle.telling.specs.Told.{callOut}
+use Rattle.telling.specs.Told.{call_out}
 use borrow.Author.Rules.{rules}
 use Rattle.telling.proofs.tell_call.Statement.{statement}
 use Rattle.telling.proofs.tell_call.Tie as tie
@@ -20,15 +20,15 @@ returns c =
     let done = c.before.before.before.before in
     let a = done.before.before.before.before.before.before.args in
     let ws = a.words.now in
-    let asked = askedAt ws a.k a.body_at in
+    let asked = asked_at ws a.k a.body_at in
     let rows = min a.room 4096 in
     let bytes = bytes_at ws a.k a.body_at in
-    let list = ap rowsIn (part-of-zeros rows 4096 (omega arith)) in
+    let list = ap rows_in (part-of-zeros rows 4096 (omega arith)) in
     let buffer = part-of-zeros bytes 8192 (omega arith) in
     let told = done.tell-in.ensures in
-    let out : List ℕ → List Row → List ℕ = λ b l. callOut (a.k + 1) a.host ws asked b l a.out.now in (
+    let out : List ℕ → List Row → List ℕ = λ b l. call_out (a.k + 1) a.host ws asked b l a.out.now in (
       told.0 ∙ ap (λ (x : S.Call). (comes a.host x).host) (zeros-call ws asked rows bytes list buffer),
-      (told.1.0, told.1.1 ∙ ap (out (take bytes (replicate 8192 0))) list ∙ ap (λ (b : List ℕ). out b (rowsIn (replicate rows 0))) buffer),
+      (told.1.0, told.1.1 ∙ ap (out (take bytes (replicate 8192 0))) list ∙ ap (λ (b : List ℕ). out b (rows_in (replicate rows 0))) buffer),
     )
 
 pub tell-call-spec : {M : Type 1} → statement M

@@ -1,4 +1,4 @@
-use Rattle.telling.proofs.Lines.{as-leaf, still-fits, ends-leaf}
+use Rattle.telling.proofs.Lines.{as_leaf, still-fits, ends-leaf}
 use borrow.Author.Rules.{rules}
 use Rattle.telling.proofs.tell_end.Statement.{statement}
 use Rattle.telling.proofs.tell_end.Tie as tie

@@ -1,6 +1,6 @@
 use mathlib.Core.Path.{refl}
 use Rattle.telling.specs.Told.{evented}
-use Rattle.telling.proofs.Lines.{as-leaf, still-fits}
+use Rattle.telling.proofs.Lines.{as_leaf, still-fits}
 use borrow.Author.Rules.{rules}
 use Rattle.telling.proofs.tell_event.Statement.{statement}
 use Rattle.telling.proofs.tell_event.Tie as tie
@@ -11,7 +11,7 @@ returns c =
     let line = c.before.before in
     let is = line.before.before.before in
     let told = line.tell-event.ensures in
-    (still-fits told is.before.before.before.requires, rw is.event.given.1 (as-leaf told))
+    (still-fits told is.before.before.before.requires, rw is.event.given.1 (as_leaf told))
 
 returns-2 : tie.Need-returns-2
 unfolding evented
@@ -19,7 +19,7 @@ returns-2 c =
     let line = c.before.before in
     let is = line.before.before.before in
     let told = line.tell-event2.ensures in
-    (still-fits told is.before.before.before.requires, rw is.event2.given.1 (as-leaf told))
+    (still-fits told is.before.before.before.requires, rw is.event2.given.1 (as_leaf told))
 
 returns-3 : tie.Need-returns-3
 unfolding evented
@@ -27,7 +27,7 @@ returns-3 c =
     let line = c.before.before in
     let is = line.before.before.before in
     let told = line.tell-event3.ensures in
-    (still-fits told is.before.before.before.requires, rw is.event3.given.1 (as-leaf told))
+    (still-fits told is.before.before.before.requires, rw is.event3.given.1 (as_leaf told))
 
 returns-4 : tie.Need-returns-4
 unfolding evented

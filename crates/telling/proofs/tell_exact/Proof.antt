@@ -1,5 +1,5 @@
 use mathlib.Core.Path.{ap}
-use Rattle.tape.specs.Layout.{rowsIn}
+use Rattle.tape.specs.Layout.{rows_in}
 use Rattle.host.specs.declared.host.Called.{Called}
 use Rattle.telling.proofs.Lines.{still-fits}
 use Rattle.telling.proofs.Books.{call-out}
@@ -25,7 +25,7 @@ returns c =
       ap (λ (x : Called). x.host) said.0,
       (
         c.behind.ensures,
-        call-out a.number a.host a.words.now a.asked a.buffer.now (rowsIn a.rows.now) begins.tell-begins.ensures said.0 said.1.1
+        call-out a.number a.host a.words.now a.asked a.buffer.now (rows_in a.rows.now) begins.tell-begins.ensures said.0 said.1.1
             ends.tell-end.ensures,
       ),
     )

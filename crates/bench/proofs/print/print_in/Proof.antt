@@ -1,9 +1,9 @@
 use mathlib.Core.Path.{sym, ◌∙◌}
 use native.Mathlib.Omega.{arith}
 use lib.ListN.{length, length-take}
-use Rattle.types.specs.Answer.{answerTold}
+use Rattle.types.specs.Answer.{answer_told}
 use Rattle.book.proofs.Opening.{opened-none, opened_some}
-use Rattle.bench.proofs.Opens.{words-lie, words-good, words-fit}
+use Rattle.bench.proofs.Opens.{words_lie, words-good, words-fit}
 use borrow.Author.Rules.{rules}
 use Rattle.bench.proofs.print.print_in.Statement.{statement}
 use Rattle.bench.proofs.print.print_in.Tie as tie
@@ -34,11 +34,11 @@ returns c =
     let bytes = start.args.bytes.now in
     let words = start.args.words.now in
     let good = sym opened.ensures.0 ∙ c.before.before.before.before.before.before.opened.given.1 in
-    let same = words-lie bytes words _ _ good opened.ensures.1 in
+    let same = words_lie bytes words _ _ good opened.ensures.1 in
     rw (opened_some bytes (length words) _ good).0 (rw same at c.before.before.serve-book.ensures)
 
 returns-2 : tie.Need-returns-2
-unfolding answerTold
+unfolding answer_told
 returns-2 c =
     let opened = c.before.before.before.before.before.before.before.before.«open» in
     let start = c.before.before.before.before.before.before.before.before.before.before.before.before.before in

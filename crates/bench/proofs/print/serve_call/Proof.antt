@@ -3,12 +3,12 @@ use mathlib.Core.Path.{◌≡◌, ap}
 use native.Mathlib.Omega.{arith}
 use lib.ListN.{get_or, replicate}
 use Rattle.text.specs.Ink.{Laid}
-use Rattle.host.specs.Calls.{calledOf}
+use Rattle.host.specs.Calls.{called_of}
 use Rattle.host.specs.declared.host.Called.{Called}
 use Rattle.book.specs.declared.layout.Asked.{Asked}
-use Rattle.book.specs.Readers.{askedAt, callAsked}
-use Rattle.bench.specs.Bench.{cameOf, line_of}
-use Rattle.bench.proofs.Gives.{its-line}
+use Rattle.book.specs.Readers.{asked_at, call_asked}
+use Rattle.bench.specs.Bench.{came_of, line_of}
+use Rattle.bench.proofs.Gives.{its_line}
 use Rattle.bench.proofs.Zeros.{part-of-zeros}
 use borrow.Author.Rules.{rules}
 use Rattle.bench.proofs.print.serve_call.Statement.{statement}
@@ -32,10 +32,10 @@ returns c =
     let asked = c.before.before.before.before.before.before.before.before.before.before.before.before.before.call_at.ensures in
     let b = get_or args.words.now (7 + 4 * args.k + 2) 0 in
     let few : b ≤ 16 = c.before.before.before.before.before.before.before.before.before.before.before.before.before.before.before.before.requires.1 in
-    let called : c.before.before.before.before.before.before.before.before.before.ask_in.result ≡ calledOf (cameOf args.host args.words.now args.k args.place) =
+    let called : c.before.before.before.before.before.before.before.before.before.ask_in.result ≡ called_of (came_of args.host args.words.now args.k args.place) =
     rw (asked, part-of-zeros (512 * b) 8192 (omega (arith, few))) at c.before.before.before.before.before.before.before.before.before.ask_in.ensures.0 in
     let line : Laid args.at (line_of args.host args.words.now args.k args.place) args.out.now c.before.before.put-call.result c.before.before.put-call.new.0 =
-    its-line (args.k + 1) _ (replicate (512 * b) 0) (callAsked args.words.now (askedAt args.words.now args.k args.place)) (cameOf args.host args.words.now args.k args.place) called
+    its_line (args.k + 1) _ (replicate (512 * b) 0) (call_asked args.words.now (asked_at args.words.now args.k args.place)) (came_of args.host args.words.now args.k args.place) called
     (rw asked at c.before.before.put-call.ensures) in
     let at = ap (λ (x : Asked). x.body_at) asked in
     let len = ap (λ (x : Asked). x.body_len) asked in (

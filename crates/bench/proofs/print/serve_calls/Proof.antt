@@ -3,7 +3,7 @@ use mathlib.Core.Path.{◌≡◌}
 use native.Mathlib.Omega.{arith}
 use Rattle.book.specs.Layout.{count_of}
 use Rattle.book.proofs.Causes.{good-words}
-use Rattle.book.proofs.Reached.{body-within}
+use Rattle.book.proofs.Reached.{body_within}
 use Rattle.bench.proofs.Turns.{Serving, first-turn, next-turn, last_turn, blocks-of}
 use borrow.Author.Rules.{rules}
 use Rattle.bench.proofs.print.serve_calls.Statement.{statement}
@@ -30,7 +30,7 @@ serve-call-requires c κs =
     let t = head.loop.invariant.0 in
     let count = head.loop.invariant.1 in
     let more = c.before.before.loop-test.true in
-    (omega (arith, good.most, count, more), blocks-of t (omega (arith, count, more)), body-within ws _ _ t.reached (omega (arith, count, more)))
+    (omega (arith, good.most, count, more), blocks-of t (omega (arith, count, more)), body_within ws _ _ t.reached (omega (arith, count, more)))
 
 loop-again : tie.Need-loop-preserved invariant-loop decreases-loop
 loop-again c =

@@ -1,7 +1,7 @@
 use mathlib.Core.Path.{sym, ◌∙◌}
 use lib.Seq.{length-take-le}
 use Rattle.bench.specs.Opens.{OpensAs, head_of}
-use Rattle.bench.proofs.Opens.{words-lie, words-good, words-fit}
+use Rattle.bench.proofs.Opens.{words_lie, words-good, words-fit}
 use borrow.Author.Rules.{rules}
 use Rattle.bench.proofs.trace.open.Statement.{statement}
 use Rattle.bench.proofs.trace.open.Tie as tie
@@ -30,7 +30,7 @@ returns c =
     let opened = c.before.before.before.before.before.before.before.before.before.before.«open» in
     let args = c.before.before.before.before.before.before.before.before.before.before.before.before.before.before.before.args in
     let told = sym opened.ensures.0 ∙ c.before.before.before.before.before.before.opened.given.1 in
-    let done = rw (words-lie args.bytes.now args.words.now _ _ told opened.ensures.1) at c.before.before.open-good.ensures in
+    let done = rw (words_lie args.bytes.now args.words.now _ _ told opened.ensures.1) at c.before.before.open-good.ensures in
     (opened.ensures.1, (rw told done.0, rw told done.1))
 
 returns-2 : tie.Need-returns-2

@@ -6,10 +6,10 @@ use Rattle.types.specs.declared.error.Answer.TheVariants as Answered
 use Rattle.host.specs.declared.host.Made.{Made}
 use Rattle.host.specs.Calls.{made}
 use Rattle.book.specs.declared.layout.Heading.{Heading}
-use Rattle.book.specs.Layout.{bookIn}
+use Rattle.book.specs.Layout.{book_in}
 use Rattle.book.proofs.Causes.{good-words}
-use Rattle.bench.specs.Bench.{settingsOf, settingsIn}
-use Rattle.bench.specs.Trace.{callsServed}
+use Rattle.bench.specs.Bench.{settings_of, settings_in}
+use Rattle.bench.specs.Trace.{calls_served}
 use borrow.Author.Rules.{rules}
 use Rattle.bench.proofs.trace.open_good.Statement.{statement}
 use Rattle.bench.proofs.trace.open_good.Tie as tie
@@ -21,8 +21,8 @@ settings-requires c κs =
     let good = good-words start.args.words.now start.requires in
     omega (arith, attempts, good.attempts)
 
-no_more : (answer : Answer) (n : ℕ) → callsServed answer n ≤ n
-unfolding callsServed
+no_more : (answer : Answer) (n : ℕ) → calls_served answer n ≤ n
+unfolding calls_served
 no_more Answered.Accepted n = omega arith
 no_more (Answered.Refused e) n = omega arith
 no_more Answered.ScriptEnded n = omega arith
@@ -36,10 +36,10 @@ cast-t13 c =
     omega (arith, c.served.ensures, no_more c.before.before.before.before.before.before.before.new.result.answer c.before.before.before.before.before.word.result, c.before.before.before.before.before.word.ensures, good.most)
 
 returns : tie.Need-returns
-unfolding bookIn
+unfolding book_in
 returns c =
     let ws = c.before.before.before.before.before.before.before.before.before.before.before.before.before.args.words.now in
-    let host : c.before.before.before.before.before.before.before.before.new.result ≡ made (settingsOf (bookIn ws)) = c.before.before.before.before.before.before.before.before.new.ensures ∙ ap made (c.before.before.before.before.before.before.before.before.before.settings.ensures ∙ ap settingsIn c.before.before.before.before.before.before.before.before.before.before.head.ensures) in (
+    let host : c.before.before.before.before.before.before.before.before.new.result ≡ made (settings_of (book_in ws)) = c.before.before.before.before.before.before.before.before.new.ensures ∙ ap made (c.before.before.before.before.before.before.before.before.before.settings.ensures ∙ ap settings_in c.before.before.before.before.before.before.before.before.before.before.head.ensures) in (
       record {
         host = ap (λ (m : Made). m.host) host;
         calls = rw (host, c.before.before.before.before.before.before.word.ensures) at c.before.served.ensures;

@@ -3,11 +3,11 @@ use mathlib.Core.List.{List}
 use mathlib.Core.Path.{ap, subst, ◌∙◌}
 use native.Mathlib.Omega.{arith}
 use Prim.Native.Nat.{ℕ}
-use Rattle.tape.specs.Layout.{rowsIn}
+use Rattle.tape.specs.Layout.{rows_in}
 use Rattle.text.specs.Ink.{Laid}
 use Rattle.calls.specs.Serve as S
 use Rattle.calls.specs.Serve.{comes}
-use Rattle.book.specs.Readers.{askedAt}
+use Rattle.book.specs.Readers.{asked_at}
 use Rattle.bench.specs.Trace.{bytes_at}
 use Rattle.bench.proofs.Zeros.{part-of-zeros, zeros-call, zeros-text}
 use borrow.Author.Rules.{rules}
@@ -22,11 +22,11 @@ returns c =
     let place = args.body_at in
     let rows = min args.room 4096 in
     let bytes = bytes_at ws k place in
-    let list = ap rowsIn (part-of-zeros rows 4096 (omega arith)) in
+    let list = ap rows_in (part-of-zeros rows 4096 (omega arith)) in
     let buffer = part-of-zeros bytes 8192 (omega arith) in
     let done = c.before.before.before.before.trace-in.ensures in (
-      done.0 ∙ ap (λ (x : S.Call). (comes args.host x).host) (zeros-call ws (askedAt ws k place) rows bytes list buffer),
-      (done.1.0, subst (λ (t : List ℕ). Laid 0 t args.out.now c.before.before.before.before.trace-in.result.at c.before.before.before.before.trace-in.new.1.1.1.1.1.1.1.0) (zeros-text ws (askedAt ws k place) rows bytes list buffer (k + 1) args.host) done.1.1),
+      done.0 ∙ ap (λ (x : S.Call). (comes args.host x).host) (zeros-call ws (asked_at ws k place) rows bytes list buffer),
+      (done.1.0, subst (λ (t : List ℕ). Laid 0 t args.out.now c.before.before.before.before.trace-in.result.at c.before.before.before.before.trace-in.new.1.1.1.1.1.1.1.0) (zeros-text ws (asked_at ws k place) rows bytes list buffer (k + 1) args.host) done.1.1),
     )
 
 pub trace-call-spec : {M : Type 1} → statement M

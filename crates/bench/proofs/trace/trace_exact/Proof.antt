@@ -1,5 +1,5 @@
 use mathlib.Core.Path.{ap}
-use Rattle.tape.specs.Layout.{rowsIn}
+use Rattle.tape.specs.Layout.{rows_in}
 use Rattle.host.specs.declared.host.Called.{Called}
 use Rattle.bench.proofs.Gives.{traced}
 use borrow.Author.Rules.{rules}
@@ -11,7 +11,7 @@ returns c =
     let args = c.before.before.before.before.before.before.before.before.before.before.before.before.before.before.before.before.before.before.before.before.before.before.before.before.before.before.before.before.args in
     let done = c.before.before.before.before.before.before.before.before.before.before.before.before.before.before.before.before.before.before.before.before.before.ask.ensures in (
       ap (λ (x : Called). x.host) done.0,
-      traced args.number args.host (rowsIn args.list.now) args.buffer.now args.words.now args.asked done.0 done.1.0 done.1.1
+      traced args.number args.host (rows_in args.list.now) args.buffer.now args.words.now args.asked done.0 done.1.0 done.1.1
           c.before.before.before.before.before.before.before.before.before.before.before.before.put-call.ensures c.before.before.before.before.before.before.before.put-happened.ensures c.before.before.put-given.ensures,
     )
 

@@ -3,7 +3,7 @@ use mathlib.Core.Path.{◌≡◌, sym, ap, ◌∙◌}
 use native.Mathlib.Nat.{zero-add, add_assoc, sub-zero}
 use native.Mathlib.Omega.{arith}
 use lib.ListN.{drop}
-use Rattle.book.specs.Layout.{bodyWords}
+use Rattle.book.specs.Layout.{body_words}
 use Rattle.book.specs.declared.layout.Asked.{Asked}
 use Rattle.book.proofs.Rows.{words_step, words-none}
 use borrow.Author.Rules.{rules}
@@ -13,7 +13,7 @@ use Rattle.book.proofs.layout.body_words.Tie as tie
 -- the sum, with the words of the rows from k on, is all; each row adds less than 2 ^ 32
 abbrev invariant-loop : tie.invariant-loop
 invariant-loop words n sum₀ k₀ sum k =
-    (bodyWords n (drop 7 words) ≡ sum + bodyWords (n - k) (drop (7 + 4 * k) words)) × (sum ≤ 4294967295 * k) × (k ≤ n)
+    (body_words n (drop 7 words) ≡ sum + body_words (n - k) (drop (7 + 4 * k) words)) × (sum ≤ 4294967295 * k) × (k ≤ n)
 
 abbrev decreases-loop : tie.decreases-loop
 decreases-loop words n sum₀ k₀ sum k = n - k

@@ -2,7 +2,7 @@ use Prim.Native.Nat.{ℕ}
 use mathlib.Core.Path.{sym, ap, ◌∙◌}
 use native.Mathlib.Omega.{arith}
 use lib.ListN.{drop}
-use Rattle.book.specs.Layout.{badRows}
+use Rattle.book.specs.Layout.{bad_rows}
 use Rattle.book.proofs.Causes as cause
 use borrow.Author.Rules.{rules}
 use Rattle.book.proofs.layout.is_bad.Statement.{statement}
@@ -30,13 +30,13 @@ returns-7 : tie.Need-returns-7
 returns-7 c =
     let words = c.before.before.before.before.before.before.before.before.before.before.before.before.before.args.words.now in
     let calls = c.before.before.before.before.before.before.before.before.word3.ensures in
-    sym (cause.bad-row words (ap (λ (n : ℕ). badRows n (drop 7 words)) (sym calls) ∙ sym c.before.rows-are-bad.ensures ∙ c.if7.true))
+    sym (cause.bad-row words (ap (λ (n : ℕ). bad_rows n (drop 7 words)) (sym calls) ∙ sym c.before.rows-are-bad.ensures ∙ c.if7.true))
 
 returns-8 : tie.Need-returns-8
 returns-8 c =
     let words = c.before.before.before.before.before.before.before.before.before.before.before.before.before.before.args.words.now in
     let calls = c.before.before.before.before.before.before.before.before.before.word3.ensures in
-    let rows = ap (λ (n : ℕ). badRows n (drop 7 words)) (sym calls) ∙ sym c.before.before.rows-are-bad.ensures ∙ c.before.if7.false in
+    let rows = ap (λ (n : ℕ). bad_rows n (drop 7 words)) (sym calls) ∙ sym c.before.before.rows-are-bad.ensures ∙ c.before.if7.false in
     sym
     (cause.fills words (omega arith) (omega arith) (omega arith) (omega arith) (omega arith) (omega arith) rows
     ∙ rw (c.body-words.ensures, c.before.before.before.before.before.before.before.before.before.before.before.before.contents.ensures, calls))

@@ -3,9 +3,9 @@ use mathlib.Core.Path.{◌≡◌, refl, sym, ◌∙◌}
 use native.Mathlib.Omega.{arith}
 use lib.ListN.{length, take, length-set}
 use Rattle.text.specs.Ink.{inked, next}
-use Rattle.text.proofs.Ink.{ink-nil}
+use Rattle.text.proofs.Ink.{ink_nil}
 use Rattle.types.specs.Words.{words_of}
-use Rattle.types.proofs.Back.{length-words, wordAt, word-is}
+use Rattle.types.proofs.Back.{length-words, word_at, word-is}
 use Rattle.book.proofs.Load.{store, stored}
 use borrow.Author.Rules.{rules}
 use Rattle.book.proofs.layout.load.Statement.{statement}
@@ -19,14 +19,14 @@ abbrev decreases-loop : tie.decreases-loop
 decreases-loop bytes words₀ n i₀ words i = n - i
 
 loop-holds : tie.Need-loop-init invariant-loop decreases-loop
-loop-holds c = (sym (ink-nil 0 _), omega arith, refl)
+loop-holds c = (sym (ink_nil 0 _), omega arith, refl)
 
 loop-again : tie.Need-loop-preserved invariant-loop decreases-loop
 loop-again c =
     let head = c.before.before.before.before.before.before in
     let args = head.before.before.before.before.args in
     let bytes = args.bytes.now in
-    let word : c.little.result ≡ wordAt bytes (4 * head.loop.i) = c.little.ensures in
+    let word : c.little.result ≡ word_at bytes (4 * head.loop.i) = c.little.ensures in
     let value = word ∙ sym (word-is head.loop.i bytes (omega (arith, head.before.least.ensures))) in (
       rw (head.loop.invariant.0, value) (store (words_of bytes) args.words.now head.loop.i (rw length-words (omega (arith, head.before.least.ensures))) (omega (arith, head.before.least.ensures))),
       omega arith,

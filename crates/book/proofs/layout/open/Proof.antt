@@ -2,9 +2,9 @@ use Prim.Native.Nat.{◌/◌}
 use mathlib.Core.Path.{◌≡◌, sym, ap, ◌∙◌}
 use native.Mathlib.Omega.{arith}
 use lib.ListN.{length, length-take}
-use Rattle.book.specs.Layout.{badWords}
+use Rattle.book.specs.Layout.{bad_words}
 use Rattle.book.proofs.Load.{counted, kept, book-words}
-use Rattle.book.proofs.Opening.{open-odd, open-over, open-bad, open-good}
+use Rattle.book.proofs.Opening.{open_odd, open_over, open_bad, open_good}
 use borrow.Author.Rules.{rules}
 use Rattle.book.proofs.layout.open.Statement.{statement}
 use Rattle.book.proofs.layout.open.Tie as tie
@@ -15,7 +15,7 @@ returns c =
     let args = c.before.before.before.before.before.before.before.args in
     let bytes = args.bytes.now in
     let words = args.words.now in
-    (sym (open-odd bytes (length words) c.if1.true), load.ensures.laid)
+    (sym (open_odd bytes (length words) c.if1.true), load.ensures.laid)
 
 returns-2 : tie.Need-returns-2
 returns-2 c =
@@ -24,7 +24,7 @@ returns-2 c =
     let bytes = args.bytes.now in
     let words = args.words.now in
     let n = counted bytes words load.new.1.0 load.result load.ensures.placed load.ensures.laid in
-    (sym (open-over bytes (length words) (omega arith)), load.ensures.laid)
+    (sym (open_over bytes (length words) (omega arith)), load.ensures.laid)
 
 slice-reshare-prefix-is-bad : tie.Need-slice-reshare-prefix-is-bad
 slice-reshare-prefix-is-bad c =
@@ -53,7 +53,7 @@ returns-3 c =
     let bytes = args.bytes.now in
     let words = args.words.now in
     let all = book-words bytes words load.new.1.0 load.result load.ensures.placed load.ensures.laid (omega arith) in
-    (sym (open-bad bytes (length words) (ap badWords (sym all) ∙ sym c.before.is-bad.ensures ∙ c.if3.true)), load.ensures.laid)
+    (sym (open_bad bytes (length words) (ap bad_words (sym all) ∙ sym c.before.is-bad.ensures ∙ c.if3.true)), load.ensures.laid)
 
 returns-4 : tie.Need-returns-4
 returns-4 c =
@@ -64,8 +64,8 @@ returns-4 c =
     let n = counted bytes words load.new.1.0 load.result load.ensures.placed load.ensures.laid in
     let all = book-words bytes words load.new.1.0 load.result load.ensures.placed load.ensures.laid (omega arith) in
     let count : load.result ≡ length bytes / 4 = omega arith in
-    let good = ap badWords (sym all) ∙ sym c.before.is-bad.ensures ∙ c.if3.false in
-    (rw count (sym (open-good bytes (length words) (omega arith) good (omega arith))), load.ensures.laid)
+    let good = ap bad_words (sym all) ∙ sym c.before.is-bad.ensures ∙ c.if3.false in
+    (rw count (sym (open_good bytes (length words) (omega arith) good (omega arith))), load.ensures.laid)
 
 pub open_spec : {M : Type 1} → statement M
 open_spec = tie.close (tie.spec (λ c κs. search rules) (λ c. search rules) returns (λ c. search rules) returns-2 slice-reshare-prefix-is-bad slice-aggregate-is-bad (λ c κs. search rules) (λ c. search rules) returns-3 (λ c. search rules) returns-4)

@@ -3,15 +3,15 @@ use mathlib.Core.Path.{◌≡◌, sym, ap, ◌∙◌}
 use native.Mathlib.Nat.{sub-zero}
 use native.Mathlib.Omega.{arith}
 use lib.ListN.{drop}
-use Rattle.book.specs.Layout.{badRows}
-use Rattle.book.proofs.Rows.{badAsked, bad-here, bad-further, bad-none}
+use Rattle.book.specs.Layout.{bad_rows}
+use Rattle.book.proofs.Rows.{bad_asked, bad-here, bad-further, bad-none}
 use borrow.Author.Rules.{rules}
 use Rattle.book.proofs.layout.rows_are_bad.Statement.{statement}
 use Rattle.book.proofs.layout.rows_are_bad.Tie as tie
 
 -- whether a row is bad stands with the rows from k on
 abbrev invariant-loop : tie.invariant-loop
-invariant-loop words n k₀ k = (badRows n (drop 7 words) ≡ badRows (n - k) (drop (7 + 4 * k) words)) × (k ≤ n)
+invariant-loop words n k₀ k = (bad_rows n (drop 7 words) ≡ bad_rows (n - k) (drop (7 + 4 * k) words)) × (k ≤ n)
 
 abbrev decreases-loop : tie.decreases-loop
 decreases-loop words n k₀ k = n - k
@@ -23,14 +23,14 @@ returns : tie.Need-returns invariant-loop decreases-loop
 returns c =
     let head = c.before.before.before.before in
     let args = head.before.before.args in
-    let bad = sym (ap badAsked c.before.before.call_at.ensures) ∙ sym c.before.row-is-bad.ensures ∙ c.if1.true in
+    let bad = sym (ap bad_asked c.before.before.call_at.ensures) ∙ sym c.before.row-is-bad.ensures ∙ c.if1.true in
     sym (head.loop.invariant.0 ∙ bad-here args.words.now head.loop.k args.n (omega arith) bad)
 
 loop-again : tie.Need-loop-preserved invariant-loop decreases-loop
 loop-again c =
     let head = c.before.before.before.before in
     let args = head.before.before.args in
-    let good = sym (ap badAsked c.before.before.call_at.ensures) ∙ sym c.before.row-is-bad.ensures ∙ c.if1.false in
+    let good = sym (ap bad_asked c.before.before.call_at.ensures) ∙ sym c.before.row-is-bad.ensures ∙ c.if1.false in
     (head.loop.invariant.0 ∙ bad-further args.words.now head.loop.k args.n (omega arith) good, omega arith)
 
 returns-2 : tie.Need-returns-2 invariant-loop decreases-loop

@@ -2,7 +2,7 @@ use Prim.Native.Nat.{ℕ}
 use mathlib.Core.List.{List, [], ◌++◌, append-nil}
 use mathlib.Core.Path.{◌≡◌, sym, ◌∙◌}
 use borrow.Author.Tests.{eq-eqb, ne_eqb}
-use Rattle.types.specs.Answer.{answerTold}
+use Rattle.types.specs.Answer.{answer_told}
 use Rattle.text.specs.Ink.{Laid}
 use Rattle.text.proofs.Ink.{and_then}
 use borrow.Author.Rules.{rules}
@@ -16,7 +16,7 @@ returns c =
     let test = word.before.before.before in
     let first = test.before.before.before in
     let number = first.before.before.before in
-    let thirteen : (answerTold number.before.before.args.answer).number ≡ 13 = sym number.number.ensures ∙ test.if1.true in
+    let thirteen : (answer_told number.before.before.args.answer).number ≡ 13 = sym number.number.ensures ∙ test.if1.true in
     let answered = rw number.number.ensures at first.put-named.ensures in
     let field = rw word.word.ensures at second.put-named2.ensures in
     simp (eq-eqb _ _ thirteen) (and_then answered field)

@@ -1,6 +1,6 @@
 use mathlib.Core.Path.{◌≡◌, sym, ◌∙◌}
 use borrow.Author.Tests.{eq-eqb, ne_eqb}
-use Rattle.types.specs.Answer.{answerTold}
+use Rattle.types.specs.Answer.{answer_told}
 use Rattle.text.proofs.Ink.{nothing}
 use borrow.Author.Rules.{rules}
 use Rattle.book.proofs.lines.put_protect.Statement.{statement}
@@ -19,7 +19,7 @@ returns-3 : tie.Need-returns-3
 returns-3 c =
     let told = c.before.before in
     let test = told.before.before.before.before in
-    let accepted : (answerTold test.before.before.before.before.args.answer).number ≡ 0 = sym test.before.number.ensures ∙ test.if2.false in
+    let accepted : (answer_told test.before.before.before.before.args.answer).number ≡ 0 = sym test.before.number.ensures ∙ test.if2.false in
     rw (eq-eqb _ _ test.before.before.if1.false, eq-eqb _ _ accepted) (rw told.before.number2.ensures at told.put-named.ensures)
 
 pub put-protect-spec : {M : Type 1} → statement M

@@ -1,11 +1,11 @@
-use Rattle.bus.specs.Clock.{configureClock}
+use Rattle.bus.specs.Clock.{configure_clock}
 use Rattle.tape.proofs.Laws.{seq}
 use borrow.Author.Rules.{rules}
 use Rattle.bus.proofs.clock.configure_clock.Statement.{statement}
 use Rattle.bus.proofs.clock.configure_clock.Tie as tie
 
 returns : tie.Need-returns
-unfolding configureClock
+unfolding configure_clock
 returns c =
     let wrote = c.before.before in
     let idle = wrote.before.before in

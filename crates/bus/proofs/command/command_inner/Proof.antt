@@ -2,14 +2,14 @@ use mathlib.Core.List.{[]}
 use mathlib.Core.Path.{ap}
 use native.Mathlib.Omega.{arith}
 use Rattle.tape.specs.declared.progress.Progress.{Progress}
-use Rattle.bus.specs.Command.{commandInner}
+use Rattle.bus.specs.Command.{command_inner}
 use Rattle.tape.proofs.Laws.{seq, dry, read-on, from-stopped, still-going}
 use borrow.Author.Rules.{rules}
 use Rattle.bus.proofs.command.command_inner.Statement.{statement}
 use Rattle.bus.proofs.command.command_inner.Tie as tie
 
 returns : tie.Need-returns
-unfolding commandInner
+unfolding command_inner
 returns c = λ s part. from-stopped c.enum-told2.given.1
 
 wait-idle-requires : tie.Need-wait-idle-requires
@@ -22,7 +22,7 @@ complete-requires c κs =
     omega (arith, same, read-on idle.wait-idle.ensures, dry (c.before.before.issue.ensures []))
 
 returns-2 : tie.Need-returns-2
-unfolding commandInner
+unfolding command_inner
 returns-2 c =
     let issued = c.before.before.before in
     let idle = issued.before.before in

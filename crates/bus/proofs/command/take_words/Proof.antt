@@ -12,10 +12,10 @@ use Rattle.tape.specs.declared.progress.Pace.{Pace}
 use Rattle.tape.specs.declared.progress.Pace.TheVariants.{Going, Stopped}
 use Rattle.tape.specs.declared.progress.Progress.{Progress}
 use Rattle.tape.specs.Plan.{give, handle}
-use Rattle.tape.specs.Run.{at, After, run, doesAt, does, Behind, Gave}
-use Rattle.tape.specs.Steps.{word, dataFrom, dataWords}
+use Rattle.tape.specs.Run.{at, After, run, does_at, does, Behind, Gave}
+use Rattle.tape.specs.Steps.{word, data_from, data_words}
 use Rattle.tape.proofs.Behind.{long, at_place, at-used}
-use Rattle.bus.specs.Command.{zeros, responseWords}
+use Rattle.bus.specs.Command.{zeros, response_words}
 use borrow.Author.Rules.{rules}
 use Rattle.bus.proofs.command.take_words.Statement.{statement}
 use Rattle.bus.proofs.command.take_words.Tie as tie
@@ -25,15 +25,15 @@ module _ (s : List ℕ) (u n : ℕ) (h : Line) (l : List Row) where
   four : List ℕ
   four = get_or s u 0 ∷ get_or s (u + 1) 0 ∷ get_or s (u + 1 + 1) 0 ∷ get_or s (u + 1 + 1 + 1) 0 ∷ []
 
-  in-one-go : (words : List ℕ) → words ≡ cond (ltb (u + 1 + 1 + 1) (length s)) four zeros
-      → does s zeros (give words) (run s [] (dataWords 4) u n h l).state ≡ run s zeros responseWords u n h l
-  unfolding doesAt run handle word dataFrom responseWords four
-  in-one-go words are =
+  in_one_go : (words : List ℕ) → words ≡ cond (ltb (u + 1 + 1 + 1) (length s)) four zeros
+      → does s zeros (give words) (run s [] (data_words 4) u n h l).state ≡ run s zeros response_words u n h l
+  unfolding does_at run handle word data_from response_words four
+  in_one_go words are =
       by (ltb u (length s)) refl (ltb (u + 1) (length s)) refl (ltb (u + 1 + 1) (length s)) refl (ltb (u + 1 + 1 + 1) (length s)) refl
     where
       by : (a : Bool) → ltb u (length s) ≡ a → (b : Bool) → ltb (u + 1) (length s) ≡ b → (c : Bool) → ltb (u + 1 + 1) (length s) ≡ c
           → (d : Bool) → ltb (u + 1 + 1 + 1) (length s) ≡ d
-          → does s zeros (give words) (run s [] (dataWords 4) u n h l).state ≡ run s zeros responseWords u n h l
+          → does s zeros (give words) (run s [] (data_words 4) u n h l).state ≡ run s zeros response_words u n h l
       by false e b e₁ c e₂ d e₃ = rw e
       by true e false e₁ c e₂ d e₃ = rw (e, e₁)
       by true e true e₁ false e₂ d e₃ = rw (e, e₁, e₂)
@@ -66,14 +66,14 @@ module _ {m u : ℕ} {rest s : List ℕ} (part : Behind m rest s) (after : m ≤
 -- what was taken, and what is given of it
 joined : {s : List ℕ} {l : List Row} {p q r : Progress} {words taken v : List ℕ}
     → words ≡ cond (ltb (p.used + 1 + 1 + 1) (length s)) (four s p.used p.rows p.line l) zeros
-    → Gave s (List ℕ) [] (dataWords 4) (at p l) taken (at q l) → Gave s (List ℕ) zeros (give words) (at q l) v (at r l)
-    → Gave s (List ℕ) zeros responseWords (at p l) v (at r l)
-unfolding doesAt run
+    → Gave s (List ℕ) [] (data_words 4) (at p l) taken (at q l) → Gave s (List ℕ) zeros (give words) (at q l) v (at r l)
+    → Gave s (List ℕ) zeros response_words (at p l) v (at r l)
+unfolding does_at run
 joined {s} {l} {p} {q} {r} {words} {taken} {v} are e g =
     record { same = g.same ∙ ap (does s zeros (give words)) (ap (λ (x : After (List ℕ)). x.state) e.same) ∙ by p.pace }
   where
-    by : (a : Pace) → does s zeros (give words) (doesAt s [] a (dataWords 4) (at p l)).state ≡ doesAt s zeros a responseWords (at p l)
-    by Going = in-one-go s p.used p.rows p.line l words are
+    by : (a : Pace) → does s zeros (give words) (does_at s [] a (data_words 4) (at p l)).state ≡ does_at s zeros a response_words (at p l)
+    by Going = in_one_go s p.used p.rows p.line l words are
     by (Stopped x) = refl
 
 returns : tie.Need-returns

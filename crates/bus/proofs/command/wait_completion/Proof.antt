@@ -15,13 +15,13 @@ use Rattle.tape.specs.declared.progress.Progress.{Progress}
 use Rattle.tape.specs.declared.script.Reading.TheVariants as Reading
 use Rattle.tape.specs.Plan.{give, fail, handle, ensure, until, ◌then◌}
 use Rattle.tape.specs.Polls.{leading}
-use Rattle.tape.specs.Run.{State, at, After, overAt, run, doesAt, Behind, Did, Gave}
+use Rattle.tape.specs.Run.{State, at, After, over_at, run, does_at, Behind, Did, Gave}
 use Rattle.tape.specs.Steps.{word}
 use Rattle.tape.proofs.Behind.{long, at_place, in_place, out-of-place, further}
 use Rattle.tape.proofs.Laws.{bind, refusal, from-going, from-stopped}
 use Rattle.tape.proofs.Loops.{Turned, last_turn, out-of-turns}
 use Rattle.tape.proofs.Polls.{on, counted-within, leads-within, leads, leads-to, skipped, reads}
-use Rattle.bus.specs.Command.{pollCompletion, waitCompletion}
+use Rattle.bus.specs.Command.{poll_completion, wait_completion}
 use borrow.Author.Rules.{rules}
 use Rattle.bus.proofs.command.wait_completion.Statement.{statement}
 use Rattle.bus.proofs.command.wait_completion.Tie as tie
@@ -36,18 +36,18 @@ second-of false b e = cc
 
 -- one status word that is there and shows no lateness
 polls : {s : List ℕ} {l : List Row} (p : Progress) (i : ℕ) → p.pace ≡ Going → p.used + i < length s → clear 0x4 (get_or s (p.used + i) 0) ≡ true
-    → Gave s ℕ 0 pollCompletion (at (on p i) l) (get_or s (p.used + i) 0) (at (on p (i + 1)) l)
-unfolding pollCompletion ensure handle run
+    → Gave s ℕ 0 poll_completion (at (on p i) l) (get_or s (p.used + i) 0) (at (on p (i + 1)) l)
+unfolding poll_completion ensure handle run
 polls {s} {l} p i going there intime =
     bind (λ w. ensure (clear 0x4 w) E.Timeout then λ _. give w) (reads Reading.Status p i going there) (from-going going (rw (intime, going)))
 
 -- a status word that is late or completes, or is not there, ends the wait
-poll-over : (mask : ℕ) {s : List ℕ} {l : List Row} {q : Progress} {v : ℕ} {w : State} → q.pace ≡ Going
-    → (q.used < length s → (clear mask (get_or s q.used 0) && clear 0x4 (get_or s q.used 0)) ≡ false) → Gave s ℕ 0 pollCompletion (at q l) v w
-    → overAt w.progress.pace (not (clear mask v)) ≡ true
-unfolding doesAt run handle word ensure pollCompletion overAt
-poll-over mask {s} {l} {q} {v} {w} going is e =
-    ap (λ (x : After ℕ). overAt x.state.progress.pace (not (clear mask x.value))) e.same
+poll_over : (mask : ℕ) {s : List ℕ} {l : List Row} {q : Progress} {v : ℕ} {w : State} → q.pace ≡ Going
+    → (q.used < length s → (clear mask (get_or s q.used 0) && clear 0x4 (get_or s q.used 0)) ≡ false) → Gave s ℕ 0 poll_completion (at q l) v w
+    → over_at w.progress.pace (not (clear mask v)) ≡ true
+unfolding does_at run handle word ensure poll_completion over_at
+poll_over mask {s} {l} {q} {v} {w} going is e =
+    ap (λ (x : After ℕ). over_at x.state.progress.pace (not (clear mask x.value))) e.same
     ∙ by q.pace going (ltb q.used (length s)) refl (clear 0x4 (get_or s q.used 0)) refl
   where
     none : (b : Bool) → (b && true) ≡ false → not b ≡ true
@@ -55,7 +55,7 @@ poll-over mask {s} {l} {q} {v} {w} going is e =
     none false e = refl
 
     by : (a : Pace) → a ≡ Going → (b : Bool) → ltb q.used (length s) ≡ b → (c : Bool) → clear 0x4 (get_or s q.used 0) ≡ c
-        → (let x = doesAt s 0 a pollCompletion (at q l) in overAt x.state.progress.pace (not (clear mask x.value)) ≡ true)
+        → (let x = does_at s 0 a poll_completion (at q l) in over_at x.state.progress.pace (not (clear mask x.value)) ≡ true)
     by (Stopped x) g b t c k = cc
     by Going g true t true k = rw (t, k) (none (clear mask (get_or s q.used 0)) (rw k at (is (ltb-true q.used (length s) t))))
     by Going g true t false k = rw (t, k)
@@ -67,7 +67,7 @@ waiting mask limit left = leading limit (λ w. clear mask w && clear 0x4 w) left
 -- from a call that is going, after the polls that found nothing done and nothing wrong
 module _ (mask limit : ℕ) {left s : List ℕ} {p q : Progress} {n : ℕ} (going : p.pace ≡ Going)
     (part : Behind p.used left s) (counted : n ≡ waiting mask limit left) (moved : q ≡ on p n) where
-  turns : {l : List Row} → Turned s ℕ 0 pollCompletion (λ w. not (clear mask w)) limit n (at p l) (at q l)
+  turns : {l : List Row} → Turned s ℕ 0 poll_completion (λ w. not (clear mask w)) limit n (at p l) (at q l)
   turns =
       let most = leads-within (λ w. clear mask w && clear 0x4 w) limit left in
       rw (moved, counted)
@@ -82,16 +82,16 @@ module _ (mask limit : ℕ) {left s : List ℕ} {p q : Progress} {n : ℕ} (goin
       let first = leads-to (λ w. clear mask w && clear 0x4 w) limit left (omega (arith, counted, more, out-of-place part n (rw moved at there))) in
       rw (moved, at_place part n) (rw (← counted) at first)
 
-  found : {l : List Row} {v : ℕ} {r : Progress} → n < limit → Gave s ℕ 0 pollCompletion (at q l) v (at r l)
-      → Gave s ℕ 0 (until limit (λ w. not (clear mask w)) pollCompletion) (at p l) v (at r l)
-  found more e = last_turn turns more e (poll-over mask (rw moved going) (ends more) e)
+  found : {l : List Row} {v : ℕ} {r : Progress} → n < limit → Gave s ℕ 0 poll_completion (at q l) v (at r l)
+      → Gave s ℕ 0 (until limit (λ w. not (clear mask w)) poll_completion) (at p l) v (at r l)
+  found more e = last_turn turns more e (poll_over mask (rw moved going) (ends more) e)
 
   spent : {l : List Row} {r : Progress} → limit ≤ n → Did s (fail E.SoftwareTimeout) (at q l) (at r l)
-      → Gave s ℕ 0 (until limit (λ w. not (clear mask w)) pollCompletion) (at p l) 0 (at r l)
+      → Gave s ℕ 0 (until limit (λ w. not (clear mask w)) poll_completion) (at p l) 0 (at r l)
   spent out e = out-of-turns turns out (refusal e)
 
 returns : tie.Need-returns
-unfolding waitCompletion
+unfolding wait_completion
 returns c = λ s l part. from-stopped c.enum-told2.given.1
 
 moved-requires : tie.Need-moved-requires
@@ -108,7 +108,7 @@ poll-completion-requires c κs =
     (omega (arith, used, start.requires.0), start.requires.1)
 
 returns-2 : tie.Need-returns-2
-unfolding waitCompletion
+unfolding wait_completion
 returns-2 c =
     let moved = c.before.before in
     let quiet = moved.before in
@@ -119,7 +119,7 @@ returns-2 c =
     quiet.quiet.ensures moved.moved.ensures c.before.if1.true (c.poll-completion.ensures s l part)
 
 returns-3 : tie.Need-returns-3
-unfolding waitCompletion
+unfolding wait_completion
 returns-3 c =
     let moved = c.before.before in
     let quiet = moved.before in

@@ -1,7 +1,7 @@
 use mathlib.Core.List.{[]}
 use native.Mathlib.Omega.{arith}
 use Rattle.tape.specs.declared.script.Reading.TheVariants as Reading
-use Rattle.bus.specs.Transfer.{pollTransfer}
+use Rattle.bus.specs.Transfer.{poll_transfer}
 use Rattle.tape.proofs.Laws.{bind, seq, dry, read-on}
 use borrow.Author.Rules.{rules}
 use Rattle.bus.proofs.poll.poll_transfer.Statement.{statement}
@@ -11,7 +11,7 @@ read-word-requires-2 : tie.Need-read-word-requires-2
 read-word-requires-2 c κs = omega (arith, read-on (c.before.read_word.ensures Reading.Status), dry (c.clean.ensures [] []))
 
 returns : tie.Need-returns
-unfolding pollTransfer
+unfolding poll_transfer
 returns c =
     let good = c.before in
     let dma = good.before.before in

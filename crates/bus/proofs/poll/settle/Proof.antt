@@ -1,7 +1,7 @@
 use mathlib.Core.Path.{sym, ◌∙◌}
 use native.Mathlib.Omega.{arith}
 use Rattle.bus.specs.Transfer.{settle}
-use Rattle.tape.proofs.Laws.{bind, seq, read-on, on-true, on-false}
+use Rattle.tape.proofs.Laws.{bind, seq, read-on, on_true, on_false}
 use borrow.Author.Rules.{rules}
 use Rattle.bus.proofs.poll.settle.Statement.{statement}
 use Rattle.bus.proofs.poll.settle.Tie as tie
@@ -15,7 +15,7 @@ returns c =
     let test = c.before in
     let found = test.before in
     λ s l part.
-    bind _ (found.before.poll-transfer.ensures s l part) (on-true _ (sym found.unfinished.ensures ∙ test.if1.true) (c.give-flag.ensures s l))
+    bind _ (found.before.poll-transfer.ensures s l part) (on_true _ (sym found.unfinished.ensures ∙ test.if1.true) (c.give-flag.ensures s l))
 
 returns-2 : tie.Need-returns-2
 unfolding settle
@@ -25,7 +25,7 @@ returns-2 c =
     let found = test.before in
     λ s l part.
     bind _ (found.before.poll-transfer.ensures s l part)
-    (on-false _ (sym found.unfinished.ensures ∙ test.if1.false) (seq (done.drained.ensures s l part) (c.give-flag2.ensures s l)))
+    (on_false _ (sym found.unfinished.ensures ∙ test.if1.false) (seq (done.drained.ensures s l part) (c.give-flag2.ensures s l)))
 
 pub settle-spec : {M : Type 1} → statement M
 settle-spec =

@@ -4,24 +4,24 @@ use mathlib.Core.Bool.{Bool, false}
 use Prim.Native.Nat.{ℕ, ◌-◌}
 use native.Mathlib.Omega.{arith}
 use Rattle.tape.specs.declared.rows.Row.{Row}
-use Rattle.bus.specs.Transfer.{dataComplete, waitData}
+use Rattle.bus.specs.Transfer.{data_complete, wait_data}
 use Rattle.tape.specs.Run.{at, Behind}
 use Rattle.tape.proofs.Behind.{further, long}
 use Rattle.tape.proofs.Laws.{refusal, forget}
-use Rattle.tape.proofs.Loops.{Turned, no-turn, next-turn, last_turn, out-of-turns, turned_on}
+use Rattle.tape.proofs.Loops.{Turned, no_turn, next-turn, last_turn, out-of-turns, turned_on}
 use borrow.Author.Rules.{rules}
 use Rattle.bus.proofs.poll.wait_data.Statement.{statement}
 use Rattle.bus.proofs.poll.wait_data.Tie as tie
 
 abbrev invariant-loop : tie.invariant-loop
 invariant-loop rest limit start q₀ i₀ q i =
-    (s : List ℕ) (l : List Row) → Behind start rest s → Turned s Bool false dataComplete (λ done. done) limit i (at q₀ l) (at q l)
+    (s : List ℕ) (l : List Row) → Behind start rest s → Turned s Bool false data_complete (λ done. done) limit i (at q₀ l) (at q l)
 
 abbrev decreases-loop : tie.decreases-loop
 decreases-loop rest limit start q₀ i₀ q i = limit - i
 
 loop-holds : tie.Need-loop-init invariant-loop decreases-loop
-loop-holds c = λ s l part. no-turn
+loop-holds c = λ s l part. no_turn
 
 -- words are only ever taken, so what is left of what is left is what is left of the script
 sub-rest : tie.Need-overflow-sub-rest invariant-loop decreases-loop
@@ -31,7 +31,7 @@ data-complete-requires : tie.Need-data-complete-requires invariant-loop decrease
 data-complete-requires c κs = omega (arith, turned_on c.before.before.before.loop.invariant, long c.rest.ensures.0)
 
 returns : tie.Need-returns invariant-loop decreases-loop
-unfolding waitData
+unfolding wait_data
 returns c =
     let over = c.before in
     let poll = over.before.before in
@@ -54,7 +54,7 @@ loop-again c =
     (sym over.over.ensures ∙ c.if1.false)
 
 returns-2 : tie.Need-returns-2 invariant-loop decreases-loop
-unfolding waitData
+unfolding wait_data
 returns-2 c =
     let loop = c.before.before in
     λ s l part. forget (out-of-turns (loop.loop.invariant s l part) c.before.loop-test.false (refusal (c.refuse.ensures s l)))

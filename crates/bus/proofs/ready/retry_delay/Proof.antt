@@ -1,10 +1,10 @@
-use Rattle.bus.specs.Ready.{retryDelay}
+use Rattle.bus.specs.Ready.{retry_delay}
 use borrow.Author.Rules.{rules}
 use Rattle.bus.proofs.ready.retry_delay.Statement.{statement}
 use Rattle.bus.proofs.ready.retry_delay.Tie as tie
 
 returns : tie.Need-returns
-unfolding retryDelay
+unfolding retry_delay
 returns c =
     let wrote = c.before.before in
     λ s. rw wrote.before.before.millisecond.ensures at (wrote.write-row.ensures s)

@@ -5,11 +5,11 @@ use mathlib.Core.Bool.{Bool, false}
 use Prim.Native.Nat.{ℕ, ◌-◌}
 use native.Mathlib.Omega.{arith}
 use Rattle.tape.specs.declared.progress.Progress.{Progress}
-use Rattle.bus.specs.Ready.{tryReady, waitReady}
+use Rattle.bus.specs.Ready.{try_ready, wait_ready}
 use Rattle.tape.specs.Run.{at}
 use Rattle.tape.proofs.Laws.{refusal, forget, not-over, still-going}
-use Rattle.tape.proofs.Loops.{Turned, no-turn, next-turn, last_turn, out-of-turns}
-use Rattle.tape.specs.Layout.{rowsIn}
+use Rattle.tape.proofs.Loops.{Turned, no_turn, next-turn, last_turn, out-of-turns}
+use Rattle.tape.specs.Layout.{rows_in}
 use borrow.Author.Rules.{rules}
 use Rattle.bus.proofs.ready.wait_ready.Statement.{statement}
 use Rattle.bus.proofs.ready.wait_ready.Tie as tie
@@ -17,7 +17,7 @@ use Rattle.bus.proofs.ready.wait_ready.Tie as tie
 -- after i attempts of the loop that began at p with these rows
 record Tried (script : List ℕ) (source limit rca attempts i : ℕ) (rows₀ rows : List ℕ) (p q : Progress) : Type 0 where
   room : length rows ≡ length rows₀
-  turned : Turned script Bool false (tryReady source limit rca) (λ ready. ready) attempts i (at p (rowsIn rows₀)) (at q (rowsIn rows))
+  turned : Turned script Bool false (try_ready source limit rca) (λ ready. ready) attempts i (at p (rows_in rows₀)) (at q (rows_in rows))
 
 abbrev invariant-loop : tie.invariant-loop
 invariant-loop script rows₀ source rca attempts limit q₀ i₀ rows q i = Tried script source.0 limit rca attempts i rows₀ rows q₀ q
@@ -26,10 +26,10 @@ abbrev decreases-loop : tie.decreases-loop
 decreases-loop script rows₀ source rca attempts limit q₀ i₀ rows q i = attempts - i
 
 loop-holds : tie.Need-loop-init invariant-loop decreases-loop
-loop-holds c = record { room = refl; turned = no-turn }
+loop-holds c = record { room = refl; turned = no_turn }
 
 returns : tie.Need-returns invariant-loop decreases-loop
-unfolding waitReady
+unfolding wait_ready
 returns c =
     let over = c.before in
     let tried = over.before.before.before.before in
@@ -48,7 +48,7 @@ loop-again c =
     }
 
 returns-2 : tie.Need-returns-2 invariant-loop decreases-loop
-unfolding waitReady
+unfolding wait_ready
 returns-2 c =
     let loop = c.before.before in
     forget (out-of-turns loop.loop.invariant.turned c.before.loop-test.false (refusal (c.refuse.ensures _ _)))

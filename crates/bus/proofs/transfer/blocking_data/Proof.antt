@@ -1,8 +1,8 @@
 use mathlib.Core.List.{[]}
 use mathlib.Core.Path.{◌∙◌}
 use Rattle.tape.specs.Run.{kept_at}
-use Rattle.tape.specs.Steps.{resetController}
-use Rattle.bus.specs.Transfer.{transferData, blockingData}
+use Rattle.tape.specs.Steps.{reset_controller}
+use Rattle.bus.specs.Transfer.{transfer_data, blocking_data}
 use Rattle.tape.proofs.Laws.{guarded, settled-value, stay, from-stopped}
 use Rattle.tape.proofs.Lying.{guard-keeps}
 use borrow.Author.Rules.{rules}
@@ -10,23 +10,23 @@ use Rattle.bus.proofs.transfer.blocking_data.Statement.{statement}
 use Rattle.bus.proofs.transfer.blocking_data.Tie as tie
 
 returns : tie.Need-returns
-unfolding blockingData
+unfolding blocking_data
 returns c =
     let read = c.before.before.before.before.before in (
-      guarded {p = transferData _ _ _ _ _} resetController read.before.before.enum_told.given.1 read.transfer-data.ensures.0 (settled-value c.enum-told2.given.1 stay),
+      guarded {p = transfer_data _ _ _ _ _} reset_controller read.before.before.enum_told.given.1 read.transfer-data.ensures.0 (settled-value c.enum-told2.given.1 stay),
       read.transfer-data.ensures.1,
     )
 
 returns-2 : tie.Need-returns-2
-unfolding blockingData
+unfolding blocking_data
 returns-2 c =
     let closed = c.before.before in
     let read = closed.before.before.before.before.before.before.before in
     let lies = read.transfer-data.ensures.1 in (
-      guarded {p = transferData _ _ _ _ _} resetController read.before.before.enum_told.given.1 read.transfer-data.ensures.0 (closed.close.ensures _),
+      guarded {p = transfer_data _ _ _ _ _} reset_controller read.before.before.enum_told.given.1 read.transfer-data.ensures.0 (closed.close.ensures _),
       record {
-        place = lies.place ∙ guard-keeps resetController 0 _ (closed.close.ensures []);
-        count = lies.count ∙ guard-keeps resetController 0 _ (closed.close.ensures []);
+        place = lies.place ∙ guard-keeps reset_controller 0 _ (closed.close.ensures []);
+        count = lies.count ∙ guard-keeps reset_controller 0 _ (closed.close.ensures []);
       },
     )
 

@@ -1,11 +1,11 @@
-use Rattle.bus.specs.Transfer.{endData}
+use Rattle.bus.specs.Transfer.{end_data}
 use Rattle.tape.proofs.Laws.{seq}
 use borrow.Author.Rules.{rules}
 use Rattle.bus.proofs.transfer.end_data.Statement.{statement}
 use Rattle.bus.proofs.transfer.end_data.Tie as tie
 
 returns : tie.Need-returns
-unfolding endData
+unfolding end_data
 returns c =
     let waited = c.before.before in
     let ended = waited.before.before.before.before in

@@ -1,11 +1,11 @@
-use Rattle.bus.specs.Transfer.{orderData}
+use Rattle.bus.specs.Transfer.{order_data}
 use Rattle.tape.proofs.Laws.{seq, forget}
 use borrow.Author.Rules.{rules}
 use Rattle.bus.proofs.transfer.order_data.Statement.{statement}
 use Rattle.bus.proofs.transfer.order_data.Tie as tie
 
 returns : tie.Need-returns
-unfolding orderData
+unfolding order_data
 returns c =
     let told = c.before.before.before in
     let left = told.before.before in

@@ -1,11 +1,11 @@
-use Rattle.bus.specs.Transfer.{readyData}
+use Rattle.bus.specs.Transfer.{ready_data}
 use Rattle.tape.proofs.Laws.{seq}
 use borrow.Author.Rules.{rules}
 use Rattle.bus.proofs.transfer.ready_data.Statement.{statement}
 use Rattle.bus.proofs.transfer.ready_data.Tie as tie
 
 returns : tie.Need-returns
-unfolding readyData
+unfolding ready_data
 returns c =
     let armed = c.before.before in
     let idle = armed.before.before in

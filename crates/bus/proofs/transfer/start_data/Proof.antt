@@ -1,4 +1,4 @@
-use Rattle.bus.proofs.Starting.{reads-begin}
+use Rattle.bus.proofs.Starting.{reads_begin}
 use borrow.Author.Rules.{rules}
 use Rattle.bus.proofs.transfer.start_data.Statement.{statement}
 use Rattle.bus.proofs.transfer.start_data.Tie as tie
@@ -8,7 +8,7 @@ returns c =
     let ordered = c.before.before in
     let armed = ordered.before.before.before.before in
     let ready = armed.before.before.before.before in
-    reads-begin _ _ _ ready.ready-data.ensures (armed.control.ensures _) ordered.order-data.ensures
+    reads_begin _ _ _ ready.ready-data.ensures (armed.control.ensures _) ordered.order-data.ensures
 
 pub start-data-spec : {M : Type 1} → statement M
 start-data-spec =

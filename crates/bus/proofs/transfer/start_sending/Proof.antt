@@ -1,4 +1,4 @@
-use Rattle.bus.proofs.Starting.{sends-begin}
+use Rattle.bus.proofs.Starting.{sends_begin}
 use borrow.Author.Rules.{rules}
 use Rattle.bus.proofs.transfer.start_sending.Statement.{statement}
 use Rattle.bus.proofs.transfer.start_sending.Tie as tie
@@ -10,7 +10,7 @@ returns c =
     let ordered = armed.before.before.before.before in
     let ready = ordered.before.before.before.before in
     let start = ready.before.before.before.before.before in
-    sends-begin start.args.script.now start.args.config start.args.transfer _
+    sends_begin start.args.script.now start.args.config start.args.transfer _
     ready.ready-data.ensures ordered.order-data.ensures (armed.control.ensures _) (rw (← start.requires) at (sent.send-data.ensures start.args.script.now))
 
 pub start-sending-spec : {M : Type 1} → statement M

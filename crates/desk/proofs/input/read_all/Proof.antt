@@ -1,7 +1,7 @@
 use mathlib.Core.Path.{◌≡◌}
 use native.Mathlib.Omega.{arith}
 use lib.ListN.{length}
-use Rattle.desk.proofs.Inputs.{Standing, left, begins, goes-stands, goes-less, stands-in}
+use Rattle.desk.proofs.Inputs.{Standing, left, begins, goes-stands, goes-less, stands_in}
 use borrow.Author.Rules.{rules}
 use Rattle.desk.proofs.input.read_all.Statement.{statement}
 use Rattle.desk.proofs.input.read_all.Tie as tie
@@ -33,7 +33,7 @@ loop-again c =
     let filling = c.before.before.before.before.before in
     let head = filling.before.before.loop in
     let room = rw filling.filling.given.1 at head.invariant.0 in
-    (stands-in c.before.before.read_at.result (length head.buffer) _ (search rules) (goes-stands _ _ room _ c.before.before.read_at.ensures), search rules)
+    (stands_in c.before.before.read_at.result (length head.buffer) _ (search rules) (goes-stands _ _ room _ c.before.before.read_at.ensures), search rules)
 
 returns : tie.Need-returns invariant-loop decreases-loop
 returns c = rw c.before.filling2.given.1 at c.before.before.before.loop.invariant.0

@@ -1,6 +1,6 @@
 use mathlib.Core.Path.{◌≡◌}
 use lib.ListN.{length}
-use Rattle.desk.proofs.Piles.{due, Stands, onward, stands-in}
+use Rattle.desk.proofs.Piles.{due, Stands, onward, stands_in}
 use borrow.Author.Rules.{rules}
 use Rattle.desk.proofs.pile.next_book.Statement.{statement}
 use Rattle.desk.proofs.pile.next_book.Tie as tie
@@ -27,7 +27,7 @@ loop-again c =
     let stage = c.before.before.before.before.before in
     let head = stage.before.before.loop in
     let asks = rw stage.stage.given.1 at head.invariant.0 in
-    (stands-in c.before.before.turn.result (length head.buffer) _ (search rules) (onward _ _ _ asks c.before.before.turn.ensures).stands, search rules)
+    (stands_in c.before.before.turn.result (length head.buffer) _ (search rules) (onward _ _ _ asks c.before.before.turn.ensures).stands, search rules)
 
 returns : tie.Need-returns invariant-loop decreases-loop
 returns c = rw c.before.stage2.given.1 at c.before.before.before.loop.invariant.0

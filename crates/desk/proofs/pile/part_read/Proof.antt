@@ -1,18 +1,18 @@
 use borrow.Author.Rules.{rules}
-use Rattle.desk.specs.Pile.{partRead}
+use Rattle.desk.specs.Pile.{part_read}
 use Rattle.desk.proofs.pile.part_read.Statement.{statement}
 use Rattle.desk.proofs.pile.part_read.Tie as tie
 
 returns : tie.Need-returns
-unfolding partRead
+unfolding part_read
 returns c = rw c.before.enum_told.given.1 c.behind.ensures
 
 returns-2 : tie.Need-returns-2
-unfolding partRead
+unfolding part_read
 returns-2 c = rw c.enum-told2.given.1
 
 returns-3 : tie.Need-returns-3
-unfolding partRead
+unfolding part_read
 returns-3 c = rw c.enum-told3.given.1
 
 pub part-read-spec : {M : Type 1} → statement M

@@ -1,6 +1,6 @@
 use mathlib.Core.Path.{sym}
 use lib.Seq.{length-take-le}
-use Rattle.desk.proofs.Piles.{fills-in}
+use Rattle.desk.proofs.Piles.{fills_in}
 use borrow.Author.Rules.{rules}
 use Rattle.desk.specs.Pile.{Follows}
 use Rattle.desk.proofs.pile.turn.Statement.{statement}
@@ -26,7 +26,7 @@ returns-2 c =
     let filled = c.before.before.before in
     let known = filled.before.before.before in
     let room = rw known.task.given.1 at known.before.before.before.requires in
-    rw known.task.given.1 (filled.fill.result, fills-in filled.fill.result _ _ (length-take-le _ _ room) filled.fill.ensures, c.part-read.ensures)
+    rw known.task.given.1 (filled.fill.result, fills_in filled.fill.result _ _ (length-take-le _ _ room) filled.fill.ensures, c.part-read.ensures)
 
 returns-3 : tie.Need-returns-3
 unfolding Follows

@@ -1,7 +1,7 @@
 use mathlib.Core.Path.{sym}
 use lib.Seq.{length-take-le}
 use Rattle.text.proofs.Ink.{stands-within}
-use Rattle.desk.proofs.Rooms.{granted-fits}
+use Rattle.desk.proofs.Rooms.{granted_fits}
 use borrow.Author.Rules.{rules}
 use Rattle.desk.proofs.room.asked.Statement.{statement}
 use Rattle.desk.proofs.room.asked.Tie as tie
@@ -15,7 +15,7 @@ slice-aggregate-write-all c = sym (length-take-le _ _ (stands-within c.before.be
 returns : tie.Need-returns
 returns c =
     let argued = c.before.before.before.before.before.before.before in
-    rw c.granted.ensures (granted-fits _ _ argued.argument.ensures)
+    rw c.granted.ensures (granted_fits _ _ argued.argument.ensures)
 
 pub asked-spec : {M : Type 1} → statement M
 asked-spec =

@@ -2,13 +2,13 @@ use Prim.Native.Nat.{◌≤◌, ◌-◌}
 use mathlib.Core.Path.{◌≡◌, refl, ap, sym, ◌∙◌}
 use native.Mathlib.Omega.{arith}
 use lib.ListN.{length, drop, drop_of_length-le}
-use Rattle.desk.specs.Room.{roomFrom}
+use Rattle.desk.specs.Room.{room_from}
 use Rattle.desk.proofs.Rooms.{too_large, all_read, below, above, digit, empty, long, short}
 use Rattle.desk.proofs.room.read_room.Statement.{statement}
 use Rattle.desk.proofs.room.read_room.Tie as tie
 
 abbrev invariant-loop : tie.invariant-loop
-invariant-loop word rows₀ i₀ rows i = (i ≤ length word) × (rows ≤ 4_096) × (roomFrom rows (drop i word) ≡ roomFrom 0 word)
+invariant-loop word rows₀ i₀ rows i = (i ≤ length word) × (rows ≤ 4_096) × (room_from rows (drop i word) ≡ room_from 0 word)
 
 abbrev decreases-loop : tie.decreases-loop
 decreases-loop word rows₀ i₀ rows i = length word - i
@@ -81,7 +81,7 @@ returns-6 c =
     let i = head.loop.i in
     sym (short word head.before.before.if1.false head.before.if2.false
     ∙ sym head.loop.invariant.2
-    ∙ ap (roomFrom head.loop.rows) (drop_of_length-le word {i = i} (omega arith))
+    ∙ ap (room_from head.loop.rows) (drop_of_length-le word {i = i} (omega arith))
     ∙ all_read _ head.loop.invariant.1)
 
 pub read-room-spec : {M : Type 1} → statement M

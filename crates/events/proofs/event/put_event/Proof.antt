@@ -1,18 +1,18 @@
-use Rattle.events.specs.Event.{eventText}
+use Rattle.events.specs.Event.{event_text}
 use borrow.Author.Rules.{rules}
 use Rattle.events.proofs.event.put_event.Statement.{statement}
 use Rattle.events.proofs.event.put_event.Tie as tie
 
 returns : tie.Need-returns
-unfolding eventText
+unfolding event_text
 returns c = rw c.before.before.before.before.before.event.given.1 c.before.before.put-read.ensures
 
 returns-2 : tie.Need-returns-2
-unfolding eventText
+unfolding event_text
 returns-2 c = rw c.before.before.before.before.before.event2.given.1 c.before.before.put-missed.ensures
 
 returns-3 : tie.Need-returns-3
-unfolding eventText
+unfolding event_text
 returns-3 c = rw c.before.before.before.before.before.event3.given.1 c.before.before.put-wrote.ensures
 
 pub put-event-spec : {M : Type 1} → statement M

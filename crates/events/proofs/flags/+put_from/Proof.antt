@@ -4,7 +4,7 @@ use mathlib.Core.Path.{◌≡◌, ◌∙◌}
 use native.Mathlib.Omega.{arith}
 use borrow.Author.Tests.{eq-eqb, ne_eqb}
 use Rattle.text.proofs.Ink.{and_then}
-use Rattle.events.proofs.Lines.{none_left, unset, set}
+use Rattle.events.proofs.Lines.{none-left, unset, set}
 use borrow.Author.Rules.{rules}
 use borrow.Fn.Kinds.{In}
 use borrow.Fn.PlainCycle.{Measures, is, falls, and}
@@ -18,35 +18,35 @@ use Rattle.events.proofs.flags.put_none.Reads as put-none-reads
 use Rattle.events.proofs.flags.+put_from.{statement}
 use Rattle.events.proofs.flags.+put_from.Tie.{close}
 
-abbrev μ-put-from : Measures 1 put-from-kinds.ps ℕ
-μ-put-from κs a = 12 - a.1.1.1.0
+abbrev μ_put_from : Measures 1 put-from-kinds.ps ℕ
+μ_put_from κs a = 12 - a.1.1.1.0
 
-abbrev put-from-at : ℕ → In 1 put-from-kinds.ps
-put-from-at t = and 1 put-from-kinds.ps (is 1 put-from-kinds.ps μ-put-from t) put-from.Pre
+abbrev put_from_at : ℕ → In 1 put-from-kinds.ps
+put_from_at t = and 1 put-from-kinds.ps (is 1 put-from-kinds.ps μ_put_from t) put-from.Pre
 
-abbrev put-from-below : ℕ → In 1 put-from-kinds.ps
-put-from-below t = and 1 put-from-kinds.ps (falls 1 put-from-kinds.ps ◌<◌ μ-put-from t) put-from.Pre
+abbrev put_from_below : ℕ → In 1 put-from-kinds.ps
+put_from_below t = and 1 put-from-kinds.ps (falls 1 put-from-kinds.ps ◌<◌ μ_put_from t) put-from.Pre
 
 pub +put-from-spec : {M : Type 1} → statement M
-+put-from-spec = close μ-put-from λ t. put-from-lts.spec (
++put-from-spec = close μ_put_from λ t. put-from-lts.spec (
   put-none-reads.Asked,
   put-none-reads.Learnt,
   mask-reads.Asked,
   mask-reads.Learnt,
-  put-from-below t,
+  put_from_below t,
   put-from.Post,
   put-joint-reads.Asked,
   put-joint-reads.Learnt,
   put-flag-reads.Asked,
   put-flag-reads.Learnt,
 )
-    (put-from-at t)
+    (put_from_at t)
     put-from.Post
     (λ c κs. search rules)
     (λ c. c.before.before.put-none.auto.0)
     (λ c.
     let args = c.before.before.before.before.before.before.args in
-    rw (none_left args.said args.i args.status c.before.before.before.before.if1.true) c.before.before.put-none.ensures)
+    rw (none-left args.said args.i args.status c.before.before.before.before.if1.true) c.before.before.put-none.ensures)
     (λ c. search rules)
     (λ c. omega arith)
     (λ c κs. (omega arith, tt))

@@ -1,11 +1,11 @@
 use Rattle.text.proofs.Ink.{and_then}
-use Rattle.events.specs.Meaning.{rowTable, firstLine, rowMeaning}
+use Rattle.events.specs.Meaning.{row_table, first_line, row_meaning}
 use borrow.Author.Rules.{rules}
 use Rattle.events.proofs.row.put_delay.Statement.{statement}
 use Rattle.events.proofs.row.put_delay.Tie as tie
 
 returns : tie.Need-returns
-unfolding rowTable firstLine rowMeaning
+unfolding row_table first_line row_meaning
 returns c = and_then c.before.before.before.before.before.before.before.put-said.ensures c.before.before.put-counted.ensures
 
 pub put-delay-spec : {M : Type 1} → statement M

@@ -1,16 +1,16 @@
 use borrow.Author.Tests.{eq-eqb, ne_eqb}
 use Rattle.text.proofs.Ink.{nothing}
-use Rattle.events.specs.Meaning.{rowTable, firstLine, rowMeaning}
+use Rattle.events.specs.Meaning.{row_table, first_line, row_meaning}
 use borrow.Author.Rules.{rules}
 use Rattle.events.proofs.row.put_mask.Statement.{statement}
 use Rattle.events.proofs.row.put_mask.Tie as tie
 
 returns : tie.Need-returns
-unfolding rowTable firstLine rowMeaning
+unfolding row_table first_line row_meaning
 returns c = rw (eq-eqb _ _ c.before.before.before.before.before.if1.true) c.before.before.put-said.ensures
 
 returns-2 : tie.Need-returns-2
-unfolding rowTable firstLine rowMeaning
+unfolding row_table first_line row_meaning
 returns-2 c = rw (ne_eqb _ _ c.before.if1.false) (nothing c.least.ensures)
 
 pub put-mask-spec : {M : Type 1} → statement M

@@ -3,12 +3,12 @@ use lib.ListN.{length}
 use mathlib.Core.List.{[]}
 use borrow.Author.Rules.{rules}
 use Rattle.types.specs.Words.{words_of}
-use Rattle.tape.specs.Layout.{rowsIn}
+use Rattle.tape.specs.Layout.{rows_in}
 use Rattle.tape.proofs.Layouts.{rows_long}
-use Rattle.host.specs.Calls.{calledOf}
+use Rattle.host.specs.Calls.{called_of}
 use Rattle.underway.specs.Under.{under}
-use Rattle.feed.specs.Runs.{nextSpan}
-use Rattle.feed.specs.Turns.{lent, way_of, fedFrom, placeFrom}
+use Rattle.feed.specs.Runs.{next_span}
+use Rattle.feed.specs.Turns.{lent, way_of, fed_from, place_from}
 use Rattle.feed.specs.declared.feed.Fed.{Fed}
 use Rattle.feed.specs.declared.turn.Feeding.{Feeding}
 use Rattle.feed.proofs.Fed as F
@@ -16,10 +16,10 @@ use Rattle.feed.proofs.feed.feed.Statement.{statement}
 use Rattle.feed.proofs.feed.feed.Tie as tie
 
 abbrev invariant-loop : tie.invariant-loop
-invariant-loop script «data» rows₀ feeding₀ rows feeding = F.On script (words_of «data») (way_of (lent (words_of «data») []) feeding₀) (rowsIn rows₀) feeding (rowsIn rows)
+invariant-loop script «data» rows₀ feeding₀ rows feeding = F.On script (words_of «data») (way_of (lent (words_of «data») []) feeding₀) (rows_in rows₀) feeding (rows_in rows)
 
 abbrev decreases-loop : tie.decreases-loop
-decreases-loop script «data» rows₀ feeding₀ rows feeding = nextSpan script (under (lent (words_of «data») []) feeding.call).ahead feeding.used
+decreases-loop script «data» rows₀ feeding₀ rows feeding = next_span script (under (lent (words_of «data») []) feeding.call).ahead feeding.used
 
 loop-holds : tie.Need-loop-init invariant-loop decreases-loop
 loop-holds c = F.begun _ _ _ _
@@ -32,15 +32,15 @@ returns c =
     let begin = there.before.before.before.before.before.before.begin in
     let s = there.before.before.before.before.before.before.before.before.before.before.args.script in
     let g = lent (words_of there.before.before.before.before.before.before.before.before.before.before.args.«data».now) [] in
-    let l = rowsIn there.before.before.before.before.before.before.before.before.before.before.args.rows.now in
-    let none = F.turned-false _ c.before.if1.true in
+    let l = rows_in there.before.before.before.before.before.before.before.before.before.before.args.rows.now in
+    let none = F.turned_false _ c.before.if1.true in
     let x =
-    F.ends_there _ loop.invariant turn.result _ turn.ensures (sym c.before.before.goes_on.ensures ∙ none) _
+    F.ends_there _ loop.invariant turn.result _ turn.ensures (sym c.before.before.goes-on.ensures ∙ none) _
     (λ g. ap (λ (r : Fed). r.called) (c.ended.ensures g)) in (
-      x.0 ∙ ap (λ (f : Feeding). calledOf (fedFrom s.now (way_of g f) l)) begin.ensures,
+      x.0 ∙ ap (λ (f : Feeding). called_of (fed_from s.now (way_of g f) l)) begin.ensures,
       (
-        x.1 ∙ ap (λ (f : Feeding). (fedFrom s.now (way_of g f) l).list) begin.ensures,
-        ap (λ (r : Fed). r.place) (c.ended.ensures g) ∙ x.2 ∙ ap (λ (f : Feeding). placeFrom s.now (way_of g f) l) begin.ensures,
+        x.1 ∙ ap (λ (f : Feeding). (fed_from s.now (way_of g f) l).list) begin.ensures,
+        ap (λ (r : Fed). r.place) (c.ended.ensures g) ∙ x.2 ∙ ap (λ (f : Feeding). place_from s.now (way_of g f) l) begin.ensures,
       ),
     )
 
@@ -49,14 +49,14 @@ loop-less c =
     let there = c.before.before in
     let turn = there.before.before.before.turn in
     let loop = there.before.before.before.before.before.loop in
-    F.goes-less _ loop.invariant turn.result _ turn.ensures (sym c.before.goes_on.ensures ∙ F.turned-true _ c.if1.false)
+    F.goes-less _ loop.invariant turn.result _ turn.ensures (sym c.before.goes-on.ensures ∙ F.turned_true _ c.if1.false)
 
 loop-again : tie.Need-loop-preserved invariant-loop decreases-loop
 loop-again c =
     let there = c.before.before in
     let turn = there.before.before.before.turn in
     let loop = there.before.before.before.before.before.loop in
-    F.goes_on _ loop.invariant turn.result _ turn.ensures (sym c.before.goes_on.ensures ∙ F.turned-true _ c.if1.false)
+    F.goes-on _ loop.invariant turn.result _ turn.ensures (sym c.before.goes-on.ensures ∙ F.turned_true _ c.if1.false)
 
 same_length : tie.Need-same-length invariant-loop decreases-loop
 same_length c =

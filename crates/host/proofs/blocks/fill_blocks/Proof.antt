@@ -3,14 +3,14 @@ use mathlib.Core.Path.{◌≡◌, refl}
 use native.Mathlib.Omega.{arith}
 use lib.ListN.{length}
 use Rattle.types.specs.Words.{bytes_of}
-use Rattle.host.specs.Calls.{blocksFilled}
-use Rattle.host.proofs.Laying.{laidBlocks, next-block}
+use Rattle.host.specs.Calls.{blocks_filled}
+use Rattle.host.proofs.Laying.{laid_blocks, next-block}
 use borrow.Author.Rules.{rules}
 use Rattle.host.proofs.blocks.fill_blocks.Statement.{statement}
 use Rattle.host.proofs.blocks.fill_blocks.Tie as tie
 
 abbrev invariant-loop : tie.invariant-loop
-invariant-loop buffer₀ words n k₀ buffer k = (buffer ≡ laidBlocks words buffer₀ k) × (k ≤ n) × (length buffer ≡ length buffer₀)
+invariant-loop buffer₀ words n k₀ buffer k = (buffer ≡ laid_blocks words buffer₀ k) × (k ≤ n) × (length buffer ≡ length buffer₀)
 
 abbrev decreases-loop : tie.decreases-loop
 decreases-loop buffer₀ words n k₀ buffer k = n - k
@@ -41,7 +41,7 @@ loop-again c =
     )
 
 returns : tie.Need-returns invariant-loop decreases-loop
-unfolding blocksFilled
+unfolding blocks_filled
 returns c =
     let done : c.before.loop.k ≡ c.before.before.lesser.result = omega arith in
     rw (c.before.loop.invariant.0, done, c.before.before.lesser.ensures)

@@ -1,11 +1,11 @@
-use Rattle.init.specs.Initialise.{cardVersion}
+use Rattle.init.specs.Initialise.{card_version}
 use Rattle.tape.proofs.Laws.{handled, from-stopped}
 use borrow.Author.Rules.{rules}
 use Rattle.init.proofs.begin.card_version.Statement.{statement}
 use Rattle.init.proofs.begin.card_version.Tie as tie
 
 returns : tie.Need-returns
-unfolding cardVersion
+unfolding card_version
 returns c =
     let sent = c.before.before.before in
     handled _ _ sent.before.before.enum_told.given.1 sent.send.ensures (c.judge-version.ensures _ _)

@@ -1,7 +1,7 @@
 use mathlib.Core.Path.{ap, sym, refl, ◌∙◌}
 use Rattle.tape.specs.declared.progress.Pace.TheVariants.{Stopped}
 use Rattle.init.specs.Initialise.{late}
-use Rattle.tape.proofs.Laws.{stay, from-going, on-true, on-false, settled-value, settled-refusal, settled-full}
+use Rattle.tape.proofs.Laws.{stay, from-going, on_true, on_false, settled-value, settled-refusal, settled-full}
 use Rattle.tape.specs.Plan.{failed, ended}
 use Rattle.tape.specs.Run.{run}
 use borrow.Author.Rules.{rules}
@@ -17,14 +17,14 @@ returns-2 c =
     let test = c.before in
     let halt = test.before.before.before in
     λ s l. settled-refusal (failed _) (halt.before.before.before.pace.given.1 ∙ ap Stopped halt.halt.given.1)
-    (on-true _ (sym test.before.timed-out.ensures ∙ test.if1.true) (rw c.resumed.ensures stay))
+    (on_true _ (sym test.before.timed-out.ensures ∙ test.if1.true) (rw c.resumed.ensures stay))
 
 returns-3 : tie.Need-returns-3
 unfolding late run
 returns-3 c =
     let halt = c.before.before.before in
     let why = halt.before.before.before.pace.given.1 ∙ ap Stopped halt.halt.given.1 in
-    λ s l. settled-refusal (failed _) why (on-false _ (sym c.before.timed-out.ensures ∙ c.if1.false) (from-going refl (rw (← why))))
+    λ s l. settled-refusal (failed _) why (on_false _ (sym c.before.timed-out.ensures ∙ c.if1.false) (from-going refl (rw (← why))))
 
 returns-4 : tie.Need-returns-4
 unfolding late run

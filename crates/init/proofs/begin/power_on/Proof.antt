@@ -1,4 +1,4 @@
-use Rattle.init.specs.Initialise.{powerOn}
+use Rattle.init.specs.Initialise.{power_on}
 use Rattle.tape.proofs.Laws.{seq}
 use borrow.Author.Rules.{rules}
 use Rattle.init.proofs.begin.power_on.Statement.{statement}
@@ -8,7 +8,7 @@ same_length : tie.Need-same-length
 same_length c = search (rules, c.before.rows5.given, c.before.before.before.before.before.rows4.given, c.before.before.before.before.before.before.before.before.before.rows3.given, c.before.before.before.before.before.before.before.before.before.before.before.before.before.rows2.given, c.before.before.before.before.before.before.before.before.before.before.before.before.before.before.before.before.before.rows.given)
 
 returns : tie.Need-returns
-unfolding powerOn
+unfolding power_on
 returns c =
     let clken = c.before.before.before.before.before.before in
     let power = clken.before.before.before.before in

@@ -7,7 +7,7 @@ use types.Run.{OneOf, miss}
 use Rattle.types.specs.declared.error.Error.{Error}
 use Rattle.types.specs.declared.error.Error.TheVariants as E
 use Rattle.types.specs.contracts.error.Error as Error-row
-use Rattle.init.specs.Initialise.{timedOut}
+use Rattle.init.specs.Initialise.{timed_out}
 use borrow.Author.Rules.{rules}
 use Rattle.init.proofs.begin.timed_out.Statement.{statement}
 use Rattle.init.proofs.begin.timed_out.Tie as tie
@@ -16,8 +16,8 @@ use Rattle.init.proofs.begin.timed_out.Tie as tie
 abbrev others : List ℕ
 others = 1 ∷ 2 ∷ 3 ∷ 4 ∷ 5 ∷ 6 ∷ 7 ∷ 8 ∷ 9 ∷ 10 ∷ 11 ∷ 12 ∷ 13 ∷ 14 ∷ 15 ∷ 16 ∷ 17 ∷ 18 ∷ 19 ∷ 20 ∷ []
 
-other : (e : Error) → OneOf others (Declared.tag_of Error-row.the_type e) → false ≡ timedOut e
-unfolding timedOut
+other : (e : Error) → OneOf others (Declared.tag_of Error-row.the_type e) → false ≡ timed_out e
+unfolding timed_out
 other E.Timeout h = absurd (miss others 0 tt h)
 other E.SoftwareTimeout h = refl
 other E.Crc h = refl
@@ -41,5 +41,5 @@ other E.AddressOutOfRange h = refl
 other E.WriteProtected h = refl
 
 pub timed-out-spec : {M : Type 1} → statement M
-unfolding timedOut
+unfolding timed_out
 timed-out-spec = tie.close (tie.spec (λ c. search rules) (λ c. rw c.enum_told.given.1) (λ c. other c.before.args.e c.match.keys2))

@@ -1,4 +1,4 @@
-use Rattle.tape.specs.Steps.{resetController}
+use Rattle.tape.specs.Steps.{reset_controller}
 use Rattle.init.specs.Initialise.{initialise}
 use Rattle.tape.proofs.Laws.{guarded, settled-value, stay, from-stopped}
 use borrow.Author.Rules.{rules}
@@ -9,14 +9,14 @@ returns : tie.Need-returns
 unfolding initialise
 returns c =
     let done = c.before.before.before.before.before in
-    guarded resetController done.before.before.enum_told.given.1 done.init-card.ensures (settled-value c.enum-told2.given.1 stay)
+    guarded reset_controller done.before.before.enum_told.given.1 done.init-card.ensures (settled-value c.enum-told2.given.1 stay)
 
 returns-2 : tie.Need-returns-2
 unfolding initialise
 returns-2 c =
     let closed = c.before.before in
     let done = closed.before.before.before.before.before.before.before.before in
-    guarded resetController done.before.before.enum_told.given.1 done.init-card.ensures (closed.close.ensures _)
+    guarded reset_controller done.before.before.enum_told.given.1 done.init-card.ensures (closed.close.ensures _)
 
 returns-3 : tie.Need-returns-3
 returns-3 c = rw c.no-card.ensures (from-stopped c.before.enum-told4.given.1)

@@ -1,4 +1,4 @@
-use Rattle.init.specs.Initialise.{settleCard}
+use Rattle.init.specs.Initialise.{settle_card}
 use Rattle.tape.proofs.Laws.{seq, bind}
 use borrow.Author.Rules.{rules}
 use Rattle.init.proofs.card.settle_card.Statement.{statement}
@@ -8,7 +8,7 @@ same_length : tie.Need-same-length
 same_length c = search (rules, c.before.before.before.rows4.given, c.before.before.before.before.before.before.before.rows3.given, c.before.before.before.before.before.before.before.before.before.before.before.rows2.given, c.before.before.before.before.before.before.before.before.before.before.before.before.before.before.before.before.rows.given)
 
 returns : tie.Need-returns
-unfolding settleCard
+unfolding settle_card
 returns c =
     bind _ c.before.before.before.before.before.before.before.before.before.before.before.before.before.before.before.before.before.read-scr.ensures (seq c.before.before.before.before.before.before.before.before.before.before.before.before.set-width.ensures (seq (rw c.before.before.before.before.before.before.before.before.before.before.before.before.before.before.before.before.before.before.before.transfer-rate.ensures at c.before.before.before.before.before.before.before.before.transfer-clock.ensures)
     (seq c.before.before.before.before.switch-speed.ensures (rw (← c.before.with-scr.ensures) (c.give-card.ensures _ _)))))

@@ -1,11 +1,11 @@
-use Rattle.init.specs.Initialise.{powerUp}
+use Rattle.init.specs.Initialise.{power_up}
 use Rattle.tape.proofs.Laws.{seq, bind}
 use borrow.Author.Rules.{rules}
 use Rattle.init.proofs.identify.power_up.Statement.{statement}
 use Rattle.init.proofs.identify.power_up.Tie as tie
 
 returns : tie.Need-returns
-unfolding powerUp
+unfolding power_up
 returns c =
     let sent = c.before.before.before.before.before.before in
     let told = sent.before.before.before.before in

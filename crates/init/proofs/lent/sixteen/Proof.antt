@@ -5,30 +5,30 @@ use native.Mathlib.Nat.{zero-add}
 use native.Mathlib.Omega.{arith}
 use lib.ListN.{get_or, set, length, take, drop, drop_of_length-le, replicate}
 use lib.Seq.{take_all}
-use Rattle.types.proofs.Counted.{length-counted, getD-counted, over, over-more}
-use Rattle.init.specs.Lent.{sixteenOf}
+use Rattle.types.proofs.Counted.{length-counted, get_d_counted, over, over-more}
+use Rattle.init.specs.Lent.{sixteen_of}
 use borrow.Author.Rules.{rules}
 use Rattle.init.proofs.lent.sixteen.Statement.{statement}
 use Rattle.init.proofs.lent.sixteen.Tie as tie
 
 -- the words at each place, laid over any sixteen
 module _ (ws z : List ℕ) (sixteen : length z ≡ 16) where
-  long : length (sixteenOf ws) ≡ 16
-  unfolding sixteenOf
+  long : length (sixteen_of ws) ≡ 16
+  unfolding sixteen_of
   long = length-counted _ 0 16
 
-  step : (i v : ℕ) → i < 16 → v ≡ get_or ws i 0 → set (over (sixteenOf ws) z i) i v ≡ over (sixteenOf ws) z (i + 1)
-  unfolding sixteenOf
+  step : (i v : ℕ) → i < 16 → v ≡ get_or ws i 0 → set (over (sixteen_of ws) z i) i v ≡ over (sixteen_of ws) z (i + 1)
+  unfolding sixteen_of
   step i v h e =
       let at : ℕ → ℕ = λ n. get_or ws n 0 in
-      let value : v ≡ get_or (sixteenOf ws) i 0 = e ∙ ap at (sym (zero-add i)) ∙ sym (getD-counted at 0 16 i 0 h) in
-      ap (λ (w : ℕ). set (over (sixteenOf ws) z i) i w) value ∙ over-more (sixteenOf ws) z i (omega (arith, long)) (omega arith)
+      let value : v ≡ get_or (sixteen_of ws) i 0 = e ∙ ap at (sym (zero-add i)) ∙ sym (get_d_counted at 0 16 i 0 h) in
+      ap (λ (w : ℕ). set (over (sixteen_of ws) z i) i w) value ∙ over-more (sixteen_of ws) z i (omega (arith, long)) (omega arith)
 
-  all : over (sixteenOf ws) z 16 ≡ sixteenOf ws
-  all = ap (λ (l : List ℕ). l ++ drop 16 z) (take_all 16 (sixteenOf ws) (omega (arith, long))) ∙ ap (λ (l : List ℕ). sixteenOf ws ++ l) (drop_of_length-le z {i = 16} (omega arith)) ∙ append-nil (sixteenOf ws)
+  all : over (sixteen_of ws) z 16 ≡ sixteen_of ws
+  all = ap (λ (l : List ℕ). l ++ drop 16 z) (take_all 16 (sixteen_of ws) (omega (arith, long))) ∙ ap (λ (l : List ℕ). sixteen_of ws ++ l) (drop_of_length-le z {i = 16} (omega arith)) ∙ append-nil (sixteen_of ws)
 
 abbrev invariant-loop : tie.invariant-loop
-invariant-loop script place count words₀ i₀ words i = (words ≡ over (sixteenOf (take count (drop place script))) words₀ i) × (i ≤ 16)
+invariant-loop script place count words₀ i₀ words i = (words ≡ over (sixteen_of (take count (drop place script))) words₀ i) × (i ≤ 16)
 
 abbrev decreases-loop : tie.decreases-loop
 decreases-loop script place count words₀ i₀ words i = 16 - i

@@ -1,11 +1,11 @@
-use Rattle.init.specs.Initialise.{setClock}
+use Rattle.init.specs.Initialise.{set_clock}
 use Rattle.tape.proofs.Laws.{seq, bind}
 use borrow.Author.Rules.{rules}
 use Rattle.init.proofs.speed.set_clock.Statement.{statement}
 use Rattle.init.proofs.speed.set_clock.Tie as tie
 
 returns : tie.Need-returns
-unfolding setClock
+unfolding set_clock
 returns c = bind _ (c.before.before.before.before.before.before.before.before.find-clock.ensures _ _) (seq c.before.before.before.before.configure-clock.ensures (seq (c.before.hold-clock.ensures _ _) (c.hold-gated.ensures _ _)))
 
 pub set-clock-spec : {M : Type 1} → statement M

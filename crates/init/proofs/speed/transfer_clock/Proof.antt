@@ -1,11 +1,11 @@
-use Rattle.init.specs.Initialise.{transferClock}
+use Rattle.init.specs.Initialise.{transfer_clock}
 use Rattle.tape.proofs.Laws.{bind}
 use borrow.Author.Rules.{rules}
 use Rattle.init.proofs.speed.transfer_clock.Statement.{statement}
 use Rattle.init.proofs.speed.transfer_clock.Tie as tie
 
 returns : tie.Need-returns
-unfolding transferClock
+unfolding transfer_clock
 returns c =
     let asked = c.before.before.before.before in
     bind _ (asked.before.find-rate.ensures _ _) (rw (asked.lesser2.ensures, asked.before.before.lesser.ensures) at c.before.before.set-clock.ensures)

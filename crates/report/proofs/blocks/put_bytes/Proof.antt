@@ -2,8 +2,8 @@ use Prim.Native.Nat.{◌*◌, ◌-◌, ◌≤◌}
 use mathlib.Core.Path.{◌≡◌}
 use native.Mathlib.Omega.{arith}
 use Rattle.text.specs.Ink.{Laid}
-use Rattle.text.proofs.Ink.{ink-length, nothing}
-use Rattle.report.specs.Report.{bytesText}
+use Rattle.text.proofs.Ink.{ink_length, nothing}
+use Rattle.report.specs.Report.{bytes_text}
 use Rattle.report.proofs.Lines.{bytes-none, byte_more}
 use borrow.Author.Rules.{rules}
 use Rattle.report.proofs.blocks.put_bytes.Statement.{statement}
@@ -11,7 +11,7 @@ use Rattle.report.proofs.blocks.put_bytes.Tie as tie
 
 -- the first k bytes are laid in
 abbrev invariant-loop : tie.invariant-loop
-invariant-loop out₀ at buffer i place₀ k₀ out place k = Laid at (bytesText k (512 * i) buffer) out₀ place out × (k ≤ 512)
+invariant-loop out₀ at buffer i place₀ k₀ out place k = Laid at (bytes_text k (512 * i) buffer) out₀ place out × (k ≤ 512)
 
 abbrev decreases-loop : tie.decreases-loop
 decreases-loop out₀ at buffer i place₀ k₀ out place k = 512 - k
@@ -26,7 +26,7 @@ loop-again c =
     (byte_more (512 * args.i) args.buffer.now c.before.before.before.before.before.before.loop.k c.before.before.before.before.before.before.loop.invariant.0 byte, omega arith)
 
 same_length : tie.Need-same-length invariant-loop decreases-loop
-same_length c = rw c.before.loop.invariant.0.laid (ink-length _ _ _)
+same_length c = rw c.before.loop.invariant.0.laid (ink_length _ _ _)
 
 returns : tie.Need-returns invariant-loop decreases-loop
 returns c =

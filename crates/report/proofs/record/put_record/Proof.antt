@@ -1,11 +1,11 @@
 use Rattle.text.proofs.Ink.{and_then}
-use Rattle.report.specs.Report.{recordText}
+use Rattle.report.specs.Report.{record_text}
 use borrow.Author.Rules.{rules}
 use Rattle.report.proofs.record.put_record.Statement.{statement}
 use Rattle.report.proofs.record.put_record.Tie as tie
 
 returns : tie.Need-returns
-unfolding recordText
+unfolding record_text
 returns c =
     let protect = c.before.before in
     let contents = protect.before.before.before.before.before.before in

@@ -1,6 +1,6 @@
 use mathlib.Core.Path.{◌≡◌, sym, ◌∙◌}
 use borrow.Author.Tests.{eq-eqb, ne_eqb}
-use Rattle.types.specs.Answer.{answerTold}
+use Rattle.types.specs.Answer.{answer_told}
 use Rattle.text.proofs.Ink.{and_then, nothing}
 use borrow.Author.Rules.{rules}
 use Rattle.report.proofs.rows.put_carried.Statement.{statement}
@@ -8,7 +8,7 @@ use Rattle.report.proofs.rows.put_carried.Tie as tie
 
 returns : tie.Need-returns
 returns c =
-    let ten : (answerTold c.before.before.before.before.before.before.before.before.before.before.before.before.before.before.before.before.before.args.answer).number ≡ 10 = sym c.before.before.before.before.before.before.before.before.before.before.before.before.before.before.before.number.ensures ∙ c.before.before.before.before.before.before.before.before.before.before.before.before.before.before.if1.true in
+    let ten : (answer_told c.before.before.before.before.before.before.before.before.before.before.before.before.before.before.before.before.before.args.answer).number ≡ 10 = sym c.before.before.before.before.before.before.before.before.before.before.before.before.before.before.before.number.ensures ∙ c.before.before.before.before.before.before.before.before.before.before.before.before.before.before.if1.true in
     let word = rw c.before.before.before.before.before.before.before.word.ensures at c.before.before.before.before.before.before.put-hex.ensures in
     simp (eq-eqb _ _ ten) (and_then (and_then c.before.before.before.before.before.before.before.before.before.before.before.put.ensures word) c.before.before.put_byte.ensures)
 

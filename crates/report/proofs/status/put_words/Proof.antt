@@ -3,8 +3,8 @@ use mathlib.Core.Path.{◌≡◌}
 use mathlib.Core.List.{List}
 use native.Mathlib.Omega.{arith}
 use Rattle.text.specs.Ink.{Laid}
-use Rattle.text.proofs.Ink.{ink-length, and_then}
-use Rattle.report.specs.Report.{wordsText}
+use Rattle.text.proofs.Ink.{ink_length, and_then}
+use Rattle.report.specs.Report.{words_text}
 use Rattle.report.proofs.Lines.{words-one, word_more}
 use borrow.Author.Rules.{rules}
 use Rattle.report.proofs.status.put_words.Statement.{statement}
@@ -12,7 +12,7 @@ use Rattle.report.proofs.status.put_words.Tie as tie
 
 -- the words up to word i are laid in, once word 0 is
 abbrev invariant-loop : tie.invariant-loop
-invariant-loop out₀ at words place₀ i₀ out place i = ((first : List ℕ) → Laid at (wordsText 0 words) first place₀ out₀ → Laid at (wordsText i words) first place out) × (i ≤ 15)
+invariant-loop out₀ at words place₀ i₀ out place i = ((first : List ℕ) → Laid at (words_text 0 words) first place₀ out₀ → Laid at (words_text i words) first place out) × (i ≤ 15)
 
 abbrev decreases-loop : tie.decreases-loop
 decreases-loop out₀ at words place₀ i₀ out place i = 15 - i
@@ -29,7 +29,7 @@ loop-again c =
 same_length : tie.Need-same-length invariant-loop decreases-loop
 same_length c =
     let start = rw (c.before.before.before.before.before.word.ensures, ← words-one c.before.before.before.before.before.before.before.before.before.args.words.now) at c.before.before.before.before.put-hex.ensures in
-    rw (c.before.loop.invariant.0 c.before.before.before.before.before.before.before.before.before.args.out.now start).laid (ink-length _ _ _)
+    rw (c.before.loop.invariant.0 c.before.before.before.before.before.before.before.before.before.args.out.now start).laid (ink_length _ _ _)
 
 returns : tie.Need-returns invariant-loop decreases-loop
 returns c =

@@ -1,18 +1,18 @@
 use native.Mathlib.Omega.{arith}
-use Rattle.step.specs.Transfer.{blocksOf}
+use Rattle.step.specs.Transfer.{blocks_of}
 use Rattle.step.proofs.phase.blocks.Statement.{statement}
 use Rattle.step.proofs.phase.blocks.Tie as tie
 
 returns : tie.Need-returns
-unfolding blocksOf
+unfolding blocks_of
 returns c = omega arith
 
 returns-2 : tie.Need-returns-2
-unfolding blocksOf
+unfolding blocks_of
 returns-2 c = omega arith
 
 returns-3 : tie.Need-returns-3
-unfolding blocksOf
+unfolding blocks_of
 returns-3 c = omega arith
 
 pub blocks-spec : {M : Type 1} → statement M

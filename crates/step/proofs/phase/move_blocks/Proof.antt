@@ -1,12 +1,12 @@
 use native.Mathlib.Omega.{arith}
 use borrow.Author.Tests.{ne_eqb}
-use Rattle.step.specs.Transfer.{blocksOf}
+use Rattle.step.specs.Transfer.{blocks_of}
 use borrow.Author.Rules.{rules}
 use Rattle.step.proofs.phase.move_blocks.Statement.{statement}
 use Rattle.step.proofs.phase.move_blocks.Tie as tie
 
 mul-t8 : tie.Need-overflow-mul-t8
-unfolding blocksOf
+unfolding blocks_of
 mul-t8 c = omega (arith, c.before.blocks2.ensures)
 
 returns : tie.Need-returns

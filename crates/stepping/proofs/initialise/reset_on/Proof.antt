@@ -1,14 +1,14 @@
-use Rattle.stepping.specs.Ahead.{resetOn}
+use Rattle.stepping.specs.Ahead.{reset_on}
 use borrow.Author.Rules.{rules}
 use Rattle.stepping.proofs.initialise.reset_on.Statement.{statement}
 use Rattle.stepping.proofs.initialise.reset_on.Tie as tie
 
 returns : tie.Need-returns
-unfolding resetOn
+unfolding reset_on
 returns c = rw c.before.step.given.1
 
 returns-2 : tie.Need-returns-2
-unfolding resetOn
+unfolding reset_on
 returns-2 c = rw c.enum_told.given.1
 
 pub reset-on-spec : {M : Type 1} → statement M

@@ -6,19 +6,19 @@ use native.Mathlib.Omega.{arith}
 use lib.ListN.{length}
 use borrow.Author.Rules.{rules}
 use borrow.Author.Tests.{le-ltb, lt-ltb}
-use Rattle.tape.specs.Layout.{rowsIn, tooShort}
+use Rattle.tape.specs.Layout.{rows_in, too_short}
 use Rattle.tape.proofs.Layouts.{rows_long}
 use Rattle.tape.proofs.pairs.convert.Statement.{statement}
 use Rattle.tape.proofs.pairs.convert.Tie as tie
 
 module _ (n : ℕ) (ws t : List ℕ) where
-  no_rows : length ws < n → tooShort n (rowsIn ws) t ≡ true
+  no_rows : length ws < n → too_short n (rows_in ws) t ≡ true
   no_rows few = rw (rows_long ws, lt-ltb (length ws) n few)
 
-  no_words : n ≤ length ws → length t / 2 < n → tooShort n (rowsIn ws) t ≡ true
+  no_words : n ≤ length ws → length t / 2 < n → too_short n (rows_in ws) t ≡ true
   no_words many h = rw (rows_long ws, le-ltb (length ws) n many, lt-ltb (length t) (2 * n) (omega arith))
 
-  enough : n ≤ length ws → n ≤ length t / 2 → tooShort n (rowsIn ws) t ≡ false
+  enough : n ≤ length ws → n ≤ length t / 2 → too_short n (rows_in ws) t ≡ false
   enough many h = rw (rows_long ws, le-ltb (length ws) n many, le-ltb (length t) (2 * n) (omega arith))
 
 returns : tie.Need-returns

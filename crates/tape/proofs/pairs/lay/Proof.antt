@@ -2,14 +2,14 @@ use Prim.Native.Nat.{◌-◌, ◌≤◌}
 use mathlib.Core.Path.{◌≡◌, refl}
 use native.Mathlib.Omega.{arith}
 use lib.ListN.{length, length-set}
-use Rattle.tape.specs.Layout.{rowsIn, pairsOver}
+use Rattle.tape.specs.Layout.{rows_in, pairs_over}
 use Rattle.tape.proofs.Converts.{none_over, one-over}
 use borrow.Author.Rules.{rules}
 use Rattle.tape.proofs.pairs.lay.Statement.{statement}
 use Rattle.tape.proofs.pairs.lay.Tie as tie
 
 abbrev invariant-loop : tie.invariant-loop
-invariant-loop rows count target₀ k₀ target k = (target ≡ pairsOver k (rowsIn rows) target₀) × (k ≤ count) × (length target ≡ length target₀)
+invariant-loop rows count target₀ k₀ target k = (target ≡ pairs_over k (rows_in rows) target₀) × (k ≤ count) × (length target ≡ length target₀)
 
 abbrev decreases-loop : tie.decreases-loop
 decreases-loop rows count target₀ k₀ target k = count - k

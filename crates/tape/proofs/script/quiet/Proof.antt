@@ -5,7 +5,7 @@ use native.Mathlib.Omega.{arith}
 use lib.ListN.{length}
 use borrow.Author.Tests.{eq-eqb, ne_eqb}
 use Rattle.types.specs.Bits.{clear}
-use Rattle.tape.proofs.Polls.{Led, none-led, one-led, led-to, all-led}
+use Rattle.tape.proofs.Polls.{Led, none_led, one_led, led_to, all_led}
 use borrow.Author.Rules.{rules}
 use Rattle.tape.proofs.script.quiet.Statement.{statement}
 use Rattle.tape.proofs.script.quiet.Tie as tie
@@ -17,7 +17,7 @@ abbrev decreases-loop : tie.decreases-loop
 decreases-loop words limit done wrong n i₀ i = n - i
 
 loop-holds : tie.Need-loop-init invariant-loop decreases-loop
-loop-holds c = (none-led, c.most.ensures)
+loop-holds c = (none_led, c.most.ensures)
 
 -- the place lies in the words
 there : tie.Need-shared-slice-read-word invariant-loop decreases-loop
@@ -26,20 +26,20 @@ there c = omega (arith, c.before.before.loop.invariant.1, c.before.loop-test.tru
 returns : tie.Need-returns invariant-loop decreases-loop
 returns c =
     let loop = c.before.before.before in
-    led-to loop.loop.invariant.0 (omega (arith, loop.loop.invariant.1, c.before.before.loop-test.true)) (rw (ne_eqb _ 0 c.if1.true))
+    led_to loop.loop.invariant.0 (omega (arith, loop.loop.invariant.1, c.before.before.loop-test.true)) (rw (ne_eqb _ 0 c.if1.true))
 
 returns-2 : tie.Need-returns-2 invariant-loop decreases-loop
 returns-2 c =
     let loop = c.before.before.before.before in
-    led-to loop.loop.invariant.0 (omega (arith, loop.loop.invariant.1, c.before.before.before.loop-test.true)) (rw (eq-eqb _ 0 c.before.if1.false, ne_eqb _ 0 c.if2.true))
+    led_to loop.loop.invariant.0 (omega (arith, loop.loop.invariant.1, c.before.before.before.loop-test.true)) (rw (eq-eqb _ 0 c.before.if1.false, ne_eqb _ 0 c.if2.true))
 
 loop-again : tie.Need-loop-preserved invariant-loop decreases-loop
 loop-again c =
     let loop = c.before.before.before.before in
-    (one-led loop.loop.invariant.0 (omega (arith, loop.loop.invariant.1, c.before.before.before.loop-test.true)) (rw (eq-eqb _ 0 c.before.if1.false, eq-eqb _ 0 c.if2.false)), loop.loop.invariant.1)
+    (one_led loop.loop.invariant.0 (omega (arith, loop.loop.invariant.1, c.before.before.before.loop-test.true)) (rw (eq-eqb _ 0 c.before.if1.false, eq-eqb _ 0 c.if2.false)), loop.loop.invariant.1)
 
 returns-3 : tie.Need-returns-3 invariant-loop decreases-loop
-returns-3 c = all-led c.before.loop.invariant.0 (omega (arith, c.before.loop.invariant.1, c.loop-test.false))
+returns-3 c = all_led c.before.loop.invariant.0 (omega (arith, c.before.loop.invariant.1, c.loop-test.false))
 
 pub quiet-spec : {M : Type 1} → statement M
 quiet-spec =

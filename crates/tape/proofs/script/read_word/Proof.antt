@@ -4,7 +4,7 @@ use native.Mathlib.Omega.{arith}
 use Rattle.reader.proofs.Tells.{inside, is_word, outside}
 use Rattle.tape.specs.Run.{run}
 use Rattle.tape.specs.Steps.{word}
-use Rattle.tape.proofs.Behind.{at-used, in-used, past-used}
+use Rattle.tape.proofs.Behind.{at-used, in_used, past-used}
 use Rattle.tape.proofs.Laws.{from-going, from-stopped}
 use borrow.Author.Rules.{rules}
 use Rattle.tape.proofs.script.read_word.Statement.{statement}
@@ -40,7 +40,7 @@ returns-3 c =
     let after = going.before.before.before.before.requires.0 in
     let same = sym c.before.found.given.1 ∙ found.word.ensures in
     λ kind s l part. from-going going.enum_told.given.1
-    (rw (lt-ltb _ _ (in-used part after (inside _ _ _ same)), at-used part after, is_word _ _ _ same))
+    (rw (lt-ltb _ _ (in_used part after (inside _ _ _ same)), at-used part after, is_word _ _ _ same))
 
 pub read-word-spec : {M : Type 1} → statement M
 read-word-spec =

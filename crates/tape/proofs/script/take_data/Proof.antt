@@ -14,7 +14,7 @@ use Rattle.tape.specs.declared.progress.Pace.TheVariants.{Going, Stopped}
 use Rattle.tape.specs.declared.rows.Row.{Row}
 use Rattle.tape.specs.Plan.{give, refuse, handle}
 use Rattle.tape.specs.Run.{After, after, kept_at, next, next_at, run}
-use Rattle.tape.specs.Steps.{word, dataFrom}
+use Rattle.tape.specs.Steps.{word, data_from}
 use Rattle.tape.proofs.Behind.{left-used}
 use Rattle.tape.proofs.Laws.{run-handle, from-going, from-stopped}
 use borrow.Author.Rules.{rules}
@@ -24,14 +24,14 @@ use Rattle.tape.proofs.script.take_data.Tie as tie
 -- n words one after the other, from a call that has taken u
 module _ (s : List ℕ) where
   module _ (k n u m : ℕ) (h : Line) (l : List Row) (some : u < length s) where
-    one : run s [] (dataFrom k (suc n)) u m h l
-        ≡ next s [] (λ ws. give (get_or s u 0 ∷ ws)) refuse (run s [] (dataFrom (k + 1) n) (u + 1) m h l).value (run s [] (dataFrom (k + 1) n) (u + 1) m h l).state
-    unfolding dataFrom handle run word
-    one = rw (lt-ltb u (length s) some) (run-handle s [] [] (λ ws. give (get_or s u 0 ∷ ws)) refuse (dataFrom (k + 1) n) (u + 1) m h l)
+    one : run s [] (data_from k (suc n)) u m h l
+        ≡ next s [] (λ ws. give (get_or s u 0 ∷ ws)) refuse (run s [] (data_from (k + 1) n) (u + 1) m h l).value (run s [] (data_from (k + 1) n) (u + 1) m h l).state
+    unfolding data_from handle run word
+    one = rw (lt-ltb u (length s) some) (run-handle s [] [] (λ ws. give (get_or s u 0 ∷ ws)) refuse (data_from (k + 1) n) (u + 1) m h l)
 
   there : (k n u m : ℕ) (h : Line) (l : List Row) → n ≤ length s - u
-      → run s [] (dataFrom k n) u m h l ≡ after (take n (drop u s)) Going (u + n) m h l
-  unfolding dataFrom run next_at
+      → run s [] (data_from k n) u m h l ≡ after (take n (drop u s)) Going (u + n) m h l
+  unfolding data_from run next_at
   there k zero u m h l e = rw add-zero
   there k (suc n) u m h l e =
       let some : u < length s = omega arith in
@@ -41,14 +41,14 @@ module _ (s : List ℕ) where
       ∙ rw (sum, drop-cons s u 0 some, add-one)
 
   ended : (k n u m : ℕ) (h : Line) (l : List Row) → length s - u < n
-      → run s [] (dataFrom k n) u m h l ≡ after [] (Stopped ScriptEnded) (u + (length s - u)) m h l
-  unfolding dataFrom handle run next_at word
+      → run s [] (data_from k n) u m h l ≡ after [] (Stopped ScriptEnded) (u + (length s - u)) m h l
+  unfolding data_from handle run next_at word
   ended k zero u m h l e = absurd (omega arith)
   ended k (suc n) u m h l e = by (dec_lt u (length s)) (ended (k + 1) n (u + 1) m h l)
     where
       by : Dec (u < length s)
-          → (length s - (u + 1) < n → run s [] (dataFrom (k + 1) n) (u + 1) m h l ≡ after [] (Stopped ScriptEnded) (u + 1 + (length s - (u + 1))) m h l)
-          → run s [] (dataFrom k (suc n)) u m h l ≡ after [] (Stopped ScriptEnded) (u + (length s - u)) m h l
+          → (length s - (u + 1) < n → run s [] (data_from (k + 1) n) (u + 1) m h l ≡ after [] (Stopped ScriptEnded) (u + 1 + (length s - (u + 1))) m h l)
+          → run s [] (data_from k (suc n)) u m h l ≡ after [] (Stopped ScriptEnded) (u + (length s - u)) m h l
       by (yes some) ih =
           let all : u + 1 + (length s - (u + 1)) ≡ u + (length s - u) = omega arith in
           one k n u m h l some

@@ -3,7 +3,7 @@ use lib.ListN.{length}
 use Prim.Native.Nat.{◌-◌, ◌/◌}
 use mathlib.Core.Path.{◌≡◌, sym}
 use Rattle.types.specs.Words.{words_of}
-use Rattle.tape.specs.Layout.{rowsIn}
+use Rattle.tape.specs.Layout.{rows_in}
 use Rattle.tape.proofs.Laws.{from-going, from-stopped}
 use Rattle.tape.proofs.Layouts.{rows_long}
 use Rattle.tape.proofs.Sending.{sent-all, sent-full}
@@ -23,9 +23,9 @@ returns-2 c =
     let going = roomed.before.before in
     let a = going.before.before.before.before.before.args in
     let ws = words_of a.bytes.now in
-    let left : length (rowsIn a.rows.now) - a.p.rows ≡ roomed.room.result = rw (rows_long a.rows.now) (sym roomed.room.ensures) in
+    let left : length (rows_in a.rows.now) - a.p.rows ≡ roomed.room.result = rw (rows_long a.rows.now) (sym roomed.room.ensures) in
     λ s. from-going going.enum_told.given.1
-    (rw c.before.before.lay.ensures (rw left at (sym (sent-full s ws a.p.used a.p.line 0 (length a.bytes.now / 4) a.p.rows (rowsIn a.rows.now) (rw left (omega arith))))))
+    (rw c.before.before.lay.ensures (rw left at (sym (sent-full s ws a.p.used a.p.line 0 (length a.bytes.now / 4) a.p.rows (rows_in a.rows.now) (rw left (omega arith))))))
 
 lay-requires-2 : tie.Need-lay-requires-2
 lay-requires-2 c κs = (omega (arith, c.before.before.room.ensures), omega arith)
@@ -38,7 +38,7 @@ returns-3 c =
     let ws = words_of a.bytes.now in
     let left = rows_long a.rows.now in
     λ s. from-going going.enum_told.given.1
-    (rw c.before.before.lay2.ensures (sym (sent-all s ws a.p.used a.p.line 0 (length a.bytes.now / 4) a.p.rows (rowsIn a.rows.now) (rw left (omega (arith, roomed.room.ensures))))))
+    (rw c.before.before.lay2.ensures (sym (sent-all s ws a.p.used a.p.line 0 (length a.bytes.now / 4) a.p.rows (rows_in a.rows.now) (rw left (omega (arith, roomed.room.ensures))))))
 
 pub send-block-spec : {M : Type 1} → statement M
 send-block-spec =

@@ -5,24 +5,24 @@ use native.Mathlib.Nat.{zero-add}
 use native.Mathlib.Omega.{arith}
 use lib.ListN.{length, take, drop}
 use Rattle.types.specs.Words.{words_of}
-use Rattle.tape.specs.Layout.{rowsIn}
+use Rattle.tape.specs.Layout.{rows_in}
 use Rattle.tape.specs.Run.{at, Did}
-use Rattle.tape.specs.Steps.{sendFrom, sendWords}
+use Rattle.tape.specs.Steps.{send_from, send_words}
 use Rattle.tape.proofs.Laws.{seq, stay}
-use Rattle.tape.proofs.Sending.{sent-joined, block-did}
+use Rattle.tape.proofs.Sending.{sent-joined, block_did}
 use borrow.Author.Rules.{rules}
 use Rattle.tape.proofs.send.send_data.Statement.{statement}
 use Rattle.tape.proofs.send.send_data.Tie as tie
 
 abbrev invariant-loop : tie.invariant-loop
 invariant-loop rows₀ «data» blocks sent₀ k₀ rows sent k =
-    ((s : List ℕ) → Did s (sendWords (words_of «data») (128 * k)) (at sent₀ (rowsIn rows₀)) (at sent (rowsIn rows))) × (k ≤ blocks) × (length rows ≡ length rows₀)
+    ((s : List ℕ) → Did s (send_words (words_of «data») (128 * k)) (at sent₀ (rows_in rows₀)) (at sent (rows_in rows))) × (k ≤ blocks) × (length rows ≡ length rows₀)
 
 abbrev decreases-loop : tie.decreases-loop
 decreases-loop rows₀ «data» blocks sent₀ k₀ rows sent k = blocks - k
 
 loop-holds : tie.Need-loop-init invariant-loop decreases-loop
-unfolding sendFrom
+unfolding send_from
 loop-holds c = (λ s. stay, omega arith, refl)
 
 loop-again : tie.Need-loop-preserved invariant-loop decreases-loop
@@ -37,7 +37,7 @@ loop-again c =
     let there : 512 * k + 512 ≤ length bytes = omega arith in
     let lent : 512 * k + 512 - 512 * k ≡ 512 = omega arith in (
       λ s. rw (more, sent-joined ws 0 (128 * k) 128, zero-add (128 * k))
-          (seq (head.loop.invariant.0 s) (block-did bytes k (sent.send-block.ensures s) (ap (λ (m : ℕ). take m (drop (512 * k) bytes)) lent) there)),
+          (seq (head.loop.invariant.0 s) (block_did bytes k (sent.send-block.ensures s) (ap (λ (m : ℕ). take m (drop (512 * k) bytes)) lent) there)),
       omega arith,
       search (rules, head.loop.invariant.2),
     )

@@ -1,11 +1,11 @@
-use Rattle.tape.specs.Steps.{holdGated}
+use Rattle.tape.specs.Steps.{hold_gated}
 use Rattle.tape.proofs.Laws.{looking}
 use borrow.Author.Rules.{rules}
 use Rattle.tape.proofs.steps.hold_gated.Statement.{statement}
 use Rattle.tape.proofs.steps.hold_gated.Tie as tie
 
 returns : tie.Need-returns
-unfolding holdGated
+unfolding hold_gated
 returns c = λ s l. looking _ (c.holding.ensures s l)
 
 pub hold-gated-spec : {M : Type 1} → statement M

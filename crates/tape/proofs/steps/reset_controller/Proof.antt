@@ -1,4 +1,4 @@
-use Rattle.tape.specs.Steps.{resetController}
+use Rattle.tape.specs.Steps.{reset_controller}
 use Rattle.tape.proofs.Laws.{seq}
 use Rattle.tape.proofs.Layouts.{rows_long}
 use Rattle.tape.proofs.Room.{keeps}
@@ -9,7 +9,7 @@ use Rattle.tape.proofs.steps.reset_controller.Statement.{statement}
 use Rattle.tape.proofs.steps.reset_controller.Tie as tie
 
 returns : tie.Need-returns
-unfolding resetController
+unfolding reset_controller
 returns c =
     let icr = c.before.before in
     let dlen = icr.before.before.before.before in

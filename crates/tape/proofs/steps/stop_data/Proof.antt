@@ -1,11 +1,11 @@
-use Rattle.tape.specs.Steps.{stopData}
+use Rattle.tape.specs.Steps.{stop_data}
 use Rattle.tape.proofs.Laws.{seq}
 use borrow.Author.Rules.{rules}
 use Rattle.tape.proofs.steps.stop_data.Statement.{statement}
 use Rattle.tape.proofs.steps.stop_data.Tie as tie
 
 returns : tie.Need-returns
-unfolding stopData
+unfolding stop_data
 returns c =
     let icr = c.before.before in
     let dctrl = icr.before.before.before.before in

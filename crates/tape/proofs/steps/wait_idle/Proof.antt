@@ -13,7 +13,7 @@ use Rattle.tape.specs.declared.script.Reading.TheVariants.{Status}
 use Rattle.tape.specs.Plan.{fail}
 use Rattle.tape.specs.Run.{at, Behind, Did, Gave}
 use Rattle.tape.specs.Polls.{leading}
-use Rattle.tape.specs.Steps.{word, idleMask, waitIdle}
+use Rattle.tape.specs.Steps.{word, idle_mask, wait_idle}
 use Rattle.tape.proofs.Behind.{at_place, out-of-place}
 use Rattle.tape.proofs.Laws.{refusal, forget, from-stopped}
 use Rattle.tape.proofs.Loops.{Turned, last_turn, out-of-turns}
@@ -32,30 +32,30 @@ home true e = refl
 home false e = cc
 
 abbrev busy : Bool → ℕ → List ℕ → ℕ
-busy «data» limit rest = leading limit (λ w. not (clear (idleMask «data») w)) rest
+busy «data» limit rest = leading limit (λ w. not (clear (idle_mask «data») w)) rest
 
 -- from a call that is going, after the polls that found the controller busy
 module _ («data» : Bool) (limit : ℕ) {rest s : List ℕ} {p q : Progress} {n : ℕ} (going : p.pace ≡ Going)
     (part : Behind p.used rest s) (counted : n ≡ busy «data» limit rest) (moved : q ≡ on p n) where
-  turns : {l : List Row} → Turned s ℕ 0 (word Status) (clear (idleMask «data»)) limit n (at p l) (at q l)
-  turns = rw (moved, counted) (read-turns Status (λ w. not (clear (idleMask «data») w)) (clear (idleMask «data»)) limit going part (λ w e. away _ e))
+  turns : {l : List Row} → Turned s ℕ 0 (word Status) (clear (idle_mask «data»)) limit n (at p l) (at q l)
+  turns = rw (moved, counted) (read-turns Status (λ w. not (clear (idle_mask «data») w)) (clear (idle_mask «data»)) limit going part (λ w e. away _ e))
 
   -- the next word finds it idle
-  idle : n < limit → q.used < length s → clear (idleMask «data») (get_or s q.used 0) ≡ true
+  idle : n < limit → q.used < length s → clear (idle_mask «data») (get_or s q.used 0) ≡ true
   idle more there =
-      let first = leads-to (λ w. not (clear (idleMask «data») w)) limit rest (omega (arith, counted, more, out-of-place part n (rw moved at there))) in
+      let first = leads-to (λ w. not (clear (idle_mask «data») w)) limit rest (omega (arith, counted, more, out-of-place part n (rw moved at there))) in
       rw (moved, at_place part n) (home _ (rw (← counted) at first))
 
-  found : {v : ℕ} {l : List Row} {r : Progress} → n < limit → Gave s ℕ 0 (word Status) (at q l) v (at r l) → Did s (waitIdle limit «data») (at p l) (at r l)
-  unfolding waitIdle
-  found more e = forget (last_turn turns more e (read-over Status (clear (idleMask «data»)) (rw moved going) (idle more) e))
+  found : {v : ℕ} {l : List Row} {r : Progress} → n < limit → Gave s ℕ 0 (word Status) (at q l) v (at r l) → Did s (wait_idle limit «data») (at p l) (at r l)
+  unfolding wait_idle
+  found more e = forget (last_turn turns more e (read-over Status (clear (idle_mask «data»)) (rw moved going) (idle more) e))
 
-  spent : {l : List Row} {r : Progress} → limit ≤ n → Did s (fail SoftwareTimeout) (at q l) (at r l) → Did s (waitIdle limit «data») (at p l) (at r l)
-  unfolding waitIdle
+  spent : {l : List Row} {r : Progress} → limit ≤ n → Did s (fail SoftwareTimeout) (at q l) (at r l) → Did s (wait_idle limit «data») (at p l) (at r l)
+  unfolding wait_idle
   spent out e = forget (out-of-turns turns out (refusal e))
 
 returns : tie.Need-returns
-unfolding waitIdle
+unfolding wait_idle
 returns c = λ s l part. from-stopped c.enum-told2.given.1
 
 moved-requires : tie.Need-moved-requires

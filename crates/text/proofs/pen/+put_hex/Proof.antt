@@ -2,8 +2,8 @@
 use Prim.Native.Nat.{ℕ, ◌<◌}
 use mathlib.Core.Path.{◌∙◌}
 use native.Mathlib.Omega.{arith}
-use Rattle.text.proofs.Ink.{ink-nil, next-nil, and_then}
-use Rattle.text.proofs.Hex.{hex-none, hex-more}
+use Rattle.text.proofs.Ink.{ink_nil, next_nil, and_then}
+use Rattle.text.proofs.Hex.{hex_none, hex_more}
 use borrow.Author.Rules.{rules}
 use borrow.Fn.Kinds.{In}
 use borrow.Fn.PlainCycle.{Measures, is, falls, and}
@@ -16,32 +16,32 @@ use Rattle.text.proofs.pen.put_byte.Reads as put-byte-reads
 use Rattle.text.proofs.pen.+put_hex.{statement}
 use Rattle.text.proofs.pen.+put_hex.Tie.{close}
 
-abbrev μ-put-hex : Measures 1 put-hex-kinds.ps ℕ
-μ-put-hex κs a = a.1.1.0
+abbrev μ_put_hex : Measures 1 put-hex-kinds.ps ℕ
+μ_put_hex κs a = a.1.1.0
 
-abbrev put-hex-at : ℕ → In 1 put-hex-kinds.ps
-put-hex-at t = and 1 put-hex-kinds.ps (is 1 put-hex-kinds.ps μ-put-hex t) put-hex.Pre
+abbrev put_hex_at : ℕ → In 1 put-hex-kinds.ps
+put_hex_at t = and 1 put-hex-kinds.ps (is 1 put-hex-kinds.ps μ_put_hex t) put-hex.Pre
 
-abbrev put-hex-below : ℕ → In 1 put-hex-kinds.ps
-put-hex-below t = and 1 put-hex-kinds.ps (falls 1 put-hex-kinds.ps ◌<◌ μ-put-hex t) put-hex.Pre
+abbrev put_hex_below : ℕ → In 1 put-hex-kinds.ps
+put_hex_below t = and 1 put-hex-kinds.ps (falls 1 put-hex-kinds.ps ◌<◌ μ_put_hex t) put-hex.Pre
 
 pub +put-hex-spec : {M : Type 1} → statement M
-+put-hex-spec = close μ-put-hex λ t. put-hex-lts.spec (
++put-hex-spec = close μ_put_hex λ t. put-hex-lts.spec (
   least-reads.Asked,
   least-reads.Learnt,
-  put-hex-below t,
+  put_hex_below t,
   put-hex.Post,
   hex-digit-reads.Asked,
   hex-digit-reads.Learnt,
   put-byte-reads.Asked,
   put-byte-reads.Learnt,
 )
-    (put-hex-at t)
+    (put_hex_at t)
     put-hex.Post
     (λ c κs. search rules)
     (λ c.
-    let none = hex-none c.before.before.before.args.digits c.before.before.before.args.n (omega arith) in
-    rw none (record { placed = rw next-nil c.least.ensures; laid = rw ink-nil }))
+    let none = hex_none c.before.before.before.args.digits c.before.before.before.args.n (omega arith) in
+    rw none (record { placed = rw next_nil c.least.ensures; laid = rw ink_nil }))
     (λ c. omega arith)
     (λ c κs. (omega arith, tt))
     (λ c. search rules)
@@ -51,6 +51,6 @@ pub +put-hex-spec : {M : Type 1} → statement M
     (λ c.
     let called = c.before.before.before.before.before.before.before in
     let args = called.before.before.before.before.args in
-    let more = hex-more args.digits args.n (omega arith) in
+    let more = hex_more args.digits args.n (omega arith) in
     let digit = c.before.before.before.hex-digit.ensures in
     rw (more, ← digit) (and_then called.put-hex.ensures c.before.before.put_byte.ensures))

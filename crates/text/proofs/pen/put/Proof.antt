@@ -4,7 +4,7 @@ use native.Mathlib.Omega.{arith}
 use lib.ListN.{length, take}
 use lib.Seq.{take_all}
 use Rattle.text.specs.Ink.{next, Laid}
-use Rattle.text.proofs.Ink.{ink-length, ink-nil, take_more, and_then}
+use Rattle.text.proofs.Ink.{ink_length, ink_nil, take_more, and_then}
 use borrow.Author.Rules.{rules}
 use Rattle.text.proofs.pen.put.Statement.{statement}
 use Rattle.text.proofs.pen.put.Tie as tie
@@ -18,7 +18,7 @@ decreases-loop buffer₀ at text place₀ i₀ buffer place i = length text - i
 
 loop-holds : tie.Need-loop-init invariant-loop decreases-loop
 unfolding next
-loop-holds c = (record { placed = omega (arith, c.least.ensures); laid = sym (ink-nil _ _) }, omega arith)
+loop-holds c = (record { placed = omega (arith, c.least.ensures); laid = sym (ink_nil _ _) }, omega arith)
 
 loop-again : tie.Need-loop-preserved invariant-loop decreases-loop
 loop-again c =
@@ -27,7 +27,7 @@ loop-again c =
     (rw (take_more text head.loop.i (omega arith)) at (and_then head.loop.invariant.0 c.before.before.put_byte.ensures), omega arith)
 
 same_length : tie.Need-same-length invariant-loop decreases-loop
-same_length c = rw c.before.loop.invariant.0.laid (ink-length _ _ _)
+same_length c = rw c.before.loop.invariant.0.laid (ink_length _ _ _)
 
 returns : tie.Need-returns invariant-loop decreases-loop
 returns c = rw (take_all c.before.loop.i c.before.before.before.before.before.args.text.now (omega arith)) at c.before.loop.invariant.0

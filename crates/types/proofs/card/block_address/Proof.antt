@@ -1,5 +1,5 @@
 use borrow.Author.Tests.{eq-eqb, ne_eqb, lt-ltb, le-ltb}
-use Rattle.types.specs.Leaf.{address_of, unitsOf}
+use Rattle.types.specs.Leaf.{address_of, units_of}
 use borrow.Author.Rules.{rules}
 use Rattle.types.proofs.card.block_address.Statement.{statement}
 use Rattle.types.proofs.card.block_address.Tie as tie
@@ -24,7 +24,7 @@ returns-4 c =
     c.byte-address.ensures
 
 returns-5 : tie.Need-returns-5
-unfolding address_of unitsOf
+unfolding address_of units_of
 returns-5 c =
     let room = c.before.before in
     rw (ne_eqb _ _ room.before.before.if1.false, le-ltb _ _ room.before.if2.false, le-ltb _ _ room.if3.false, c.enum-told2.given.1)

@@ -5,7 +5,7 @@ use native.Mathlib.Nat.{mul-zero}
 use native.Mathlib.Omega.{arith}
 use lib.Dec.{leb}
 use borrow.Author.Tests.{eq-eqb, ne_eqb, lt-ltb, le-ltb, leb-true}
-use Rattle.types.specs.Leaf.{clockOf}
+use Rattle.types.specs.Leaf.{clock_of}
 use Rattle.types.specs.Least.{Enough, Least, Searched}
 use Rattle.types.specs.declared.clock.ClockAnswer.TheVariants.{Set, Refused}
 use Rattle.types.specs.declared.error.Error.TheVariants.{BadClock}
@@ -25,26 +25,26 @@ asked s d zero h slow = absurd (omega (arith, mul-zero d))
 asked s d (suc q) h slow = omega arith
 
 -- what a source at most the request comes to, where that may be passed on
-passed : (s q : ℕ) (allowed : Bool) → 1 ≤ s → q ≤ 80_000_000 → (allowed && leb s q) ≡ true → clockOf s q allowed ≡ Set (record { divisor = 0; bypass = true; frequency = record { 0 = s } })
-unfolding clockOf
+passed : (s q : ℕ) (allowed : Bool) → 1 ≤ s → q ≤ 80_000_000 → (allowed && leb s q) ≡ true → clock_of s q allowed ≡ Set (record { divisor = 0; bypass = true; frequency = record { 0 = s } })
+unfolding clock_of
 passed s q true h high bypass =
     let low = leb-true s q bypass in
     rw (ne_eqb s 0 (λ e. omega arith), ne_eqb q 0 (λ e. omega arith), le-ltb 80_000_000 q high, bypass)
 passed s q false h high bypass = let z : ◌≡◌ {A = ℕ} 0 1 = cc in absurd (omega arith)
 
 -- no divisor brings a source down to 0: such a request is refused with those that are too low
-none : (s q : ℕ) (allowed : Bool) → 1 ≤ s → q ≤ 80_000_000 → (allowed && leb s q) ≡ false → ((d : ℕ) → Enough s q d → ⊥) → clockOf s q allowed ≡ Refused BadClock
-unfolding clockOf
+none : (s q : ℕ) (allowed : Bool) → 1 ≤ s → q ≤ 80_000_000 → (allowed && leb s q) ≡ false → ((d : ℕ) → Enough s q d → ⊥) → clock_of s q allowed ≡ Refused BadClock
+unfolding clock_of
 none s zero allowed h high divided never = rw (ne_eqb s 0 (λ e. omega arith))
 none s (suc q) allowed h high divided never =
     rw (ne_eqb s 0 (λ e. omega arith), ne_eqb (suc q) 0 (λ e. omega arith), le-ltb 80_000_000 (suc q) high, divided, lt-ltb 257 _ (over s (suc q) h (omega arith) high never))
 
 returns : tie.Need-returns
-unfolding clockOf
+unfolding clock_of
 returns c = rw (eq-eqb _ _ c.if1.true)
 
 returns-2 : tie.Need-returns-2
-unfolding clockOf
+unfolding clock_of
 returns-2 c = rw (ne_eqb _ _ c.before.if1.false, ne_eqb c.before.before.args.requested.0 0 (λ e. omega arith), lt-ltb _ _ c.if2.true)
 
 returns-3 : tie.Need-returns-3
@@ -70,7 +70,7 @@ quotient-requires : tie.Need-quotient-requires
 quotient-requires c κs = let enough = (sought c.before).enough in (omega arith, omega arith)
 
 returns-4 : tie.Need-returns-4
-unfolding clockOf
+unfolding clock_of
 returns-4 c =
     let searched = c.before.before.before.before in
     let judged = searched.before.before.before in

@@ -1,30 +1,30 @@
 use borrow.Author.Tests.{eq-eqb, ne_eqb}
-use Rattle.types.specs.Leaf.{firstMatch, data_of}
+use Rattle.types.specs.Leaf.{first_match, data_of}
 use Rattle.types.proofs.status.data_error.Statement.{statement}
 use Rattle.types.proofs.status.data_error.Tie as tie
 
 returns : tie.Need-returns
-unfolding data_of firstMatch
+unfolding data_of first_match
 returns c = rw (ne_eqb _ _ c.if1.true)
 
 returns-2 : tie.Need-returns-2
-unfolding data_of firstMatch
+unfolding data_of first_match
 returns-2 c = rw (eq-eqb _ _ c.before.if1.false, ne_eqb _ _ c.if2.true)
 
 returns-3 : tie.Need-returns-3
-unfolding data_of firstMatch
+unfolding data_of first_match
 returns-3 c = rw (eq-eqb _ _ c.before.before.if1.false, eq-eqb _ _ c.before.if2.false, ne_eqb _ _ c.if3.true)
 
 returns-4 : tie.Need-returns-4
-unfolding data_of firstMatch
+unfolding data_of first_match
 returns-4 c = rw (eq-eqb _ _ c.before.before.before.if1.false, eq-eqb _ _ c.before.before.if2.false, eq-eqb _ _ c.before.if3.false, ne_eqb _ _ c.if4.true)
 
 returns-5 : tie.Need-returns-5
-unfolding data_of firstMatch
+unfolding data_of first_match
 returns-5 c = rw (eq-eqb _ _ c.before.before.before.before.if1.false, eq-eqb _ _ c.before.before.before.if2.false, eq-eqb _ _ c.before.before.if3.false, eq-eqb _ _ c.before.if4.false, ne_eqb _ _ c.if5.true)
 
 returns-6 : tie.Need-returns-6
-unfolding data_of firstMatch
+unfolding data_of first_match
 returns-6 c = rw (eq-eqb _ _ c.before.before.before.before.if1.false, eq-eqb _ _ c.before.before.before.if2.false, eq-eqb _ _ c.before.before.if3.false, eq-eqb _ _ c.before.if4.false, eq-eqb _ _ c.if5.false)
 
 pub data-error-spec : {M : Type 1} → statement M

@@ -5,30 +5,30 @@ use native.Mathlib.Nat.{zero-add}
 use native.Mathlib.Omega.{arith}
 use lib.ListN.{get_or, set, length, drop, drop_of_length-le, replicate}
 use lib.Seq.{take_all}
-use Rattle.types.specs.Words.{turned, sdStatusOf}
-use Rattle.types.proofs.Counted.{length-counted, getD-counted, over, over-more}
+use Rattle.types.specs.Words.{turned, sd_status_of}
+use Rattle.types.proofs.Counted.{length-counted, get_d_counted, over, over-more}
 use borrow.Author.Rules.{rules}
 use Rattle.types.proofs.words.sd_status.Statement.{statement}
 use Rattle.types.proofs.words.sd_status.Tie as tie
 
 -- the status at each place, laid over any sixteen words
 module _ (words z : List ℕ) (sixteen : length z ≡ 16) where
-  long : length (sdStatusOf words) ≡ 16
-  unfolding sdStatusOf
+  long : length (sd_status_of words) ≡ 16
+  unfolding sd_status_of
   long = length-counted _ 0 16
 
-  step : (i v : ℕ) → i < 16 → v ≡ turned (get_or words (15 - i) 0) → set (over (sdStatusOf words) z i) i v ≡ over (sdStatusOf words) z (i + 1)
-  unfolding sdStatusOf
+  step : (i v : ℕ) → i < 16 → v ≡ turned (get_or words (15 - i) 0) → set (over (sd_status_of words) z i) i v ≡ over (sd_status_of words) z (i + 1)
+  unfolding sd_status_of
   step i v h e =
       let at : ℕ → ℕ = λ n. turned (get_or words (15 - n) 0) in
-      let value : v ≡ get_or (sdStatusOf words) i 0 = e ∙ ap at (sym (zero-add i)) ∙ sym (getD-counted at 0 16 i 0 h) in
-      ap (λ (w : ℕ). set (over (sdStatusOf words) z i) i w) value ∙ over-more (sdStatusOf words) z i (omega (arith, long)) (omega arith)
+      let value : v ≡ get_or (sd_status_of words) i 0 = e ∙ ap at (sym (zero-add i)) ∙ sym (get_d_counted at 0 16 i 0 h) in
+      ap (λ (w : ℕ). set (over (sd_status_of words) z i) i w) value ∙ over-more (sd_status_of words) z i (omega (arith, long)) (omega arith)
 
-  all : over (sdStatusOf words) z 16 ≡ sdStatusOf words
-  all = ap (λ (l : List ℕ). l ++ drop 16 z) (take_all 16 (sdStatusOf words) (omega (arith, long))) ∙ ap (λ (l : List ℕ). sdStatusOf words ++ l) (drop_of_length-le z {i = 16} (omega arith)) ∙ append-nil (sdStatusOf words)
+  all : over (sd_status_of words) z 16 ≡ sd_status_of words
+  all = ap (λ (l : List ℕ). l ++ drop 16 z) (take_all 16 (sd_status_of words) (omega (arith, long))) ∙ ap (λ (l : List ℕ). sd_status_of words ++ l) (drop_of_length-le z {i = 16} (omega arith)) ∙ append-nil (sd_status_of words)
 
 abbrev invariant-loop : tie.invariant-loop
-invariant-loop words status₀ i₀ status i = (status ≡ over (sdStatusOf words) status₀ i) × (i ≤ 16)
+invariant-loop words status₀ i₀ status i = (status ≡ over (sd_status_of words) status₀ i) × (i ≤ 16)
 
 abbrev decreases-loop : tie.decreases-loop
 decreases-loop words status₀ i₀ status i = 16 - i

@@ -1,6 +1,6 @@
 use mathlib.Core.Path.{sym, ◌∙◌}
 use native.Mathlib.Omega.{arith}
-use Rattle.underway.specs.First.{firstPlan}
+use Rattle.underway.specs.First.{first_plan}
 use Rattle.host.proofs.Ran.{judged-good}
 use Rattle.underway.proofs.Beginning as B
 use borrow.Author.Rules.{rules}
@@ -18,7 +18,7 @@ returns c =
     λ sent. c.moves.ensures _ sent ∙ B.moved_call asked.host asked.sends asked.index asked.bytes sent answer.given.0.0 (sym start.judged.ensures ∙ answer.given.1)
 
 returns-2 : tie.Need-returns-2
-unfolding firstPlan
+unfolding first_plan
 returns-2 c =
     let start = c.before.before.before in
     let asked = start.before.args in

@@ -1,27 +1,27 @@
 use mathlib.Core.Path.{refl}
-use Rattle.underway.specs.First.{lineBy}
+use Rattle.underway.specs.First.{line_by}
 use borrow.Author.Rules.{rules}
 use Rattle.underway.proofs.begin.line.Statement.{statement}
 use Rattle.underway.proofs.begin.line.Tie as tie
 
 returns : tie.Need-returns
-unfolding lineBy
+unfolding line_by
 returns c = rw c.enum_told.given.1 refl
 
 returns-2 : tie.Need-returns-2
-unfolding lineBy
+unfolding line_by
 returns-2 c = rw c.before.before.first.given.1 c.fresh-line.ensures
 
 returns-3 : tie.Need-returns-3
-unfolding lineBy
+unfolding line_by
 returns-3 c = rw c.enum-told2.given.1 refl
 
 returns-4 : tie.Need-returns-4
-unfolding lineBy
+unfolding line_by
 returns-4 c = rw c.enum-told3.given.1 refl
 
 returns-5 : tie.Need-returns-5
-unfolding lineBy
+unfolding line_by
 returns-5 c = rw c.enum-told4.given.1 refl
 
 pub line-spec : {M : Type 1} → statement M

@@ -1,12 +1,12 @@
 use mathlib.Core.Path.{ap, ◌∙◌}
-use Rattle.types.specs.Words.{sdStatusOf}
-use Rattle.stepping.proofs.Held.{all-sixteen}
+use Rattle.types.specs.Words.{sd_status_of}
+use Rattle.stepping.proofs.Held.{all_sixteen}
 use borrow.Author.Rules.{rules}
 use Rattle.underway.proofs.ends.status_of.Statement.{statement}
 use Rattle.underway.proofs.ends.status_of.Tie as tie
 
 returns : tie.Need-returns
-returns c = c.sd-status.ensures ∙ ap sdStatusOf (all-sixteen _ (search rules))
+returns c = c.sd-status.ensures ∙ ap sd_status_of (all_sixteen _ (search rules))
 
 pub status-of-spec : {M : Type 1} → statement M
 status-of-spec =

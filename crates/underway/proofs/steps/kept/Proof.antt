@@ -16,7 +16,7 @@ returns-2 c = (rw c.enum-told2.given.1 refl, λ j k h g g' same e. rw c.enum-tol
 
 returns-3 : tie.Need-returns-3
 unfolding kept_at KeptAt
-returns-3 c = (rw c.before.before.before.at.given.1 (rw c.before.phase.ensures at c.keeps.ensures.0), λ j k h g g' same e. rw c.before.before.before.at.given.1 ((rw c.before.phase.ensures at (c.keeps.ensures.1 g g')) (M.data-hands j k h _ g _ _ _ _ g' same (rw c.before.before.before.at.given.1 at e))))
+returns-3 c = (rw c.before.before.before.at.given.1 (rw c.before.phase.ensures at c.keeps.ensures.0), λ j k h g g' same e. rw c.before.before.before.at.given.1 ((rw c.before.phase.ensures at (c.keeps.ensures.1 g g')) (M.data_hands j k h _ g _ _ _ _ g' same (rw c.before.before.before.at.given.1 at e))))
 
 returns-4 : tie.Need-returns-4
 unfolding kept_at KeptAt
@@ -28,7 +28,7 @@ returns-5 c = (rw c.enum-told4.given.1 refl, λ j k h g g' same e. rw c.enum-tol
 
 returns-6 : tie.Need-returns-6
 unfolding kept_at KeptAt
-returns-6 c = (rw c.enum-told5.given.1 refl, λ j k h g g' same e. rw c.enum-told5.given.1 (M.over-hands j k h _ g g' _ _ _ (rw c.enum-told5.given.1 at e)))
+returns-6 c = (rw c.enum-told5.given.1 refl, λ j k h g g' same e. rw c.enum-told5.given.1 (M.over_hands j k h _ g g' _ _ _ (rw c.enum-told5.given.1 at e)))
 
 pub kept-spec : {M : Type 1} → statement M
 kept-spec =

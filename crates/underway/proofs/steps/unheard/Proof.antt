@@ -1,5 +1,5 @@
 use mathlib.Core.Path.{refl, ap, ◌∙◌}
-use Rattle.stepping.specs.Ahead.{atPlan, standNext}
+use Rattle.stepping.specs.Ahead.{at_plan, stand_next}
 use Rattle.stepping.specs.declared.call.Stand.{Stand}
 use Rattle.stepping.proofs.Standing as S
 use Rattle.underway.proofs.Moving as M
@@ -26,28 +26,28 @@ returns-3 c =
     let a = c.before.before.before.before.before.before.before.args in
     λ g. rw c.before.before.before.before.before.at3.given.1
     (c.received.ensures g
-    ∙ M.data-missed a.job a.known a.line a.held g _ _ _
+    ∙ M.data_missed a.job a.known a.line a.held g _ _ _
     (λ ws. rw (c.before.before.before.data-bus.ensures, c.before.before.phase.ensures) at (c.before.missed3.ensures ws a.line refl)))
 
 returns-4 : tie.Need-returns-4
 returns-4 c =
     let a = c.before.before.before.before.args in
     λ g. rw c.before.before.enum_told.given.1
-    (ap (λ (s : Stand). standNext a.job a.held g s a.line) c.at4.ensures
+    (ap (λ (s : Stand). stand_next a.job a.held g s a.line) c.at4.ensures
     ∙ c.before.closes.ensures a.held g a.line ∙ S.idle-missed a.job a.known a.line a.held g _ _)
 
 returns-5 : tie.Need-returns-5
-unfolding atPlan
+unfolding at_plan
 returns-5 c =
     let a = c.before.before.before.args in
-    λ g. ap (λ (s : Stand). standNext a.job a.held g s a.line) c.at5.ensures
+    λ g. ap (λ (s : Stand). stand_next a.job a.held g s a.line) c.at5.ensures
     ∙ rw c.before.enum-told2.given.1 (Ro.row-missed a.job a.known a.line _)
 
 returns-6 : tie.Need-returns-6
-unfolding atPlan
+unfolding at_plan
 returns-6 c =
     let a = c.before.before.before.args in
-    λ g. ap (λ (s : Stand). standNext a.job a.held g s a.line) c.at6.ensures
+    λ g. ap (λ (s : Stand). stand_next a.job a.held g s a.line) c.at6.ensures
     ∙ rw c.before.enum-told3.given.1 (Ro.end-missed a.job a.known a.line _ _)
 
 pub unheard-spec : {M : Type 1} → statement M

@@ -3,7 +3,7 @@ use native.Mathlib.Omega.{arith}
 use Rattle.wordtext.specs.declared.place.Place.{Place}
 use Rattle.wordtext.specs.declared.token.Verdict.{Verdict}
 use Rattle.wordtext.specs.declared.token.Verdict.TheVariants as W
-use Rattle.wordtext.specs.Text.{answerBy, place_of}
+use Rattle.wordtext.specs.Text.{answer_by, place_of}
 use Rattle.wordtext.proofs.Answers.{held-answer, held-list}
 use borrow.Author.Rules.{rules}
 use Rattle.wordtext.proofs.book.read_words.Statement.{statement}
@@ -16,7 +16,7 @@ returns c =
     let a = scanned.before.before.before.before.args in
     let holds = scanned.scan-text.ensures in
     let s = scanned.scan-text.result in (
-      ap (λ (v : Verdict). answerBy v (place_of a.text.now s.start) s.count) (sym c.enum_told.given.1 ∙ judged.verdict.ensures)
+      ap (λ (v : Verdict). answer_by v (place_of a.text.now s.start) s.count) (sym c.enum_told.given.1 ∙ judged.verdict.ensures)
           ∙ held-answer a.text.now a.words.now _ s holds,
       (held-list a.text.now a.words.now _ s holds, (holds.fits, holds.size)),
     )
@@ -29,8 +29,8 @@ returns-2 c =
     let a = scanned.before.before.before.before.args in
     let holds = scanned.scan-text.ensures in
     let s = scanned.scan-text.result in (
-      ap (λ (p : Place). answerBy (W.Wrong cause.cause.given.0.0) p s.count) c.place_at.ensures
-          ∙ ap (λ (v : Verdict). answerBy v (place_of a.text.now s.start) s.count) (sym cause.cause.given.1 ∙ judged.verdict.ensures)
+      ap (λ (p : Place). answer_by (W.Wrong cause.cause.given.0.0) p s.count) c.place_at.ensures
+          ∙ ap (λ (v : Verdict). answer_by v (place_of a.text.now s.start) s.count) (sym cause.cause.given.1 ∙ judged.verdict.ensures)
           ∙ held-answer a.text.now a.words.now _ s holds,
       (held-list a.text.now a.words.now _ s holds, (omega arith, holds.size)),
     )

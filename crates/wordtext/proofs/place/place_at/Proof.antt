@@ -3,9 +3,9 @@ use mathlib.Core.Logic.{⊎_elim}
 use mathlib.Core.Path.{◌≡◌, refl, ap, sym, ◌∙◌}
 use native.Mathlib.Omega.{arith}
 use lib.ListN.{length, get_or}
-use Rattle.wordtext.specs.Text.{moved, placeFrom, place_of}
+use Rattle.wordtext.specs.Text.{moved, place_from, place_of}
 use Rattle.wordtext.specs.declared.place.Place.{Place}
-use Rattle.wordtext.proofs.Places.{place-more, place-all, moved-little}
+use Rattle.wordtext.proofs.Places.{place-more, place-all, moved_little}
 use Rattle.wordtext.proofs.place.place_at.Statement.{statement}
 use Rattle.wordtext.proofs.place.place_at.Tie as tie
 
@@ -17,7 +17,7 @@ abbrev decreases-loop : tie.decreases-loop
 decreases-loop text at end p₀ i₀ p i = end - i
 
 loop-holds : tie.Need-loop-init invariant-loop decreases-loop
-unfolding place_of placeFrom
+unfolding place_of place_from
 loop-holds c =
     (omega arith, ⊎_elim (λ w. omega arith) (λ w. omega arith) c.if1.branch, refl, omega arith, omega arith)
 
@@ -27,7 +27,7 @@ loop-again c =
     let text = head.before.before.before.args.text.now in
     let inv = head.loop.invariant in
     let i = head.loop.i in
-    let little = moved-little head.loop.p (get_or text i 0) (i + 1) inv.3 inv.4 (omega arith) in (
+    let little = moved_little head.loop.p (get_or text i 0) (i + 1) inv.3 inv.4 (omega arith) in (
       omega arith,
       inv.1,
       c.moved.ensures ∙ ap (λ (p : Place). moved p (get_or text i 0)) inv.2 ∙ sym (place-more text i (omega arith)),

@@ -4,12 +4,12 @@ use native.Mathlib.Omega.{arith}
 use mathlib.Core.Path.{sym}
 use borrow.Author.Rules.{rules}
 use borrow.Author.Tests.{le-leb, lt-leb, lt-ltb, le-ltb}
-use Rattle.wordtext.specs.Token.{LIMIT, withDigit}
+use Rattle.wordtext.specs.Token.{LIMIT, with_digit}
 use Rattle.wordtext.proofs.token.with_digit.Statement.{statement}
 use Rattle.wordtext.proofs.token.with_digit.Tie as tie
 
 returns : tie.Need-returns
-unfolding withDigit
+unfolding with_digit
 returns c = rw (sym c.before.digit.ensures, le-leb _ _ c.if1.true)
 
 mul_next : tie.Need-overflow-mul-next
@@ -25,7 +25,7 @@ add-next c =
     omega (arith, mul-le-mul_left a.value small)
 
 returns-2 : tie.Need-returns-2
-unfolding withDigit
+unfolding with_digit
 returns-2 c =
     let first = c.before in
     let a = first.before.before.args in
@@ -33,7 +33,7 @@ returns-2 c =
     rw (sym first.before.digit.ensures, lt-leb _ _ first.if1.false, lt-ltb _ _ small)
 
 returns-3 : tie.Need-returns-3
-unfolding withDigit
+unfolding with_digit
 returns-3 c =
     let first = c.before in
     let a = first.before.before.args in

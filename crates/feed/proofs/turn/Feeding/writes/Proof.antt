@@ -1,13 +1,13 @@
 use borrow.Author.Tests.{le-ltb}
 use Rattle.tape.proofs.Layouts.{Fits, row-stored, rows_long}
-use Rattle.feed.specs.Turns.{turnBy, takenAt}
+use Rattle.feed.specs.Turns.{turn_by, taken_at}
 use Rattle.feed.proofs.Fed as F
 use borrow.Author.Rules.{rules}
 use Rattle.feed.proofs.turn.Feeding.writes.Statement.{statement}
 use Rattle.feed.proofs.turn.Feeding.writes.Tie as tie
 
 returns : tie.Need-returns
-unfolding turnBy takenAt
+unfolding turn_by taken_at
 returns c = λ g s asked. rw (rows_long _, le-ltb _ _ c.if1.true)
 
 returns-2 : tie.Need-returns-2

@@ -1,7 +1,7 @@
 use mathlib.Core.List.{[]}
 use borrow.Author.Tests.{eq-eqb, ne_eqb, lt-ltb, le-ltb}
 use mathlib.Core.Path.{refl, sym, ◌∙◌}
-use Rattle.host.specs.Calls.{initFrom, initialised}
+use Rattle.host.specs.Calls.{init_from, initialised}
 use borrow.Author.Rules.{rules}
 use Rattle.host.proofs.host.Sdmmc.blocking_init_card.Statement.{statement}
 use Rattle.host.proofs.host.Sdmmc.blocking_init_card.Tie as tie
@@ -19,7 +19,7 @@ unfolding initialised
 returns-3 c = rw (ne_eqb _ _ c.before.before.before.before.before.before.before.before.before.if1.false, le-ltb _ _ c.before.before.before.before.before.before.before.before.if2.false, sym c.before.before.before.before.before.before.before.clock-setting.ensures ∙ c.before.before.before.before.before.answer.given.1) c.before.before.init-from.ensures
 
 returns-4 : tie.Need-returns-4
-unfolding initialised initFrom
+unfolding initialised init_from
 returns-4 c = rw (ne_eqb _ _ c.before.before.before.before.before.before.if1.false, le-ltb _ _ c.before.before.before.before.before.if2.false, sym c.before.before.before.before.clock-setting.ensures ∙ c.before.before.answer2.given.1) (c.untouched3.ensures [], refl)
 
 pub blocking-init-card-spec : {M : Type 1} → statement M

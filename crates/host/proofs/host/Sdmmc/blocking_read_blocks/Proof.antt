@@ -2,7 +2,7 @@ use mathlib.Core.List.{[]}
 use mathlib.Core.Path.{refl, sym, ◌∙◌}
 use native.Mathlib.Omega.{arith}
 use lib.ListN.{length}
-use Rattle.host.specs.Calls.{blocks_from, blocksCame}
+use Rattle.host.specs.Calls.{blocks_from, blocks_came}
 use Rattle.host.proofs.Ran.{judged-good}
 use Rattle.host.proofs.Laying.{none_filled}
 use borrow.Author.Rules.{rules}
@@ -16,13 +16,13 @@ read-from-requires : tie.Need-read-from-requires
 read-from-requires c κs = let start = c.before.before.before.before.before.before.before.before.before in let place = judged-good start.args.self _ start.args.index (length start.args.buffer.now) _ (sym c.before.before.before.before.before.judged.ensures ∙ c.before.before.before.answer.given.1) in omega (arith, place.most)
 
 returns : tie.Need-returns
-unfolding blocksCame
+unfolding blocks_came
 returns c =
     let start = c.before.before.before.before.before.before.before.before.before.before.before.before.before.before in
     rw (sym c.before.before.before.before.before.before.before.before.before.before.judged.ensures ∙ c.before.before.before.before.before.before.before.before.answer.given.1) c.before.before.before.before.read-from.ensures
 
 returns-2 : tie.Need-returns-2
-unfolding blocksCame blocks_from
+unfolding blocks_came blocks_from
 returns-2 c =
     let start = c.before.before.before.before.before.before.before.before in
     rw (sym c.before.before.before.before.judged.ensures ∙ c.before.before.answer2.given.1) (c.untouched.ensures [], (refl, sym (none_filled start.args.buffer.now)))

@@ -2,7 +2,7 @@ use mathlib.Core.List.{[]}
 use mathlib.Core.Path.{refl, sym, ◌∙◌}
 use native.Mathlib.Omega.{arith}
 use lib.ListN.{length}
-use Rattle.host.specs.Calls.{blocks_from, blocksCame}
+use Rattle.host.specs.Calls.{blocks_from, blocks_came}
 use Rattle.host.proofs.Ran.{judged-good}
 use borrow.Author.Rules.{rules}
 use Rattle.host.proofs.host.Sdmmc.blocking_write_blocks.Statement.{statement}
@@ -15,13 +15,13 @@ write-from-requires : tie.Need-write-from-requires
 write-from-requires c κs = let start = c.before.before.before.before.before.before.before.before in let place = judged-good start.args.self _ start.args.index (length start.args.«data».now) _ (sym c.before.before.before.before.judged.ensures ∙ c.before.before.answer.given.1) in (omega (arith, place.most), omega (arith, place.whole))
 
 returns : tie.Need-returns
-unfolding blocksCame
+unfolding blocks_came
 returns c =
     let start = c.before.before.before.before.before.before.before.before.before.before.before in
     rw (sym c.before.before.before.before.before.before.before.judged.ensures ∙ c.before.before.before.before.before.answer.given.1) c.before.before.write-from.ensures
 
 returns-2 : tie.Need-returns-2
-unfolding blocksCame blocks_from
+unfolding blocks_came blocks_from
 returns-2 c =
     let start = c.before.before.before.before.before.before.before.before in
     rw (sym c.before.before.before.before.judged.ensures ∙ c.before.before.answer2.given.1) (c.untouched.ensures [], refl)

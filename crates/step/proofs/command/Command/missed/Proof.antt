@@ -1,16 +1,16 @@
 use mathlib.Core.Path.{◌∙◌}
-use Rattle.step.specs.Command.{endNext, partPlan, commandNext}
+use Rattle.step.specs.Command.{end_next, part_plan, command_next}
 use Rattle.step.proofs.Parts as parts
 use borrow.Author.Rules.{rules}
 use Rattle.step.proofs.command.Command.missed.Statement.{statement}
 use Rattle.step.proofs.command.Command.missed.Tie as tie
 
 returns : tie.Need-returns
-unfolding commandNext partPlan
+unfolding command_next part_plan
 returns c = λ h. rw c.enum_told.given.1 (parts.unmissed _ _ _ _ _ h _)
 
 returns-2 : tie.Need-returns-2
-unfolding partPlan endNext
+unfolding part_plan end_next
 returns-2 c = λ h. rw c.before.enum-told2.given.1 (c.ends.ensures h ∙ parts.unanswered _ _ _ _ _ h _)
 
 pub missed-spec : {M : Type 1} → statement M

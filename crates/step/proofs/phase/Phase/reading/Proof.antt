@@ -1,34 +1,34 @@
-use Rattle.step.specs.Transfer.{readingAt}
+use Rattle.step.specs.Transfer.{reading_at}
 use borrow.Author.Rules.{rules}
 use Rattle.step.proofs.phase.Phase.reading.Statement.{statement}
 use Rattle.step.proofs.phase.Phase.reading.Tie as tie
 
 returns : tie.Need-returns
-unfolding readingAt
+unfolding reading_at
 returns c = rw c.enum_told.given.1
 
 returns-2 : tie.Need-returns-2
-unfolding readingAt
+unfolding reading_at
 returns-2 c = rw c.enum-told2.given.1
 
 returns-3 : tie.Need-returns-3
-unfolding readingAt
+unfolding reading_at
 returns-3 c = rw c.enum-told3.given.1
 
 returns-4 : tie.Need-returns-4
-unfolding readingAt
+unfolding reading_at
 returns-4 c = rw c.enum-told4.given.1
 
 returns-5 : tie.Need-returns-5
-unfolding readingAt
+unfolding reading_at
 returns-5 c = rw c.enum-told5.given.1
 
 returns-6 : tie.Need-returns-6
-unfolding readingAt
+unfolding reading_at
 returns-6 c = rw c.enum-told6.given.1
 
 returns-7 : tie.Need-returns-7
-unfolding readingAt
+unfolding reading_at
 returns-7 c = rw (c.before.before.reads.given.1, c.place.ensures)
 
 pub reading-spec : {M : Type 1} → statement M

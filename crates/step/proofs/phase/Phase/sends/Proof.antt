@@ -1,30 +1,30 @@
-use Rattle.step.specs.Transfer.{sendsOf}
+use Rattle.step.specs.Transfer.{sends_of}
 use borrow.Author.Rules.{rules}
 use Rattle.step.proofs.phase.Phase.sends.Statement.{statement}
 use Rattle.step.proofs.phase.Phase.sends.Tie as tie
 
 returns : tie.Need-returns
-unfolding sendsOf
+unfolding sends_of
 returns c = rw c.enum_told.given.1
 
 returns-2 : tie.Need-returns-2
-unfolding sendsOf
+unfolding sends_of
 returns-2 c = rw c.enum-told2.given.1
 
 returns-3 : tie.Need-returns-3
-unfolding sendsOf
+unfolding sends_of
 returns-3 c = rw c.enum-told3.given.1
 
 returns-4 : tie.Need-returns-4
-unfolding sendsOf
+unfolding sends_of
 returns-4 c = rw c.enum-told4.given.1
 
 returns-5 : tie.Need-returns-5
-unfolding sendsOf
+unfolding sends_of
 returns-5 c = rw c.enum-told5.given.1
 
 returns-6 : tie.Need-returns-6
-unfolding sendsOf
+unfolding sends_of
 returns-6 c = rw c.enum-told6.given.1
 
 pub sends-spec : {M : Type 1} → statement M

@@ -1,7 +1,7 @@
 use Prim.Native.Nat.{ℕ}
 use mathlib.Core.Path.{ap, ◌∙◌}
 use Rattle.step.specs.Next.{next}
-use Rattle.step.specs.Ready.{attempts, waitsNext}
+use Rattle.step.specs.Ready.{attempts, waits_next}
 use Rattle.step.proofs.Readying as W
 use Rattle.step.proofs.Parts as one
 use borrow.Author.Rules.{rules}
@@ -9,16 +9,16 @@ use Rattle.step.proofs.ready.Bus.attempt.Statement.{statement}
 use Rattle.step.proofs.ready.Bus.attempt.Tie as tie
 
 returns : tie.Need-returns
-unfolding waitsNext
-returns c = λ h gate. rw c.if1.true (W.attempt-over _ h)
+unfolding waits_next
+returns c = λ h gate. rw c.if1.true (W.attempt_over _ h)
 
 returns-2 : tie.Need-returns-2
-unfolding waitsNext
-returns-2 c = λ h gate. W.attempt-on _ h _ _ gate _ (rw c.before.begun.given.1 at (c.before.before.before.begin.ensures h)) ∙ ap (λ (n : ℕ). next (attempts c.before.before.before.before.before.before.args.self n) h) (one.one_less _ c.before.before.before.before.before.if1.false)
+unfolding waits_next
+returns-2 c = λ h gate. W.attempt_on _ h _ _ gate _ (rw c.before.begun.given.1 at (c.before.before.before.begin.ensures h)) ∙ ap (λ (n : ℕ). next (attempts c.before.before.before.before.before.before.args.self n) h) (one.one_less _ c.before.before.before.before.before.if1.false)
 
 returns-3 : tie.Need-returns-3
-unfolding waitsNext
-returns-3 c = λ h gate. W.attempt-failed _ h _ _ gate (rw c.enum_told.given.1 at (c.before.before.begin.ensures h)) ∙ ap (λ (n : ℕ). next (attempts c.before.before.before.before.before.args.self n) h) (one.one_less _ c.before.before.before.before.if1.false)
+unfolding waits_next
+returns-3 c = λ h gate. W.attempt_failed _ h _ _ gate (rw c.enum_told.given.1 at (c.before.before.begin.ensures h)) ∙ ap (λ (n : ℕ). next (attempts c.before.before.before.before.before.args.self n) h) (one.one_less _ c.before.before.before.before.if1.false)
 
 pub attempt-spec : {M : Type 1} → statement M
 attempt-spec =

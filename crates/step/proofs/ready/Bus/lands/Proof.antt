@@ -1,16 +1,16 @@
-use Rattle.step.specs.Transfer.{dataPlan}
+use Rattle.step.specs.Transfer.{data_plan}
 use Rattle.step.proofs.Phases as P
 use borrow.Author.Rules.{rules}
 use Rattle.step.proofs.ready.Bus.lands.Statement.{statement}
 use Rattle.step.proofs.ready.Bus.lands.Tie as tie
 
 returns : tie.Need-returns
-unfolding dataPlan
-returns c = λ ws h. P.lands-sends c.before.before.args.self c.before.before.args.phase h ws (rw c.before.sends.ensures at c.if1.true)
+unfolding data_plan
+returns c = λ ws h. P.lands_sends c.before.before.args.self c.before.before.args.phase h ws (rw c.before.sends.ensures at c.if1.true)
 
 returns-2 : tie.Need-returns-2
-unfolding dataPlan
-returns-2 c = λ ws h. rw c.top.ensures (P.lands-reads c.before.before.before.args.self c.before.before.before.args.phase h ws (rw c.before.before.sends.ensures at c.before.if1.false))
+unfolding data_plan
+returns-2 c = λ ws h. rw c.top.ensures (P.lands_reads c.before.before.before.args.self c.before.before.before.args.phase h ws (rw c.before.before.sends.ensures at c.before.if1.false))
 
 pub lands-spec : {M : Type 1} → statement M
 lands-spec = tie.close (tie.spec (λ c κs. search rules) (λ c κs. search rules) returns returns-2)

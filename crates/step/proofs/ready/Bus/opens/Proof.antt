@@ -1,12 +1,12 @@
 use mathlib.Core.Path.{sym, ◌∙◌}
-use Rattle.step.specs.Transfer.{dataPlan}
+use Rattle.step.specs.Transfer.{data_plan}
 use Rattle.step.proofs.Phases as P
 use borrow.Author.Rules.{rules}
 use Rattle.step.proofs.ready.Bus.opens.Statement.{statement}
 use Rattle.step.proofs.ready.Bus.opens.Tie as tie
 
 returns : tie.Need-returns
-unfolding dataPlan
+unfolding data_plan
 returns c = λ ws h. P.first-clean c.before.before.before.args.self c.before.before.before.args.phase h ws _ _ (sym c.before.before.data-error.ensures ∙ c.enum_told.given.1)
 
 returns-2 : tie.Need-returns-2

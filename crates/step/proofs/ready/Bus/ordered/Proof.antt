@@ -1,12 +1,12 @@
 use mathlib.Core.Path.{◌∙◌}
-use Rattle.step.specs.Transfer.{dataPlan}
+use Rattle.step.specs.Transfer.{data_plan}
 use Rattle.step.proofs.Phases as P
 use borrow.Author.Rules.{rules}
 use Rattle.step.proofs.ready.Bus.ordered.Statement.{statement}
 use Rattle.step.proofs.ready.Bus.ordered.Tie as tie
 
 returns : tie.Need-returns
-unfolding dataPlan
+unfolding data_plan
 returns c = λ ws h. P.ordered-sends c.before.before.args.self c.before.before.args.phase h ws (rw c.before.sends.ensures at c.if1.true)
 
 returns-2 : tie.Need-returns-2

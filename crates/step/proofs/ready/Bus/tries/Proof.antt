@@ -1,15 +1,15 @@
 use mathlib.Core.Path.{refl}
-use Rattle.step.specs.Ready.{readyNext, waitsNext}
+use Rattle.step.specs.Ready.{ready_next, waits_next}
 use borrow.Author.Rules.{rules}
 use Rattle.step.proofs.ready.Bus.tries.Statement.{statement}
 use Rattle.step.proofs.ready.Bus.tries.Tie as tie
 
 returns : tie.Need-returns
-unfolding readyNext waitsNext
+unfolding ready_next waits_next
 returns c = λ h. rw c.before.waits.given.1 refl
 
 returns-2 : tie.Need-returns-2
-unfolding readyNext waitsNext
+unfolding ready_next waits_next
 returns-2 c = λ h. rw c.enum_told.given.1 refl
 
 pub tries-spec : {M : Type 1} → statement M

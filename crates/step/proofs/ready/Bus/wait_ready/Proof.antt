@@ -5,7 +5,7 @@ use Rattle.step.proofs.ready.Bus.wait_ready.Statement.{statement}
 use Rattle.step.proofs.ready.Bus.wait_ready.Tie as tie
 
 returns : tie.Need-returns
-returns c = λ h gate. c.attempt.ensures h gate ∙ W.wait-begins _ h
+returns c = λ h gate. c.attempt.ensures h gate ∙ W.wait_begins _ h
 
 pub wait-ready-spec : {M : Type 1} → statement M
 wait-ready-spec =

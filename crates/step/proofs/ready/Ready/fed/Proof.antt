@@ -1,22 +1,22 @@
 use mathlib.Core.Path.{ap, ◌∙◌}
 use Rattle.tape.specs.Plan.{handle}
 use Rattle.tape.specs.Steps.{row}
-use Rattle.bus.specs.Ready.{retryDelay}
+use Rattle.bus.specs.Ready.{retry_delay}
 use Rattle.step.specs.Next.{next, heard}
-use Rattle.step.specs.Context.{plug, plugNext}
-use Rattle.step.specs.Command.{commandPlan}
-use Rattle.step.specs.Ready.{asked, readyPlan, readyNext}
+use Rattle.step.specs.Context.{plug, plug_next}
+use Rattle.step.specs.Command.{command_plan}
+use Rattle.step.specs.Ready.{asked, ready_plan, ready_next}
 use Rattle.step.proofs.Inside.{inside-heard, command-waits}
 use borrow.Author.Rules.{rules}
 use Rattle.step.proofs.ready.Ready.fed.Statement.{statement}
 use Rattle.step.proofs.ready.Ready.fed.Tie as tie
 
 returns : tie.Need-returns
-unfolding readyPlan
-returns c = λ h. rw c.before.before.before.self.given.1 (c.asking.ensures h ∙ ap (plugNext (asked c.before.before.before.before.before.args.bus _)) (c.before.fed.ensures h) ∙ inside-heard (asked c.before.before.before.before.before.args.bus _) (commandPlan _) h (command-waits _ h) _)
+unfolding ready_plan
+returns c = λ h. rw c.before.before.before.self.given.1 (c.asking.ensures h ∙ ap (plug_next (asked c.before.before.before.before.before.args.bus _)) (c.before.fed.ensures h) ∙ inside-heard (asked c.before.before.before.before.before.args.bus _) (command_plan _) h (command-waits _ h) _)
 
 returns-2 : tie.Need-returns-2
-unfolding readyNext readyPlan retryDelay row handle plug next heard
+unfolding ready_next ready_plan retry_delay row handle plug next heard
 returns-2 c = λ h. rw c.enum_told.given.1
 
 pub fed-spec : {M : Type 1} → statement M

@@ -1,5 +1,5 @@
 use mathlib.Core.Path.{◌∙◌}
-use Rattle.step.specs.Ready.{asked, readyPlan}
+use Rattle.step.specs.Ready.{asked, ready_plan}
 use Rattle.step.proofs.Inside.{command-goes}
 use Rattle.step.proofs.Readying as W
 use borrow.Author.Rules.{rules}
@@ -7,7 +7,7 @@ use Rattle.step.proofs.ready.Ready.went.Statement.{statement}
 use Rattle.step.proofs.ready.Ready.went.Tie as tie
 
 returns : tie.Need-returns
-unfolding readyPlan
+unfolding ready_plan
 returns c = λ h gate. rw c.before.before.before.self.given.1 (c.asking.ensures _ ∙ command-goes (asked c.before.before.before.before.before.args.bus _) _ _ h (c.before.went.ensures h))
 
 returns-2 : tie.Need-returns-2

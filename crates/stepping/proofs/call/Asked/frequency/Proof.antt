@@ -1,22 +1,22 @@
-use Rattle.stepping.specs.Ahead.{frequencyOf}
+use Rattle.stepping.specs.Ahead.{frequency_of}
 use borrow.Author.Rules.{rules}
 use Rattle.stepping.proofs.call.Asked.frequency.Statement.{statement}
 use Rattle.stepping.proofs.call.Asked.frequency.Tie as tie
 
 returns : tie.Need-returns
-unfolding frequencyOf
+unfolding frequency_of
 returns c = rw c.before.self.given.1
 
 returns-2 : tie.Need-returns-2
-unfolding frequencyOf
+unfolding frequency_of
 returns-2 c = rw c.enum_told.given.1
 
 returns-3 : tie.Need-returns-3
-unfolding frequencyOf
+unfolding frequency_of
 returns-3 c = rw c.enum-told2.given.1
 
 returns-4 : tie.Need-returns-4
-unfolding frequencyOf
+unfolding frequency_of
 returns-4 c = rw c.enum-told3.given.1
 
 pub frequency-spec : {M : Type 1} → statement M

@@ -8,13 +8,13 @@ returns : tie.Need-returns
 returns c = λ ws h. rw c.enum_told.given.1 (F.clock-initial c.before.before.args.self c.before.before.args.known h ws)
 
 returns-2 : tie.Need-returns-2
-returns-2 c = λ ws h. rw c.before.before.before.enum-told2.given.1 (F.clock-fast c.before.before.before.before.before.args.self c.before.before.before.before.before.args.known h ws (rw c.before.before.frequency.ensures at (sym c.before.fast.ensures ∙ c.if1.true)))
+returns-2 c = λ ws h. rw c.before.before.before.enum-told2.given.1 (F.clock_fast c.before.before.before.before.before.args.self c.before.before.before.before.before.args.known h ws (rw c.before.before.frequency.ensures at (sym c.before.fast.ensures ∙ c.if1.true)))
 
 returns-3 : tie.Need-returns-3
 returns-3 c = λ ws h. rw c.before.before.before.enum-told2.given.1 (F.clock-slow c.before.before.before.before.before.args.self c.before.before.before.before.before.args.known h ws (rw c.before.before.frequency.ensures at (sym c.before.fast.ensures ∙ c.if1.false)))
 
 returns-4 : tie.Need-returns-4
-returns-4 c = λ ws h. rw c.enum-told3.given.1 (F.clock-switch c.before.before.args.self c.before.before.args.known h ws)
+returns-4 c = λ ws h. rw c.enum-told3.given.1 (F.clock_switch c.before.before.args.self c.before.before.args.known h ws)
 
 pub clocked-spec : {M : Type 1} → statement M
 clocked-spec =

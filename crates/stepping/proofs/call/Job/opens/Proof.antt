@@ -4,10 +4,10 @@ use Rattle.stepping.proofs.call.Job.opens.Statement.{statement}
 use Rattle.stepping.proofs.call.Job.opens.Tie as tie
 
 returns : tie.Need-returns
-returns c = λ ws h. F.open-spins c.before.before.before.before.before.args.self c.before.before.before.before.before.args.known h ws _ (rw (c.before.before.before.before.initial.ensures, c.before.answer.given.1) at c.before.before.before.delay.ensures)
+returns c = λ ws h. F.open_spins c.before.before.before.before.before.args.self c.before.before.before.before.before.args.known h ws _ (rw (c.before.before.before.before.initial.ensures, c.before.answer.given.1) at c.before.before.before.delay.ensures)
 
 returns-2 : tie.Need-returns-2
-returns-2 c = λ ws h. F.open-refused c.before.before.before.before.before.args.self c.before.before.before.before.before.args.known h ws _ (rw (c.before.before.before.before.initial.ensures, c.before.answer2.given.1) at c.before.before.before.delay.ensures)
+returns-2 c = λ ws h. F.open_refused c.before.before.before.before.before.args.self c.before.before.before.before.before.args.known h ws _ (rw (c.before.before.before.before.initial.ensures, c.before.answer2.given.1) at c.before.before.before.delay.ensures)
 
 pub opens-spec : {M : Type 1} → statement M
 opens-spec =

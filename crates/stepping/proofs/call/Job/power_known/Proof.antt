@@ -1,20 +1,20 @@
 use mathlib.Core.Path.{ap, ◌∙◌}
 use borrow.Author.Tests.{eq-eqb, ne_eqb}
 use Rattle.stepping.specs.declared.call.Then.{Then}
-use Rattle.stepping.specs.Ahead.{thenNext}
+use Rattle.stepping.specs.Ahead.{then_next}
 use Rattle.stepping.proofs.Follows as F
 use borrow.Author.Rules.{rules}
 use Rattle.stepping.proofs.call.Job.power_known.Statement.{statement}
 use Rattle.stepping.proofs.call.Job.power_known.Tie as tie
 
 returns : tie.Need-returns
-returns c = λ ws h. ap (λ (t : Then). thenNext c.before.before.args.self ws t h) c.and.ensures ∙ F.power-none c.before.before.args.self c.before.before.args.known h ws c.before.before.args.words _ (eq-eqb _ _ c.before.if1.true)
+returns c = λ ws h. ap (λ (t : Then). then_next c.before.before.args.self ws t h) c.and.ensures ∙ F.power_none c.before.before.args.self c.before.before.args.known h ws c.before.before.args.words _ (eq-eqb _ _ c.before.if1.true)
 
 returns-2 : tie.Need-returns-2
-returns-2 c = λ ws h. ap (λ (t : Then). thenNext c.before.before.before.args.self ws t h) c.and2.ensures ∙ F.power-down c.before.before.before.args.self c.before.before.before.args.known h ws c.before.before.before.args.words _ (ne_eqb _ _ c.before.before.if1.false) (eq-eqb _ _ c.before.if2.true)
+returns-2 c = λ ws h. ap (λ (t : Then). then_next c.before.before.before.args.self ws t h) c.and2.ensures ∙ F.power_down c.before.before.before.args.self c.before.before.before.args.known h ws c.before.before.before.args.words _ (ne_eqb _ _ c.before.before.if1.false) (eq-eqb _ _ c.before.if2.true)
 
 returns-3 : tie.Need-returns-3
-returns-3 c = λ ws h. ap (λ (t : Then). thenNext c.before.before.before.args.self ws t h) c.and3.ensures ∙ F.power-up c.before.before.before.args.self c.before.before.before.args.known h ws c.before.before.before.args.words _ (ne_eqb _ _ c.before.before.if1.false) (ne_eqb _ _ c.before.if2.false)
+returns-3 c = λ ws h. ap (λ (t : Then). then_next c.before.before.before.args.self ws t h) c.and3.ensures ∙ F.power-up c.before.before.before.args.self c.before.before.before.args.known h ws c.before.before.before.args.words _ (ne_eqb _ _ c.before.before.if1.false) (ne_eqb _ _ c.before.if2.false)
 
 pub power-known-spec : {M : Type 1} → statement M
 power-known-spec =

@@ -1,16 +1,16 @@
 use mathlib.Core.Path.{ap, sym, ◌∙◌}
 use Rattle.stepping.specs.declared.call.Then.{Then}
-use Rattle.stepping.specs.Ahead.{thenNext}
+use Rattle.stepping.specs.Ahead.{then_next}
 use Rattle.stepping.proofs.Follows as F
 use borrow.Author.Rules.{rules}
 use Rattle.stepping.proofs.call.Job.speeds.Statement.{statement}
 use Rattle.stepping.proofs.call.Job.speeds.Tie as tie
 
 returns : tie.Need-returns
-returns c = λ ws h. ap (λ (t : Then). thenNext c.before.before.before.before.before.before.before.args.self ws t h) c.and.ensures ∙ F.speed-good c.before.before.before.before.before.before.before.args.self c.before.before.before.before.before.before.before.args.known h ws _ (rw (c.before.before.before.before.before.lesser.ensures, c.before.before.before.before.before.before.frequency.ensures) at (sym c.before.before.before.before.clocks.ensures ∙ c.before.before.answer.given.1))
+returns c = λ ws h. ap (λ (t : Then). then_next c.before.before.before.before.before.before.before.args.self ws t h) c.and.ensures ∙ F.speed_good c.before.before.before.before.before.before.before.args.self c.before.before.before.before.before.before.before.args.known h ws _ (rw (c.before.before.before.before.before.lesser.ensures, c.before.before.before.before.before.before.frequency.ensures) at (sym c.before.before.before.before.clocks.ensures ∙ c.before.before.answer.given.1))
 
 returns-2 : tie.Need-returns-2
-returns-2 c = λ ws h. ap (λ (t : Then). thenNext c.before.before.before.before.before.before.before.args.self ws t h) c.and2.ensures ∙ F.speed-bad c.before.before.before.before.before.before.before.args.self c.before.before.before.before.before.before.before.args.known h ws _ (rw (c.before.before.before.before.before.lesser.ensures, c.before.before.before.before.before.before.frequency.ensures) at (sym c.before.before.before.before.clocks.ensures ∙ c.before.before.answer2.given.1))
+returns-2 c = λ ws h. ap (λ (t : Then). then_next c.before.before.before.before.before.before.before.args.self ws t h) c.and2.ensures ∙ F.speed_bad c.before.before.before.before.before.before.before.args.self c.before.before.before.before.before.before.before.args.known h ws _ (rw (c.before.before.before.before.before.lesser.ensures, c.before.before.before.before.before.before.frequency.ensures) at (sym c.before.before.before.before.clocks.ensures ∙ c.before.before.answer2.given.1))
 
 pub speeds-spec : {M : Type 1} → statement M
 speeds-spec =

@@ -1,14 +1,14 @@
-use Rattle.stepping.specs.Ahead.{waitRca}
+use Rattle.stepping.specs.Ahead.{wait_rca}
 use borrow.Author.Rules.{rules}
 use Rattle.stepping.proofs.call.Job.wait_rca.Statement.{statement}
 use Rattle.stepping.proofs.call.Job.wait_rca.Tie as tie
 
 returns : tie.Need-returns
-unfolding waitRca
+unfolding wait_rca
 returns c = rw c.enum_told.given.1
 
 returns-2 : tie.Need-returns-2
-unfolding waitRca
+unfolding wait_rca
 returns-2 c = rw c.enum-told2.given.1
 
 pub wait-rca-spec : {M : Type 1} → statement M

@@ -4,7 +4,7 @@ use mathlib.Core.Path.{◌≡◌, refl}
 use native.Mathlib.Omega.{arith}
 use denote.Enum.Declared as Declared
 use types.Run.{OneOf, miss}
-use Rattle.types.specs.Answer.{errorTold}
+use Rattle.types.specs.Answer.{error_told}
 use Rattle.types.specs.declared.error.Error.{Error}
 use Rattle.types.specs.declared.error.Error.TheVariants as E
 use Rattle.types.specs.contracts.error.Error as Error-row
@@ -16,8 +16,8 @@ use Rattle.types.proofs.error.Error.number.Tie as tie
 abbrev others : List ℕ
 others = 0 ∷ 1 ∷ 2 ∷ 3 ∷ 4 ∷ 5 ∷ 6 ∷ 7 ∷ 8 ∷ 9 ∷ 10 ∷ 11 ∷ 12 ∷ 13 ∷ 14 ∷ 15 ∷ 16 ∷ 17 ∷ 18 ∷ 19 ∷ []
 
-drivers : (e : Error) → OneOf others (Declared.tag_of Error-row.the_type e) → (errorTold e).number ≡ 26 → ⊥
-unfolding errorTold
+drivers : (e : Error) → OneOf others (Declared.tag_of Error-row.the_type e) → (error_told e).number ≡ 26 → ⊥
+unfolding error_told
 drivers E.Timeout h z = omega arith
 drivers E.SoftwareTimeout h z = omega arith
 drivers E.Crc h z = omega arith
@@ -41,7 +41,7 @@ drivers E.AddressOutOfRange h z = omega arith
 drivers E.WriteProtected h z = miss others 20 tt h
 
 returns : tie.Need-returns
-unfolding errorTold
+unfolding error_told
 returns c = rw c.enum_told.given.1 refl
 
 returns-2 : tie.Need-returns-2

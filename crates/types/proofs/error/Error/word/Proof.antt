@@ -3,7 +3,7 @@ use mathlib.Core.List.{List, [], ◌∷◌}
 use mathlib.Core.Path.{◌≡◌, refl}
 use denote.Enum.Declared as Declared
 use types.Run.{OneOf, miss}
-use Rattle.types.specs.Answer.{carried, errorTold}
+use Rattle.types.specs.Answer.{carried, error_told}
 use Rattle.types.specs.declared.error.Error.{Error}
 use Rattle.types.specs.declared.error.Error.TheVariants as E
 use Rattle.types.specs.contracts.error.Error as Error-row
@@ -15,8 +15,8 @@ use Rattle.types.proofs.error.Error.word.Tie as tie
 abbrev others : List ℕ
 others = 0 ∷ 1 ∷ 2 ∷ 3 ∷ 4 ∷ 5 ∷ 6 ∷ 7 ∷ 8 ∷ 10 ∷ 11 ∷ 13 ∷ 14 ∷ 15 ∷ 16 ∷ 17 ∷ 18 ∷ 19 ∷ 20 ∷ []
 
-bare : (e : Error) → OneOf others (Declared.tag_of Error-row.the_type e) → 0 ≡ carried (errorTold e)
-unfolding errorTold
+bare : (e : Error) → OneOf others (Declared.tag_of Error-row.the_type e) → 0 ≡ carried (error_told e)
+unfolding error_told
 bare E.Timeout h = refl
 bare E.SoftwareTimeout h = refl
 bare E.Crc h = refl
@@ -40,5 +40,5 @@ bare E.AddressOutOfRange h = refl
 bare E.WriteProtected h = refl
 
 pub word-spec : {M : Type 1} → statement M
-unfolding errorTold
+unfolding error_told
 word-spec = tie.close (tie.spec (λ c. search rules) (λ c. search rules) (λ c κs. search rules) (λ c. search rules) (λ c. rw c.before.self.given.1) (λ c. rw c.before.before.self2.given.1 c.number.ensures) (λ c. bare c.before.args.self c.match.keys3))

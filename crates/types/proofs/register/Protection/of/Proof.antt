@@ -1,12 +1,12 @@
 use Prim.Native.Nat.{◌+◌, ◌*◌, ◌/◌, ◌%◌, ◌^◌}
 use mathlib.Core.Path.{◌≡◌, refl}
 use native.Mathlib.Omega.{arith}
-use Rattle.types.specs.Leaf.{protectionOf}
+use Rattle.types.specs.Leaf.{protection_of}
 use Rattle.types.proofs.register.Protection.of.Statement.{statement}
 use Rattle.types.proofs.register.Protection.of.Tie as tie
 
 returns : tie.Need-returns
-unfolding protectionOf
+unfolding protection_of
 returns c =
     let hi = c.args.csd.high in
     let lo = c.args.csd.low in

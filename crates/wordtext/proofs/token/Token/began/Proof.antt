@@ -1,10 +1,10 @@
 use borrow.Author.Rules.{rules}
-use Rattle.wordtext.specs.Token.{beganAt}
+use Rattle.wordtext.specs.Token.{began_at}
 use Rattle.wordtext.proofs.token.Token.began.Statement.{statement}
 use Rattle.wordtext.proofs.token.Token.began.Tie as tie
 
 pub began-spec : {M : Type 1} → statement M
-unfolding beganAt
+unfolding began_at
 began-spec =
     tie.close
     (tie.spec (λ c. search rules) (λ c. search rules) (λ c. search rules) (λ c. search rules) (λ c. search rules)
