@@ -11,7 +11,7 @@ use host::host::Sdmmc;
 use types::error::Answer;
 
 // A call was served: the next host, where the next body lies, and where the next text goes.
-#[derive(Drop)]
+#[derive(Clone, Copy)]
 pub struct Turn {
     pub host: Sdmmc,
     pub body_at: usize,

@@ -28,7 +28,7 @@ use types::config::Config;
 use types::error::Answer;
 
 // A call was traced: the next host, and where the next text goes.
-#[derive(Drop)]
+#[derive(Clone, Copy)]
 struct Traced {
     host: Sdmmc,
     at: usize,
@@ -192,7 +192,7 @@ pub fn trace_call(
 
 // A book was opened: its host, its calls (none where there is no host), its words, where the first body starts, and where
 // the next text goes.
-#[derive(Drop)]
+#[derive(Clone, Copy)]
 pub struct Opening {
     pub host: Sdmmc,
     pub calls: u16,

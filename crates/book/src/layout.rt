@@ -10,7 +10,7 @@ use text::pen;
 use types::words;
 
 // The contents before the rows of the calls.
-#[derive(Drop)]
+#[derive(Clone, Copy)]
 pub struct Heading {
     pub source: u32,
     pub poll_limit: u32,
@@ -22,7 +22,7 @@ pub struct Heading {
 }
 
 // A call's row, and where its body lies: the data words of a write, and the script.
-#[derive(Drop)]
+#[derive(Clone, Copy)]
 pub struct Asked {
     pub kind: u32,
     pub a: u32,
@@ -32,7 +32,7 @@ pub struct Asked {
 }
 
 // A file's bytes as a book: so many words of the list, or none.
-#[derive(Drop)]
+#[derive(Clone, Copy)]
 pub enum Opened {
     Words(usize),
     Bad,

@@ -1,6 +1,7 @@
 // bookwords: text on standard input to a bench book on standard output. The text is decimal or 0x-hexadecimal words,
 // separated by white space or commas; `#` to the end of the line is a comment. Each word is written as 32 bits, the
 // lowest byte first. The first thing that is no word gets one line on standard error, and then nothing is written.
+#![tactic(auto)]
 
 ghost use Rattle.std.specs.Prelude.{◌≤◌, length};
 ghost use Rattle.text.specs.Ink.{Laid};

@@ -1,6 +1,8 @@
 // The C boundary: clock, capacity, rate and address for firmware that stays Rust or C, on plain numbers. Each answer is one
 // number: the answer's number in the top byte, the value in the other seven; of a refusal the field at 13, 0 at any other
 // (include/boresacu.h).
+#![tactic(auto)]
+
 ghost use Rattle.std.specs.Prelude.{◌≡◌, not, ◌+◌, ◌*◌, ◌^◌, eqb};
 ghost use Rattle.types.specs.Leaf.{clock_of, count_of, address_of};
 ghost use Rattle.boundary.specs.Packed.{refused_word, clock_word, clock_value, count_word, rate_word, rate_at, address_word, class_of};

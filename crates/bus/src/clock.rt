@@ -37,7 +37,7 @@ fn spins(source: Hertz, clock: Hertz, cycles: u32) -> u64
 }
 
 // The spins of a delay, unless there is no clock or they are too many.
-#[derive(Drop)]
+#[derive(Clone, Copy)]
 pub enum DelayAnswer {
     Spins(u32),
     Refused(Error),

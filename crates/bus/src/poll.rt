@@ -14,7 +14,7 @@ use types::status;
 use types::status::DataAnswer;
 
 // A status word and a DMA word, zeros where the call has stopped.
-#[derive(Drop)]
+#[derive(Clone, Copy)]
 pub struct Poll {
     pub progress: Progress,
     pub status: u32,

@@ -9,7 +9,7 @@ use tape::rows::Row;
 use tape::script::Sta;
 use types::status::CardStatus;
 
-#[derive(Drop)]
+#[derive(Clone, Copy)]
 pub enum Response {
     None,
     R1,
@@ -21,7 +21,7 @@ pub enum Response {
 
 // What a response asks of its command: the wait kind of the CMD row, the status bits that complete it, whether nothing
 // is read, the status bit of a bad checksum, whether RESPCMD is read, and the card's error bits in the first word.
-#[derive(Drop)]
+#[derive(Clone, Copy)]
 pub struct Form {
     pub wait: u8,
     pub completion: u32,
@@ -33,7 +33,7 @@ pub struct Form {
 }
 
 // The four words of a response, zeros where the call has stopped.
-#[derive(Drop)]
+#[derive(Clone, Copy)]
 pub struct Words {
     pub progress: Progress,
     pub words: [u32; 4],

@@ -17,7 +17,7 @@ use types::clock::Hertz;
 use types::config::Config;
 
 // What is to be moved: the command and its argument, the block size as a power of two, and the number of words.
-#[derive(Drop)]
+#[derive(Clone, Copy)]
 pub struct Transfer {
     pub index: u8,
     pub argument: u32,

@@ -1,4 +1,6 @@
 // cardbook: a bench book on standard input, a line for its host and one for each call on standard output.
+#![tactic(auto)]
+
 ghost use Rattle.std.specs.Prelude.{◌≤◌, ◌≡◌, length, take};
 ghost use Rattle.text.specs.Ink.{Laid};
 ghost use Rattle.bench.specs.Bench.{printed};

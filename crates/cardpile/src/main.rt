@@ -1,5 +1,7 @@
 // cardpile [ROOM]: a pile of bench books on standard input, and on standard output for each `book K`, counted from 1, and
 // what cardtrace prints of it. One book is held at a time, so a pile may be of any size.
+#![tactic(auto)]
+
 ghost use Rattle.std.specs.Prelude.{false, ◌≡◌};
 ghost use Rattle.text.specs.Ink.{Laid};
 ghost use Rattle.cardpile.specs.Said.{book_line, end_text};

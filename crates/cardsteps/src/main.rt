@@ -1,6 +1,8 @@
 // cardsteps [ROOM]: a bench book on standard input, and on standard output a line for its host and for each call its events
 // in their order: each reading with the word that it took, and each row, with what they mean for people. ROOM is how many
 // rows a call may write, 4,096 if not given.
+#![tactic(auto)]
+
 use desk::input::Input;
 use desk::room::{Program, Room};
 use desk::{input, room};

@@ -1,5 +1,7 @@
 // cardtrace [ROOM]: a bench book on standard input, and on standard output a line for its host and one for each call, each
 // with what happened behind it. ROOM is how many rows a call may write, 4,096 if not given.
+#![tactic(auto)]
+
 use desk::input::Input;
 use desk::room::{Program, Room};
 use desk::{input, room};

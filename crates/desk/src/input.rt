@@ -6,7 +6,7 @@ ghost use Rattle.desk.specs.Input.{filled_to, read_on, Goes, Within};
 use libc::STDIN_FILENO;
 
 // What came: all of it, so many bytes; more than there was room for; or a reading failed.
-#[derive(Drop)]
+#[derive(Clone, Copy)]
 pub enum Input {
     All(usize),
     Full,
@@ -14,7 +14,7 @@ pub enum Input {
 }
 
 // How far a buffer's filling has come: so many bytes, and there is room for more; or it is over.
-#[derive(Drop)]
+#[derive(Clone, Copy)]
 enum Filling {
     At(usize),
     Over(Input),

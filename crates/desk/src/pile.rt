@@ -8,7 +8,7 @@ use crate::input::Input;
 
 // What comes next: a book, so many of its bytes in the buffer; the pile's end; a pile that is cut short; or a reading
 // failed.
-#[derive(Drop)]
+#[derive(Clone, Copy)]
 pub enum Next {
     Book(usize),
     End,
@@ -17,7 +17,7 @@ pub enum Next {
 }
 
 // What became of a part that was to be read: it came whole, so many bytes; the input ended before; or a reading failed.
-#[derive(Drop)]
+#[derive(Clone, Copy)]
 enum Part {
     Whole(usize),
     Cut,
@@ -25,7 +25,7 @@ enum Part {
 }
 
 // What is to be read next.
-#[derive(Drop)]
+#[derive(Clone, Copy)]
 enum Task {
     // the length of a book
     Length,
@@ -36,7 +36,7 @@ enum Task {
 }
 
 // How far it is to the next book: something has to be read, or it is over.
-#[derive(Drop)]
+#[derive(Clone, Copy)]
 enum Stage {
     Due(Task),
     Over(Next),

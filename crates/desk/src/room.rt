@@ -8,14 +8,14 @@ use libc::STDERR_FILENO;
 use text::pen;
 
 // So many rows, or what is no such number.
-#[derive(Drop)]
+#[derive(Clone, Copy)]
 pub enum Room {
     Rows(usize),
     Bad,
 }
 
 // The programs that are asked for one.
-#[derive(Drop)]
+#[derive(Clone, Copy)]
 pub enum Program {
     Cardtrace,
     Cardpile,
@@ -23,7 +23,7 @@ pub enum Program {
 }
 
 // What the arguments ask for: so many rows; or there are too many of them; or the one that there is names no room.
-#[derive(Drop)]
+#[derive(Clone, Copy)]
 enum Wish {
     Rows(usize),
     TooMany,

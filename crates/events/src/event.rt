@@ -9,7 +9,7 @@ use tape::script::Reading;
 use text::pen;
 
 // What comes about in a call: a reading and the word that it took, a reading for which the script had no word, a row.
-#[derive(Drop)]
+#[derive(Clone, Copy)]
 pub enum Event {
     Read(Reading, u32),
     Missed(Reading),

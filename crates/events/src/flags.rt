@@ -7,7 +7,7 @@ use tape::script::Sta;
 use text::pen;
 use types::status::DataAnswer;
 
-#[derive(Drop)]
+#[derive(Clone, Copy)]
 pub struct Flags {}
 
 impl Flags {

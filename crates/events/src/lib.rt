@@ -1,4 +1,6 @@
 // One event of a call as text in a lent buffer: a reading with its word, or a row, and what it means for people.
+#![tactic(auto)]
+
 pub mod said; // said.rt: two spaces and a text, a counted noun
 pub mod flags; // flags.rt: what a status word has
 pub mod row; // row.rt: what a row means

@@ -17,7 +17,7 @@ use types::error::Answer;
 use underway::call::Call;
 
 // A call that was fed to its end: what it came to, and where in the script the first data word of its last transfer lay.
-#[derive(Drop)]
+#[derive(Clone, Copy)]
 pub struct Fed {
     pub called: Called,
     pub place: usize,

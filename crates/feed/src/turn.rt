@@ -18,7 +18,7 @@ use underway::call::{Call, Outcome};
 
 // A call that is fed: the words taken and the rows written so far, and where in the script the first data word of its last
 // transfer lay.
-#[derive(Drop)]
+#[derive(Clone, Copy)]
 pub struct Feeding {
     pub call: Call,
     pub used: usize,
@@ -28,7 +28,7 @@ pub struct Feeding {
 
 // What came about: a reading took its word, or found none, and the call was told so; a row was written, or found no room; or the
 // call is over.
-#[derive(Drop)]
+#[derive(Clone, Copy)]
 pub enum Event {
     Read(Reading, u32),
     Missed(Reading),
@@ -52,7 +52,7 @@ impl Event {
     }
 }
 
-#[derive(Drop)]
+#[derive(Clone, Copy)]
 pub struct Turn {
     pub event: Event,
     pub feeding: Feeding,

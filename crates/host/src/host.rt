@@ -14,7 +14,7 @@ use types::config::{Config, ConfigAnswer};
 use types::error::{Answer, Error};
 
 // A host: its settings, what it holds of the line to the card, and the record of the card, zeros where it has none.
-#[derive(Drop)]
+#[derive(Clone, Copy)]
 pub struct Sdmmc {
     pub settings: Settings,
     pub line: Line,
@@ -23,21 +23,21 @@ pub struct Sdmmc {
 }
 
 // A host that was asked for, zeros where the answer is a refusal.
-#[derive(Drop)]
+#[derive(Clone, Copy)]
 pub struct Made {
     pub answer: Answer,
     pub host: Sdmmc,
 }
 
 // The record that a host holds, zeros where it holds none.
-#[derive(Drop)]
+#[derive(Clone, Copy)]
 pub struct Held {
     pub answer: Answer,
     pub card: Card,
 }
 
 // What a call comes to: its answer, the words it used of its script, the rows it wrote, and the next host.
-#[derive(Drop)]
+#[derive(Clone, Copy)]
 pub struct Called {
     pub answer: Answer,
     pub words: usize,
@@ -46,7 +46,7 @@ pub struct Called {
 }
 
 // What a status call comes to: as any call, and the SD status that was read, zeros unless the call was accepted.
-#[derive(Drop)]
+#[derive(Clone, Copy)]
 pub struct StatusRead {
     pub answer: Answer,
     pub words: usize,

@@ -16,7 +16,7 @@ use types::error::Error;
 use types::status::CardStatus;
 
 // What CMD8 asks for and a card of version 2 echoes: 2.7 to 3.6 V, and a check pattern.
-#[derive(Drop)]
+#[derive(Clone, Copy)]
 pub struct Interface {}
 
 impl Interface {

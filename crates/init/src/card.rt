@@ -19,7 +19,7 @@ use types::status::Scr;
 use types::words;
 
 // An SCR, 0 where the call has stopped.
-#[derive(Drop)]
+#[derive(Clone, Copy)]
 pub struct ScrRead {
     pub progress: Progress,
     pub scr: Scr,

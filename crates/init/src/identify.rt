@@ -23,7 +23,7 @@ use types::status::Scr;
 use types::{register, words};
 
 // The operating conditions register, as ACMD41 asks for it and the card answers.
-#[derive(Drop)]
+#[derive(Clone, Copy)]
 pub struct Ocr {}
 
 impl Ocr {
@@ -36,21 +36,21 @@ impl Ocr {
 }
 
 // A record of a card, zeros where the call has stopped.
-#[derive(Drop)]
+#[derive(Clone, Copy)]
 pub struct Known {
     pub progress: Progress,
     pub card: Card,
 }
 
 // A count of blocks, 0 where the call has stopped.
-#[derive(Drop)]
+#[derive(Clone, Copy)]
 pub struct Counted {
     pub progress: Progress,
     pub count: BlockCount,
 }
 
 // A card's address, 0 where the call has stopped.
-#[derive(Drop)]
+#[derive(Clone, Copy)]
 pub struct Published {
     pub progress: Progress,
     pub rca: u16,

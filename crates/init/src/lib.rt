@@ -1,4 +1,6 @@
 // Initialisation of a card, as the driver's `blocking_init_card` has it: from the settings and the asked frequency alone.
+#![tactic(auto)]
+
 pub mod settings; // settings.rt: what a host is made with
 pub mod begin; // begin.rt: power, CMD0, CMD8
 pub mod identify; // identify.rt: power-up, CID, RCA, CSD, selection

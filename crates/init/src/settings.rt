@@ -3,7 +3,7 @@ use types::clock::Hertz;
 use types::config::Config;
 
 // The source clock, the limits, and whether four data lines are connected.
-#[derive(Drop)]
+#[derive(Clone, Copy)]
 pub struct Settings {
     pub source: Hertz,
     pub config: Config,

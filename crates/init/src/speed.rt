@@ -24,14 +24,14 @@ use types::status::Scr;
 use types::words;
 
 // A clock, zeros where the call has stopped.
-#[derive(Drop)]
+#[derive(Clone, Copy)]
 pub struct Clocked {
     pub progress: Progress,
     pub clock: Clock,
 }
 
 // The function that CMD6 switches: SDR25, asked about and taken.
-#[derive(Drop)]
+#[derive(Clone, Copy)]
 pub struct Switch {}
 
 impl Switch {

@@ -1,5 +1,7 @@
 // The host for a program in Rust or C, in one process: to measure what calls cost, and to compare what they come to, without
 // a book's limits. A slice goes over as a pointer and a length.
+#![tactic(auto)]
+
 ghost use Rattle.std.specs.Prelude.{◌≡◌};
 ghost use Rattle.tape.specs.Layout.{rows_in};
 ghost use Rattle.text.specs.Ink.{Laid};
@@ -19,7 +21,7 @@ use host::host::{Called, Sdmmc};
 use types::clock::Hertz;
 
 // A call was served: the next host, where the next body lies, and what the call came to, as one number.
-#[derive(Drop)]
+#[derive(Clone, Copy)]
 struct Turn {
     host: Sdmmc,
     place: usize,

@@ -1,15 +1,17 @@
 // A reader keeps a lent script of readings beside its place in it.
+#![tactic(auto)]
+
 ghost use Rattle.std.specs.Prelude.{◌≡◌};
 ghost use Rattle.reader.specs.Place.{reader_at, word_at, left_at};
 
-#[derive(Drop)]
+#[derive(Clone, Copy)]
 pub struct Reader<'a> {
     pub script: &'a [u32],
     pub place: usize,
 }
 
 // What is found at a place of a script: a word, or the script's end.
-#[derive(Drop)]
+#[derive(Clone, Copy)]
 pub enum Found {
     Word(u32),
     End,

@@ -5,7 +5,7 @@ ghost use Rattle.sheet.specs.Sheet.{place_for};
 use libc::STDOUT_FILENO;
 
 // So much of the buffer is filled; and whether all that was in it before was written.
-#[derive(Drop)]
+#[derive(Clone, Copy)]
 pub struct Sheet {
     pub at: usize,
     pub written: bool,

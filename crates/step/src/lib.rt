@@ -1,5 +1,7 @@
 // The steps of a call, one answer at a time: each says which reading it wants or which row to write, takes that one answer,
 // and goes on.
+#![tactic(auto)]
+
 pub mod wants; // wants.rt: what a step waits for
 pub mod why; // why.rt: why a step is refused
 pub mod reset; // reset.rt: the rows that reset the controller

@@ -8,7 +8,7 @@ use bus::transfer::Transfer;
 
 // What a data phase reads: the SCR, a switch status (asked about, or switched), the SD status, or blocks from an address on. The last
 // is of blocks that are sent.
-#[derive(Drop)]
+#[derive(Clone, Copy)]
 pub enum Phase {
     Scr,
     Check,

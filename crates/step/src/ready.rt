@@ -21,7 +21,7 @@ use types::error::Error;
 use types::status::CardStatus;
 
 // What a step goes by: the source clock, the limits, and the card's address.
-#[derive(Drop)]
+#[derive(Clone, Copy)]
 pub struct Bus {
     pub source: Hertz,
     pub config: Config,
@@ -29,21 +29,21 @@ pub struct Bus {
 }
 
 // A ready wait under way, with so many attempts left after this one: CMD13, or the delay behind it.
-#[derive(Drop)]
+#[derive(Clone, Copy)]
 pub enum Ready {
     Asks(u32, Command),
     Delay(u32),
 }
 
 // A ready wait at its start, or before another attempt: its attempts, or the polls of CMD13, may be spent at once.
-#[derive(Drop)]
+#[derive(Clone, Copy)]
 pub enum Waits {
     On(Ready),
     Spent,
 }
 
 // A ready wait after an answer.
-#[derive(Drop)]
+#[derive(Clone, Copy)]
 pub enum ReadyStep {
     On(Ready),
     Done,

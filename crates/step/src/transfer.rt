@@ -30,7 +30,7 @@ use types::status;
 use types::status::DataAnswer;
 
 // Its readings, with how many polls are left after this one, or how many data words.
-#[derive(Drop)]
+#[derive(Clone, Copy)]
 pub enum Reads {
     Idle(u32),
     First(u32),
@@ -42,7 +42,7 @@ pub enum Reads {
 }
 
 // Its rows outside commands. Those that reset the controller follow a refusal.
-#[derive(Drop)]
+#[derive(Clone, Copy)]
 pub enum Writes {
     Reset(Reset, Why),
     Arm(Arm),
@@ -53,7 +53,7 @@ pub enum Writes {
 }
 
 // A data phase under way. A word that is sent is told by how many come after it.
-#[derive(Drop)]
+#[derive(Clone, Copy)]
 pub enum Data {
     Asks(Reads),
     Tells(Writes),
@@ -64,7 +64,7 @@ pub enum Data {
 }
 
 // A data phase after an answer.
-#[derive(Drop)]
+#[derive(Clone, Copy)]
 pub enum DataStep {
     On(Data),
     Done,

@@ -1,7 +1,7 @@
 // Why a step is refused: an error of the driver, or that no word will come.
 use types::error::Error;
 
-#[derive(Drop)]
+#[derive(Clone, Copy)]
 pub enum Why {
     Failed(Error),
     NoWord,

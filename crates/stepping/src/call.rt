@@ -19,7 +19,7 @@ use types::status::Scr;
 
 // What is asked for: a card, by the clock of identification and the asked frequency; its SD status; blocks from an address on;
 // or that blocks be sent there.
-#[derive(Drop)]
+#[derive(Clone, Copy)]
 pub enum Asked {
     Card(Clock, u32),
     Status,
@@ -28,14 +28,14 @@ pub enum Asked {
 }
 
 // What a call goes by, from its start to its end: the host before it, and what is asked of it.
-#[derive(Drop)]
+#[derive(Clone, Copy)]
 pub struct Job {
     pub host: Sdmmc,
     pub asked: Asked,
 }
 
 // What an initialisation has come to know: the card's version, OCR, CID, address, CSD, blocks and SCR, and the clock to be set.
-#[derive(Drop)]
+#[derive(Clone, Copy)]
 pub struct Known {
     pub version2: bool,
     pub ocr: u32,
@@ -48,7 +48,7 @@ pub struct Known {
 }
 
 // The commands of an initialisation, in order; those of its power-up with how many attempts are left.
-#[derive(Drop)]
+#[derive(Clone, Copy)]
 pub enum Sent {
     Cmd0,
     Cmd8,
@@ -65,21 +65,21 @@ pub enum Sent {
 }
 
 // A command outside data phases: the CMD55 of a status call, or one of an initialisation.
-#[derive(Drop)]
+#[derive(Clone, Copy)]
 pub enum Site {
     App,
     Init(Sent),
 }
 
 // A ready wait outside data phases: before blocks are read or written, or after CMD7.
-#[derive(Drop)]
+#[derive(Clone, Copy)]
 pub enum Waiting {
     Blocks,
     Selected,
 }
 
 // A data phase: the call's own, or one of an initialisation.
-#[derive(Drop)]
+#[derive(Clone, Copy)]
 pub enum Gets {
     Asked,
     Scr,
@@ -88,7 +88,7 @@ pub enum Gets {
 }
 
 // A clock row, and the idle wait before it: the initial clock, the transfer clock, or that of SDR25.
-#[derive(Drop)]
+#[derive(Clone, Copy)]
 pub enum Change {
     Initial,
     Transfer,
@@ -96,7 +96,7 @@ pub enum Change {
 }
 
 // The rows of an initialisation outside commands and data phases, in order; those of its guard follow a refusal.
-#[derive(Drop)]
+#[derive(Clone, Copy)]
 pub enum Writes {
     Reset(Reset),
     Clock(Change),
@@ -109,7 +109,7 @@ pub enum Writes {
 }
 
 // How a call ended: a refusal keeps the record, or leaves none.
-#[derive(Drop)]
+#[derive(Clone, Copy)]
 pub enum End {
     Accepted,
     Found,
@@ -118,7 +118,7 @@ pub enum End {
 }
 
 // What follows a step: a command, a ready wait, a data phase, the idle wait before a clock row, a row, a refusal, or the end.
-#[derive(Drop)]
+#[derive(Clone, Copy)]
 pub enum Follow {
     Sends(Sent, u8, u32, Response),
     Waits(Waiting),
@@ -130,14 +130,14 @@ pub enum Follow {
 }
 
 // What follows a step, with what is known by then.
-#[derive(Drop)]
+#[derive(Clone, Copy)]
 pub struct Then {
     pub known: Known,
     pub follow: Follow,
 }
 
 // Where a call stands.
-#[derive(Drop)]
+#[derive(Clone, Copy)]
 pub enum At {
     Command(Site, Command),
     Ready(Waiting, Ready),
@@ -148,7 +148,7 @@ pub enum At {
 }
 
 // Where a call stands, and what it has come to know of the card.
-#[derive(Drop)]
+#[derive(Clone, Copy)]
 pub struct Stand {
     pub known: Known,
     pub at: At,

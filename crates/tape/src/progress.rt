@@ -9,14 +9,14 @@ use types::clock::Hertz;
 use types::error::Error;
 
 // Why a call stopped: an error of the driver, or no word, or no room for a row.
-#[derive(Drop)]
+#[derive(Clone, Copy)]
 pub enum Halt {
     Refused(Error),
     ScriptEnded,
     TraceFull,
 }
 
-#[derive(Drop)]
+#[derive(Clone, Copy)]
 pub enum Pace {
     Going,
     Stopped(Halt),
@@ -24,7 +24,7 @@ pub enum Pace {
 
 // What the host holds of the line to the card, as the last step left it. The two words stand before the two small fields, so
 // that there is no gap between: each step copies it.
-#[derive(Drop)]
+#[derive(Clone, Copy)]
 pub struct Line {
     pub clkcr: u32,
     pub clock: Hertz,
@@ -34,7 +34,7 @@ pub struct Line {
 
 // How far a call has come: the words taken of its script, the rows written, and what the host holds. Once it has
 // stopped, every later step passes it on as it is.
-#[derive(Drop)]
+#[derive(Clone, Copy)]
 pub struct Progress {
     pub pace: Pace,
     pub used: usize,
@@ -43,14 +43,14 @@ pub struct Progress {
 }
 
 // A word of the script, 0 where there was none to take.
-#[derive(Drop)]
+#[derive(Clone, Copy)]
 pub struct Word {
     pub progress: Progress,
     pub word: u32,
 }
 
 // An answer of yes or no, no where there was none.
-#[derive(Drop)]
+#[derive(Clone, Copy)]
 pub struct Flag {
     pub progress: Progress,
     pub flag: bool,

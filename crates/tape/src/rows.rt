@@ -9,7 +9,7 @@ use crate::progress::{Halt, Pace, Progress};
 use types::clock::Clock;
 
 // A row: a register and the value written to it.
-#[derive(Drop)]
+#[derive(Clone, Copy)]
 pub struct Row {
     pub register: u32,
     pub value: u32,
@@ -61,7 +61,7 @@ impl Row {
 }
 
 // The flags that are cleared at once in the controller's status.
-#[derive(Drop)]
+#[derive(Clone, Copy)]
 pub struct Icr {}
 
 impl Icr {
@@ -73,7 +73,7 @@ impl Icr {
 }
 
 // Bits of CLKCR; the divisor's field lies below them.
-#[derive(Drop)]
+#[derive(Clone, Copy)]
 pub struct ClockControl {}
 
 impl ClockControl {
@@ -89,7 +89,7 @@ impl ClockControl {
 }
 
 // Bits of CMD; the command's index lies below them, and the wait kind counts in steps of WAIT.
-#[derive(Drop)]
+#[derive(Clone, Copy)]
 pub struct CommandControl {}
 
 impl CommandControl {
@@ -99,7 +99,7 @@ impl CommandControl {
 }
 
 // Bits of DCTRL; the block size, as a power of two, counts in steps of BLOCK_SIZE.
-#[derive(Drop)]
+#[derive(Clone, Copy)]
 pub struct DataControl {}
 
 impl DataControl {

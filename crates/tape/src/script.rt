@@ -12,7 +12,7 @@ use reader::Found;
 
 // What a reading asks for: the controller's status, the index of the command that was answered, a response word, the
 // state of the DMA, the count of bytes left, or a data word.
-#[derive(Drop)]
+#[derive(Clone, Copy)]
 pub enum Reading {
     Status,
     RespCmd,
@@ -23,7 +23,7 @@ pub enum Reading {
 }
 
 // Bits of the controller's status.
-#[derive(Drop)]
+#[derive(Clone, Copy)]
 pub struct Sta {}
 
 impl Sta {
@@ -46,7 +46,7 @@ impl Sta {
 }
 
 // Bits of a DMA word.
-#[derive(Drop)]
+#[derive(Clone, Copy)]
 pub struct Dma {}
 
 impl Dma {
@@ -58,7 +58,7 @@ impl Dma {
 }
 
 // Data words of the script: so many from this place on, none where the call has stopped.
-#[derive(Drop)]
+#[derive(Clone, Copy)]
 pub struct Data {
     pub progress: Progress,
     pub place: usize,

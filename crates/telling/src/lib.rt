@@ -1,4 +1,6 @@
 // A book told event by event on standard output, its calls taken one answer at a time.
+#![tactic(auto)]
+
 ghost use Rattle.std.specs.Prelude.{◌≡◌, [], false, ◌+◌, ◌*◌, ◌≤◌, ◌<◌, min, length, take, replicate};
 ghost use Rattle.tape.specs.Layout.{rows_in};
 ghost use Rattle.text.specs.Ink.{inked};
@@ -29,14 +31,14 @@ use types::clock::Hertz;
 use underway::call::Call;
 
 // What a call came to, and the sheet behind its lines so far.
-#[derive(Drop)]
+#[derive(Clone, Copy)]
 struct Told {
     called: Called,
     sheet: Sheet,
 }
 
 // After a call: the next host, where the next body starts, and whether all text was written.
-#[derive(Drop)]
+#[derive(Clone, Copy)]
 struct Place {
     host: Sdmmc,
     body_at: usize,

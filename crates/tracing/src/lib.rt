@@ -1,4 +1,6 @@
 // A book traced on standard output, for the programs that trace books.
+#![tactic(auto)]
+
 ghost use Rattle.std.specs.Prelude.{◌≡◌, length};
 ghost use Rattle.text.specs.Ink.{inked};
 ghost use Rattle.types.specs.Words.{words_of};

@@ -8,19 +8,19 @@ use crate::register::{BlockCount, Protection, SizeAnswer, Wide};
 use crate::status::Scr;
 
 // SDSC cards are addressed by byte, all later ones (SDHC, SDXC) by block.
-#[derive(Drop)]
+#[derive(Clone, Copy)]
 pub enum CardCapacity {
     SDSC,
     SDHC,
 }
 
-#[derive(Drop)]
+#[derive(Clone, Copy)]
 pub enum Signalling {
     SDR12,
     SDR25,
 }
 
-#[derive(Drop)]
+#[derive(Clone, Copy)]
 pub struct Card {
     pub card_type: CardCapacity,
     pub ocr: u32,
@@ -33,7 +33,7 @@ pub struct Card {
     pub protection: Protection,
 }
 
-#[derive(Drop)]
+#[derive(Clone, Copy)]
 pub enum AddressAnswer {
     Address(u32),
     Refused(Error),

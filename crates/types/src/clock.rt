@@ -6,25 +6,25 @@ ghost use Rattle.types.specs.Least.{Searched};
 use crate::error::Error;
 
 // A frequency in hertz, as in the Rust: never a count of blocks or of words.
-#[derive(Drop)]
+#[derive(Clone, Copy)]
 pub struct Hertz(pub u32);
 
 // What the clock register is to be set to, and the frequency that comes of it.
-#[derive(Drop)]
+#[derive(Clone, Copy)]
 pub struct Clock {
     pub divisor: u8,
     pub bypass: bool,
     pub frequency: Hertz,
 }
 
-#[derive(Drop)]
+#[derive(Clone, Copy)]
 pub enum ClockAnswer {
     Set(Clock),
     Refused(Error),
 }
 
 // The least divisor that brings a source down to a request, or none that the register has room for.
-#[derive(Drop)]
+#[derive(Clone, Copy)]
 enum Divisor {
     Least(u32),
     None,

@@ -5,7 +5,7 @@ ghost use Rattle.types.specs.Settings.{defaults, made_of};
 use crate::clock::Hertz;
 use crate::error::Error;
 
-#[derive(Drop)]
+#[derive(Clone, Copy)]
 pub struct Config {
     pub data_transfer_timeout: u32,
     pub software_timeout_ms: u32,
@@ -16,7 +16,7 @@ pub struct Config {
 }
 
 // What the settings come to: a host can be made of them, or it is refused.
-#[derive(Drop)]
+#[derive(Clone, Copy)]
 pub enum ConfigAnswer {
     Sound,
     Refused(Error),

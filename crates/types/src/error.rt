@@ -3,7 +3,7 @@ ghost use Rattle.std.specs.Prelude.{◌≡◌};
 ghost use Rattle.types.specs.Answer.{field_number, error_told, answer_told, carried};
 
 // What made a card unsupported: a field of its CSD, its CSD and OCR, its voltages, or that it takes no application command.
-#[derive(Drop)]
+#[derive(Clone, Copy)]
 pub enum Field {
     CsdVersion,
     BlockLength,
@@ -15,7 +15,7 @@ pub enum Field {
     AppCommand,
 }
 
-#[derive(Drop)]
+#[derive(Clone, Copy)]
 pub enum Error {
     Timeout,
     SoftwareTimeout,
@@ -43,7 +43,7 @@ pub enum Error {
 
 // What a call comes to. The last three are not the driver's: the script had no word left, the row list no room, or the
 // book that holds the call is none.
-#[derive(Drop)]
+#[derive(Clone, Copy)]
 pub enum Answer {
     Accepted,
     Refused(Error),

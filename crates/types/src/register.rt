@@ -8,36 +8,36 @@ ghost use Rattle.types.specs.Leaf.{count_of, rate_of, size_of, protection_of, st
 use crate::error::{Error, Field};
 
 // CID and CSD: bit 127 is the top bit of `high`, bit 0 the lowest of `low`.
-#[derive(Drop)]
+#[derive(Clone, Copy)]
 pub struct Wide {
     pub high: u64,
     pub low: u64,
 }
 
 // A count of blocks of 512 bytes: never a frequency, and more than 32 bits hold.
-#[derive(Drop)]
+#[derive(Clone, Copy)]
 pub struct BlockCount(pub u64);
 
 // How a card is protected against writing: for good, or for the time being.
-#[derive(Drop)]
+#[derive(Clone, Copy)]
 pub struct Protection {
     pub permanent: bool,
     pub temporary: bool,
 }
 
-#[derive(Drop)]
+#[derive(Clone, Copy)]
 pub enum CountAnswer {
     Blocks(BlockCount),
     Refused(Error),
 }
 
-#[derive(Drop)]
+#[derive(Clone, Copy)]
 pub enum RateAnswer {
     Rate(u32),
     Refused(Error),
 }
 
-#[derive(Drop)]
+#[derive(Clone, Copy)]
 pub enum SizeAnswer {
     Bytes(u64),
     Refused(Error),

@@ -7,18 +7,18 @@ ghost use Rattle.types.specs.Sd.{ready_of};
 use crate::error::Error;
 
 // What a status word says of a data transfer.
-#[derive(Drop)]
+#[derive(Clone, Copy)]
 pub enum DataAnswer {
     Clean,
     Failed(Error),
 }
 
 // The card's own status, as it answers commands with it.
-#[derive(Drop)]
+#[derive(Clone, Copy)]
 pub struct CardStatus(pub u32);
 
 // The card's configuration register.
-#[derive(Drop)]
+#[derive(Clone, Copy)]
 pub struct Scr(pub u64);
 
 impl DataAnswer {

@@ -27,7 +27,7 @@ use types::status::Scr;
 
 // What a call begins with: a refusal; the reset rows of an initialisation, by its clock of identification and the asked
 // frequency; the ready wait of a read or of a write, by its address and blocks; or CMD55 of a status call.
-#[derive(Drop)]
+#[derive(Clone, Copy)]
 pub enum First {
     Refused(Error),
     Resets(Clock, u32),

@@ -6,7 +6,7 @@ use types::error::Answer;
 
 // A call under way: what it goes by, which stays as it was begun; what the host holds of the line; the words that the call
 // keeps; what it has come to know of the card; and where it stands.
-#[derive(Drop)]
+#[derive(Clone, Copy)]
 pub struct Call {
     pub job: Job,
     pub line: Line,
@@ -16,14 +16,14 @@ pub struct Call {
 }
 
 // Whether a call is over, and with which answer.
-#[derive(Drop)]
+#[derive(Clone, Copy)]
 pub enum Outcome {
     Over(Answer),
     Not,
 }
 
 // What a call has come to: its answer and the next host, once it is over; until then the host is the one before it.
-#[derive(Drop)]
+#[derive(Clone, Copy)]
 pub struct Closed {
     pub outcome: Outcome,
     pub host: Sdmmc,

@@ -74,7 +74,7 @@ fn ended(job: Job, known: Known, held: [u32; 16], line: Line, end: End) -> Close
 }
 
 // Whether a call is over, and how it ended.
-#[derive(Drop)]
+#[derive(Clone, Copy)]
 pub enum Ends {
     Over(End),
     Not,

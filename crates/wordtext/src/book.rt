@@ -8,13 +8,13 @@ use crate::{place, scan};
 use types::words;
 
 // What a text comes to: so many words, or the first thing that is none, with its place.
-#[derive(Drop)]
+#[derive(Clone, Copy)]
 pub enum Reading {
     Words(usize),
     Refused(Cause, Place),
 }
 
-#[derive(Drop)]
+#[derive(Clone, Copy)]
 pub struct Book {}
 
 impl Book {

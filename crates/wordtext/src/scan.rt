@@ -5,7 +5,7 @@ ghost use Rattle.wordtext.specs.Text.{state_of, step, read_of, Holds};
 use crate::token::{Cause, Given, Token};
 
 // How far a reading has come: what is in hand, where that began, and how many words there are.
-#[derive(Drop)]
+#[derive(Clone, Copy)]
 pub struct Scan {
     pub token: Token,
     pub start: usize,

@@ -5,7 +5,7 @@ ghost use Rattle.wordtext.specs.Token.{with_digit, decimal_of, hexadecimal_of, g
 use crate::byte;
 
 // Why something in a text is no word of the book.
-#[derive(Drop)]
+#[derive(Clone, Copy)]
 pub enum Cause {
     NotANumber,
     TooLarge,
@@ -14,7 +14,7 @@ pub enum Cause {
 
 // What is in hand: nothing, between two words; a comment; `0`, which may become `0x`; `0x` without a digit; a number in
 // decimal or hexadecimal; what is no word, for good.
-#[derive(Drop)]
+#[derive(Clone, Copy)]
 pub enum Token {
     Nothing,
     Comment,
@@ -26,21 +26,21 @@ pub enum Token {
 }
 
 // A number with one digit more.
-#[derive(Drop)]
+#[derive(Clone, Copy)]
 pub enum Grown {
     To(u32),
     Not(Cause),
 }
 
 // The word that a byte completes, if it does.
-#[derive(Drop)]
+#[derive(Clone, Copy)]
 pub enum Given {
     Word(u32),
     Nothing,
 }
 
 // Whether all was right so far.
-#[derive(Drop)]
+#[derive(Clone, Copy)]
 pub enum Verdict {
     Right,
     Wrong(Cause),
