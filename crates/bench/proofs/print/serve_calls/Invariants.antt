@@ -1,0 +1,15 @@
+use Prim.Native.Nat.{◌-◌}
+use mathlib.Core.Path.{◌≡◌}
+use native.Mathlib.Omega.{arith}
+use Rattle.book.specs.Layout.{count_of}
+use Rattle.book.proofs.Causes.{good-words}
+use Rattle.book.proofs.Reached.{body_within}
+use Rattle.bench.proofs.Turns.{Serving, first-turn, next-turn, last_turn, blocks-of}
+use borrow.Author.Rules.{rules}
+use Rattle.bench.proofs.print.serve_calls.Given as goal
+
+abbrev pub invariant-loop-k : goal.invariant-loop-k
+invariant-loop-k l = Serving l.words l.initial.turn.host l.calls l.at l.k l.turn.host l.turn.body_at l.turn.at l.out × (l.initial.out ≡ count_of l.words)
+
+abbrev pub decreases-loop-k : goal.decreases-loop-k
+decreases-loop-k l = l.initial.out - l.k

@@ -1,0 +1,11 @@
+use mathlib.Core.Path.{sym}
+use lib.Seq.{length-take-le}
+use Rattle.text.proofs.Ink.{stands-within}
+use borrow.Author.Rules.{rules}
+use Rattle.bookwords.proofs.refuse.Goals as goal
+
+pub slice_bounds-write_all-end : goal.slice_bounds-write_all-end
+slice_bounds-write_all-end c = stands-within c.put_refusal-n.ensures
+
+pub slice_bounds-write_all-end-2 : goal.slice_bounds-write_all-end-2
+slice_bounds-write_all-end-2 c = sym (length-take-le _ _ (stands-within c.put_refusal-n.ensures))

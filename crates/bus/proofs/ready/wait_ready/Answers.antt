@@ -1,0 +1,39 @@
+use lib.ListN.{length}
+use mathlib.Core.List.{List}
+use mathlib.Core.Path.{◌≡◌, refl, sym, ◌∙◌}
+use mathlib.Core.Bool.{Bool, false}
+use Prim.Native.Nat.{ℕ, ◌-◌}
+use native.Mathlib.Omega.{arith}
+use Rattle.tape.specs.declared.progress.Progress.{Progress}
+use Rattle.bus.specs.Ready.{try_ready, wait_ready}
+use Rattle.tape.specs.Run.{at}
+use Rattle.tape.proofs.Laws.{refusal, forget, not-over, still-going}
+use Rattle.tape.proofs.Loops.{Turned, no_turn, next-turn, last_turn, out-of-turns}
+use Rattle.tape.specs.Layout.{rows_in}
+use borrow.Author.Rules.{rules}
+use Rattle.bus.proofs.ready.wait_ready.Invariants.{Tried}
+use Rattle.bus.proofs.ready.wait_ready.Goals as goal
+
+pub loop-i-init : goal.loop-i-init
+loop-i-init c = record { room = refl; turned = no_turn }
+
+pub returns-then-over : goal.returns-then-over
+unfolding wait_ready
+returns-then-over c = forget (last_turn c.loop-i.invariant.turned c.loop-i-test.true c.try_ready-tried.ensures (sym c.over.ensures ∙ c.if-over.true))
+
+pub loop-i-preserved : goal.loop-i-preserved
+loop-i-preserved c = let on = sym c.over.ensures ∙ c.if-over.false in
+    record {
+      room = search rules;
+      turned = rw (still-going (not-over _ _ on) c.resumed-q.ensures) (next-turn c.loop-i.invariant.turned c.loop-i-test.true c.try_ready-tried.ensures on);
+    }
+
+pub returns : goal.returns
+unfolding wait_ready
+returns c = forget (out-of-turns c.loop-i.invariant.turned c.loop-i-test.false (refusal (c.refuse.ensures _ _)))
+
+pub overflow_add-i : goal.overflow_add-i
+overflow_add-i c = omega (arith, c.well_formed.1.1.1.1.0)
+
+pub loop-i-smaller : goal.loop-i-smaller
+loop-i-smaller c = omega arith

@@ -1,0 +1,11 @@
+use mathlib.Core.Path.{◌≡◌}
+use lib.ListN.{length}
+use Rattle.desk.proofs.Piles.{due, Stands, onward, stands_in}
+use borrow.Author.Rules.{rules}
+use Rattle.desk.proofs.pile.next_book.Given as goal
+
+abbrev pub invariant-loop-stage : goal.invariant-loop-stage
+invariant-loop-stage l = Stands l.stage (length l.buffer) × (length l.buffer ≡ length l.initial.buffer)
+
+abbrev pub decreases-loop-stage : goal.decreases-loop-stage
+decreases-loop-stage l = due l.stage

@@ -1,0 +1,17 @@
+use Rattle.text.proofs.Ink.{and_then}
+use Rattle.desk.specs.Refusal.{refusal_text}
+use Rattle.desk.proofs.Refusals.{said, nothing}
+use borrow.Author.Rules.{rules}
+use Rattle.desk.proofs.room.put_refusal.Goals as goal
+
+pub returns-in-Rows : goal.returns-in-Rows
+unfolding refusal_text
+returns-in-Rows c = said c.args.program c.args.wish c.requires (rw c.in-Rows.is (nothing _))
+
+pub returns-in-TooMany : goal.returns-in-TooMany
+unfolding refusal_text
+returns-in-TooMany c = said c.args.program c.args.wish c.requires (rw c.in-TooMany.is (and_then c.put_name-named.ensures c.put.ensures))
+
+pub returns-in-NoRoom : goal.returns-in-NoRoom
+unfolding refusal_text
+returns-in-NoRoom c = said c.args.program c.args.wish c.requires (rw c.in-NoRoom.is (and_then c.put_name-named-in-NoRoom.ensures c.put-in-NoRoom.ensures))

@@ -1,0 +1,11 @@
+use mathlib.Core.Bool.{true, false}
+use mathlib.Core.Path.{◌≡◌}
+use Rattle.text.proofs.Ink.{nothing}
+use borrow.Author.Rules.{rules}
+use Rattle.events.proofs.flags.put_none.Goals as goal
+
+pub returns-then-said : goal.returns-then-said
+returns-then-said c = let told : c.args.said ≡ true = c.if-said.true in rw told (nothing c.least.ensures)
+
+pub returns : goal.returns
+returns c = let untold : c.args.said ≡ false = c.if-said.false in rw untold c.put.ensures

@@ -1,0 +1,5 @@
+use borrow.Author.Rules.{rules}
+use Rattle.host.proofs.calls.read_transfer.Goals as goal
+
+pub returns : goal.returns
+returns c = rw c.read_index.ensures

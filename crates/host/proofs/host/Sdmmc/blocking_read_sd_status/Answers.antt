@@ -1,0 +1,6 @@
+use Rattle.host.proofs.Ran.{status-read}
+use borrow.Author.Rules.{rules}
+use Rattle.host.proofs.host.Sdmmc.blocking_read_sd_status.Goals as goal
+
+pub returns : goal.returns
+returns c = record { answered = status-read _ _ _ _ _ c.status_called-called.ensures.answered c.given_status-status.ensures; listed = c.status_called-called.ensures.listed }

@@ -1,0 +1,6 @@
+use mathlib.Core.List.{[]}
+use borrow.Author.Rules.{rules}
+use Rattle.host.proofs.host.Sdmmc.ends_before.Goals as goal
+
+pub returns : goal.returns
+returns c = λ l. rw c.with-kept.ensures at (c.ends.ensures [] l)

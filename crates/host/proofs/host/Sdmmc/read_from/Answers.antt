@@ -1,0 +1,28 @@
+use mathlib.Core.List.{List, []}
+use mathlib.Core.Path.{ap, sym, ◌∙◌}
+use Prim.Native.Nat.{ℕ}
+use Rattle.bus.specs.Transfer.{incoming}
+use Rattle.host.specs.Calls.{Came, called_of, blocks_plan, blocks_next, blocks_from, blocks_filled}
+use Rattle.host.proofs.Ran.{ends-list, ends-taken, kept-none, going_on, stopped-there}
+use Rattle.host.proofs.Laying.{none_filled}
+use borrow.Author.Rules.{rules}
+use Rattle.host.proofs.host.Sdmmc.read_from.Goals as goal
+
+pub returns-in-Going : goal.returns-in-Going
+unfolding blocks_from
+returns-in-Going c = let host = c.args.self in
+    let got = c.read_data.ensures in
+    let came = going_on host (blocks_plan host incoming c.args.address c.args.blocks) (blocks_next host) _ _ _ (rw c.start.ensures at c.wait_ready-ready.ensures) c.in-Going.is in
+    record { answered = got.0 ∙ ap called_of came; listed = got.1.0 ∙ ap (λ (x : Came). x.list) came; filled = got.1.1 ∙ ap (λ (x : Came). blocks_filled x.taken c.args.buffer.now) came }
+
+pub returns-in-Stopped : goal.returns-in-Stopped
+unfolding blocks_from
+returns-in-Stopped c = let host = c.args.self in
+    let buffer = c.args.buffer.now in
+    let came = stopped-there host (blocks_plan host incoming c.args.address c.args.blocks) (blocks_next host) _ _ _ (rw c.start.ensures at c.wait_ready-ready.ensures) _ c.in-Stopped.is in record {
+      answered = c.ends_before.ensures _ ∙ ap called_of came;
+      listed = sym (ends-list host _ host _ _ _) ∙ ap (λ (x : Came). x.list) came;
+      filled = sym (none_filled buffer)
+          ∙ ap (λ (w : List ℕ). blocks_filled w buffer) (sym (ends-taken host _ host [] _ _ (kept-none _)))
+          ∙ ap (λ (x : Came). blocks_filled x.taken buffer) came;
+    }

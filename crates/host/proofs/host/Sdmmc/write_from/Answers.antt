@@ -1,0 +1,19 @@
+use mathlib.Core.Path.{ap, sym, ◌∙◌}
+use Rattle.types.specs.Words.{words_of}
+use Rattle.bus.specs.Transfer.{outgoing}
+use Rattle.host.specs.Calls.{Came, called_of, blocks_plan, blocks_next, blocks_from}
+use Rattle.host.proofs.Ran.{ends-list, going_on, stopped-there}
+use borrow.Author.Rules.{rules}
+use Rattle.host.proofs.host.Sdmmc.write_from.Goals as goal
+
+pub returns-in-Going : goal.returns-in-Going
+unfolding blocks_from
+returns-in-Going c = let host = c.args.self in
+    let got = c.write_data.ensures in
+    let came = going_on host (blocks_plan host (outgoing (words_of c.args.data.now)) c.args.address c.args.blocks) (blocks_next host) _ _ _ (rw c.start.ensures at c.wait_ready-waited.ensures) c.in-Going.is in
+    record { answered = got.0 ∙ ap called_of came; listed = got.1 ∙ ap (λ (x : Came). x.list) came }
+
+pub returns-in-Stopped : goal.returns-in-Stopped
+unfolding blocks_from
+returns-in-Stopped c = let host = c.args.self in
+    let came = stopped-there host (blocks_plan host (outgoing (words_of c.args.data.now)) c.args.address c.args.blocks) (blocks_next host) _ _ _ (rw c.start.ensures at c.wait_ready-waited.ensures) _ c.in-Stopped.is in record { answered = c.ends_before.ensures _ ∙ ap called_of came; listed = sym (ends-list host _ host _ _ _) ∙ ap (λ (x : Came). x.list) came }

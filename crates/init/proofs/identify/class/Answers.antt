@@ -1,0 +1,8 @@
+use borrow.Author.Tests.{eq-eqb, ne_eqb}
+use Rattle.init.proofs.identify.class.Goals as goal
+
+pub returns-then-ocr-ne0 : goal.returns-then-ocr-ne0
+returns-then-ocr-ne0 c = rw (ne_eqb _ _ c.if-ocr-ne0.true)
+
+pub returns-else-ocr-ne0 : goal.returns-else-ocr-ne0
+returns-else-ocr-ne0 c = rw (eq-eqb _ _ c.if-ocr-ne0.false)

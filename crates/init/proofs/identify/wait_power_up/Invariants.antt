@@ -1,0 +1,26 @@
+use lib.ListN.{length}
+use mathlib.Core.List.{List}
+use mathlib.Core.Path.{◌≡◌, refl, sym, ◌∙◌}
+use mathlib.Core.Bool.{Bool}
+use Prim.Native.Nat.{ℕ, ◌-◌}
+use native.Mathlib.Omega.{arith}
+use Rattle.tape.specs.declared.progress.Progress.{Progress}
+use Rattle.init.specs.declared.settings.Settings.{Settings}
+use Rattle.tape.specs.Run.{at}
+use Rattle.init.specs.Initialise.{powered_up, try_power_up, wait_power_up}
+use Rattle.tape.proofs.Laws.{refusal}
+use Rattle.tape.proofs.Loops.{Turned, no_turn, next-turn, last_turn, out-of-turns}
+use Rattle.tape.specs.Layout.{rows_in}
+use borrow.Author.Rules.{rules}
+use Rattle.init.proofs.identify.wait_power_up.Given as goal
+
+-- after i attempts of the loop that began at p with these rows
+pub record Tried (script : List ℕ) (set : Settings) (version2 : Bool) (attempts i : ℕ) (rows₀ rows : List ℕ) (p q : Progress) : Type 0 where
+  room : length rows ≡ length rows₀
+  turned : Turned script ℕ 0 (try_power_up set version2) powered_up attempts i (at p (rows_in rows₀)) (at q (rows_in rows))
+
+abbrev pub invariant-loop-i : goal.invariant-loop-i
+invariant-loop-i l = Tried l.script l.version2 l.attempts l.initial.rows l.i l.settings l.rows l.initial.q l.q
+
+abbrev pub decreases-loop-i : goal.decreases-loop-i
+decreases-loop-i l = l.initial.rows - l.i

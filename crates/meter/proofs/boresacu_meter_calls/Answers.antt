@@ -1,0 +1,5 @@
+use borrow.Author.Rules.{rules}
+use Rattle.meter.proofs.boresacu_meter_calls.Goals as goal
+
+pub returns : goal.returns
+returns c = c.serve_list.ensures

@@ -1,0 +1,27 @@
+use Prim.Native.Nat.{◌-◌}
+use mathlib.Core.Path.{◌≡◌, refl, ap}
+use native.Mathlib.Nat.{sub-zero}
+use native.Mathlib.Omega.{arith}
+use lib.ListN.{length}
+use Rattle.tape.specs.Layout.{rows_in}
+use Rattle.book.specs.Layout.{contents_of}
+use Rattle.meter.specs.Metered.{Served, served_from}
+use Rattle.meter.proofs.Served.{Serving, next-served, all-served}
+use borrow.Author.Rules.{rules}
+use Rattle.meter.proofs.serve_calls.Goals as goal
+
+pub loop-k-init : goal.loop-k-init
+loop-k-init c = (record { within = omega arith; rest = rw (c.contents.ensures, sub-zero) }, (refl, refl))
+
+pub loop-k-preserved : goal.loop-k-preserved
+loop-k-preserved c = let done = c.serve_call-turn.ensures in (
+  next-served c.loop-k.invariant.0 c.loop-k-test.true done.1 done.0,
+  (search (rules, c.rows-1.given), search (rules, c.buffer-1.given)),
+)
+
+pub returns : goal.returns
+returns c = let all = all-served c.loop-k.invariant.0 c.loop-k-test.false in
+    record { told = ap (λ (x : Served). x.told) all; listed = ap (λ (x : Served). x.list) all; filled = ap (λ (x : Served). x.buffer) all }
+
+pub loop-k-smaller : goal.loop-k-smaller
+loop-k-smaller c = omega arith

@@ -1,0 +1,16 @@
+use Prim.Native.Nat.{◌-◌, ◌≤◌}
+use mathlib.Core.Path.{◌≡◌}
+use native.Mathlib.Omega.{arith}
+use Rattle.text.specs.Ink.{Laid}
+use Rattle.text.proofs.Ink.{ink_length, nothing}
+use Rattle.report.specs.Report.{blocks_text}
+use Rattle.report.proofs.Lines.{blocks-none, block_more}
+use borrow.Author.Rules.{rules}
+use Rattle.report.proofs.blocks.put_blocks.Given as goal
+
+-- the first i blocks are laid in
+abbrev pub invariant-loop-i : goal.invariant-loop-i
+invariant-loop-i l = Laid l.buffer (blocks_text l.i l.n) l.at l.place l.out × (l.i ≤ l.initial.out)
+
+abbrev pub decreases-loop-i : goal.decreases-loop-i
+decreases-loop-i l = l.initial.out - l.i

@@ -1,0 +1,30 @@
+use mathlib.Core.Path.{◌≡◌}
+use Prim.Native.Nat.{◌-◌, ◌≤◌}
+use native.Mathlib.Omega.{arith}
+use Rattle.text.specs.Ink.{Laid}
+use Rattle.text.proofs.Ink.{ink_length, nothing}
+use Rattle.tape.specs.Layout.{rows_in}
+use Rattle.report.specs.Report.{rows_text}
+use Rattle.report.proofs.Lines.{rows_none, row_more}
+use borrow.Author.Rules.{rules}
+use Rattle.report.proofs.rows.put_rows.Goals as goal
+
+pub loop-i-init : goal.loop-i-init
+loop-i-init c = (rw (rows_none (rows_in c.args.rows.now)) (nothing c.least-place.ensures), omega arith)
+
+pub loop-i-preserved : goal.loop-i-preserved
+loop-i-preserved c = let line = rw c.row_at-row.ensures at c.put_line-place.ensures in
+    (row_more (rows_in c.args.rows.now) c.loop-i.i c.loop-i.invariant.0 line, omega arith)
+
+pub shape_of-out : goal.shape_of-out
+shape_of-out c = rw c.loop-i.invariant.0.laid (ink_length _ _ _)
+
+pub returns : goal.returns
+returns c = let all : c.loop-i.i ≡ c.args.n = omega arith in
+    rw all at c.loop-i.invariant.0
+
+pub overflow_add-i : goal.overflow_add-i
+overflow_add-i c = omega arith
+
+pub loop-i-smaller : goal.loop-i-smaller
+loop-i-smaller c = omega arith

@@ -1,0 +1,17 @@
+use Prim.Native.Nat.{ℕ, ◌-◌, ◌≤◌}
+use mathlib.Core.Path.{◌≡◌}
+use mathlib.Core.List.{List}
+use native.Mathlib.Omega.{arith}
+use Rattle.text.specs.Ink.{Laid}
+use Rattle.text.proofs.Ink.{ink_length, and_then}
+use Rattle.report.specs.Report.{words_text}
+use Rattle.report.proofs.Lines.{words-one, word_more}
+use borrow.Author.Rules.{rules}
+use Rattle.report.proofs.status.put_words.Given as goal
+
+-- the words up to word i are laid in, once word 0 is
+abbrev pub invariant-loop-i : goal.invariant-loop-i
+invariant-loop-i l = ((first : List ℕ) → Laid l.words (words_text 0 l.initial.out) first l.initial.place l.at → Laid l.words (words_text l.i l.initial.out) first l.place l.out) × (l.i ≤ 15)
+
+abbrev pub decreases-loop-i : goal.decreases-loop-i
+decreases-loop-i l = 15 - l.i

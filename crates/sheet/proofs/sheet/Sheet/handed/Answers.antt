@@ -1,0 +1,14 @@
+use mathlib.Core.Path.{refl, sym}
+use lib.Seq.{length-take-le}
+use Rattle.sheet.proofs.Sheets.{never, not-off}
+use borrow.Author.Rules.{rules}
+use Rattle.sheet.proofs.sheet.Sheet.handed.Goals as goal
+
+pub slice_bounds-write_all-end : goal.slice_bounds-write_all-end
+slice_bounds-write_all-end c = sym (length-take-le _ _ (search rules))
+
+pub returns-then-not-self : goal.returns-then-not-self
+returns-then-not-self c = record { empty = refl; kept = λ e. never e }
+
+pub returns : goal.returns
+returns c = record { empty = refl; kept = λ e. not-off _ c.if-not-self.false }

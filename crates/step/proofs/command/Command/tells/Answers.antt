@@ -1,0 +1,7 @@
+use Rattle.step.specs.Command.{part_plan, command_next}
+use borrow.Author.Rules.{rules}
+use Rattle.step.proofs.command.Command.tells.Goals as goal
+
+pub returns : goal.returns
+unfolding command_next part_plan
+returns c = λ h. rw c.at.ensures

@@ -1,0 +1,27 @@
+use Rattle.step.specs.Transfer.{sends_of}
+use borrow.Author.Rules.{rules}
+use Rattle.step.proofs.phase.Phase.sends.Goals as goal
+
+pub returns-in-Scr : goal.returns-in-Scr
+unfolding sends_of
+returns-in-Scr c = rw c.in-Scr.is
+
+pub returns-in-Check : goal.returns-in-Check
+unfolding sends_of
+returns-in-Check c = rw c.in-Check.is
+
+pub returns-in-Switch : goal.returns-in-Switch
+unfolding sends_of
+returns-in-Switch c = rw c.in-Switch.is
+
+pub returns-in-Status : goal.returns-in-Status
+unfolding sends_of
+returns-in-Status c = rw c.in-Status.is
+
+pub returns-in-Blocks : goal.returns-in-Blocks
+unfolding sends_of
+returns-in-Blocks c = rw c.in-Blocks.is
+
+pub returns-in-Sends : goal.returns-in-Sends
+unfolding sends_of
+returns-in-Sends c = rw c.in-Sends.is

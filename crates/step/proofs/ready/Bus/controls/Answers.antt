@@ -1,0 +1,11 @@
+use Rattle.step.specs.Transfer.{data_plan}
+use Rattle.step.proofs.Phases as P
+use borrow.Author.Rules.{rules}
+use Rattle.step.proofs.ready.Bus.controls.Goals as goal
+
+pub returns-then-sends : goal.returns-then-sends
+returns-then-sends c = λ ws h. rw c.top-top.ensures (P.controls_sends c.args.self c.args.phase h ws (rw c.sends.ensures at c.if-sends.true))
+
+pub returns-else-sends : goal.returns-else-sends
+unfolding data_plan
+returns-else-sends c = λ ws h. P.controls_reads c.args.self c.args.phase h ws (rw c.sends.ensures at c.if-sends.false)

@@ -1,0 +1,12 @@
+use mathlib.Core.Path.{sym, ◌∙◌}
+use Rattle.step.specs.Transfer.{data_plan}
+use Rattle.step.proofs.Phases as P
+use borrow.Author.Rules.{rules}
+use Rattle.step.proofs.ready.Bus.looks.Goals as goal
+
+pub returns-in-Clean : goal.returns-in-Clean
+unfolding data_plan
+returns-in-Clean c = λ ws h. P.again_clean c.args.self c.args.phase h ws _ _ (sym c.data_error-answer.ensures ∙ c.in-Clean.is)
+
+pub returns-in-Failed : goal.returns-in-Failed
+returns-in-Failed c = λ ws h. c.refuses.ensures ws h ∙ P.again_bad c.args.self c.args.phase h ws _ _ _ (sym c.data_error-answer.ensures ∙ c.in-Failed.is)

@@ -1,0 +1,5 @@
+use borrow.Author.Rules.{rules}
+use Rattle.step.proofs.ready.Bus.refuses.Goals as goal
+
+pub returns : goal.returns
+returns c = c.drops.ensures

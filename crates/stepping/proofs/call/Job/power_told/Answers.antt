@@ -1,0 +1,10 @@
+use borrow.Author.Tests.{eq-eqb, ne_eqb}
+use Rattle.stepping.proofs.Follows as F
+use borrow.Author.Rules.{rules}
+use Rattle.stepping.proofs.call.Job.power_told.Goals as goal
+
+pub returns-then-words-eq0 : goal.returns-then-words-eq0
+returns-then-words-eq0 c = λ ws h. F.power_untaken c.args.self c.args.known h ws c.args.words _ (eq-eqb _ _ c.if-words-eq0.true)
+
+pub returns : goal.returns
+returns c = λ ws h. rw c.condition-condition.ensures (F.power_taken c.args.self c.args.known h ws c.args.words _ (ne_eqb _ _ c.if-words-eq0.false))

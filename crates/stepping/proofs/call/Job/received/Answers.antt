@@ -1,0 +1,15 @@
+use mathlib.Core.Path.{refl, ap, ◌∙◌}
+use Rattle.stepping.specs.Ahead.{stand_next}
+use Rattle.stepping.specs.declared.call.Stand.{Stand}
+use Rattle.stepping.proofs.Standing as S
+use borrow.Author.Rules.{rules}
+use Rattle.stepping.proofs.call.Job.received.Goals as goal
+
+pub returns-in-On : goal.returns-in-On
+returns-in-On c = λ g. rw c.in-On.is (ap (λ (s : Stand). stand_next c.args.self c.args.held g s c.args.line) c.at.ensures ∙ S.data_on c.args.self c.args.known c.args.line c.args.held g _ _)
+
+pub returns-in-Done : goal.returns-in-Done
+returns-in-Done c = λ g. rw c.in-Done.is (c.follows.ensures _ g _ refl ∙ c.got.ensures g _ refl ∙ S.data_done c.args.self c.args.known c.args.line c.args.held g _)
+
+pub returns-in-Failed : goal.returns-in-Failed
+returns-in-Failed c = λ g. rw c.in-Failed.is (ap (λ (s : Stand). stand_next c.args.self c.args.held g s c.args.line) c.at-in-Failed.ensures ∙ c.stands.ensures _ g _ refl ∙ c.lost.ensures _ _ ∙ S.data_failed c.args.self c.args.known c.args.line c.args.held g _ _)

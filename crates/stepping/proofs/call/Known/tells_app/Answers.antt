@@ -1,0 +1,6 @@
+use mathlib.Core.Path.{refl}
+use borrow.Author.Rules.{rules}
+use Rattle.stepping.proofs.call.Known.tells_app.Goals as goal
+
+pub returns : goal.returns
+returns c = refl

@@ -1,0 +1,11 @@
+use Rattle.tape.specs.Run.{run}
+use Rattle.tape.proofs.Laws.{from-going, from-stopped}
+use borrow.Author.Rules.{rules}
+use Rattle.tape.proofs.progress.give_flag.Goals as goal
+
+pub returns-in-Going : goal.returns-in-Going
+unfolding run
+returns-in-Going c = λ s l. from-going c.in-Going.is (rw c.in-Going.is)
+
+pub returns-in-Stopped : goal.returns-in-Stopped
+returns-in-Stopped c = λ s l. from-stopped c.in-Stopped.is

@@ -1,0 +1,20 @@
+use Prim.Native.Nat.{ℕ, ◌+◌, ◌*◌, ◌-◌, ◌/◌, ◌≤◌}
+use mathlib.Core.Path.{◌≡◌, refl, ap}
+use mathlib.Core.List.{List}
+use native.Mathlib.Nat.{zero-add}
+use native.Mathlib.Omega.{arith}
+use lib.ListN.{length, take, drop}
+use Rattle.types.specs.Words.{words_of}
+use Rattle.tape.specs.Layout.{rows_in}
+use Rattle.tape.specs.Run.{at, Did}
+use Rattle.tape.specs.Steps.{send_from, send_words}
+use Rattle.tape.proofs.Laws.{seq, stay}
+use Rattle.tape.proofs.Sending.{sent-joined, block_did}
+use borrow.Author.Rules.{rules}
+use Rattle.tape.proofs.send.send_data.Given as goal
+
+abbrev pub invariant-loop-k : goal.invariant-loop-k
+invariant-loop-k l = ((s : List ℕ) → Did s (send_words (words_of l.blocks) (128 * l.k)) (at l.initial.sent (rows_in l.data)) (at l.sent (rows_in l.rows))) × (l.k ≤ l.initial.rows) × (length l.rows ≡ length l.data)
+
+abbrev pub decreases-loop-k : goal.decreases-loop-k
+decreases-loop-k l = l.initial.rows - l.k

@@ -1,0 +1,8 @@
+use Rattle.tape.specs.Steps.{hold_signalling}
+use Rattle.tape.proofs.Laws.{looking}
+use borrow.Author.Rules.{rules}
+use Rattle.tape.proofs.steps.hold_signalling.Goals as goal
+
+pub returns : goal.returns
+unfolding hold_signalling
+returns c = λ s l. looking _ (c.holding.ensures s l)

@@ -1,0 +1,14 @@
+use Prim.Native.Nat.{◌+◌, ◌-◌, ◌≤◌}
+use mathlib.Core.Path.{◌≡◌}
+use lib.ListN.{length}
+use Rattle.telling.proofs.Books.{Stands, first, one_more, all-calls, some-calls}
+use borrow.Author.Rules.{rules}
+use Rattle.telling.proofs.tell_calls.Given as goal
+
+abbrev pub invariant-loop-k : goal.invariant-loop-k
+invariant-loop-k l =     (l.k ≤ l.calls)
+    × (length l.out ≡ length l.initial.out)
+    × Stands l.words l.room (record { host = l.initial.place.host; l.place = l.body_at; l.out = l.initial.out }) l.k l.place.host l.place.body_at l.out
+
+abbrev pub decreases-loop-k : goal.decreases-loop-k
+decreases-loop-k l = l.calls - l.k

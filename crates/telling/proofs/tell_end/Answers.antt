@@ -1,0 +1,12 @@
+use Rattle.telling.proofs.Lines.{as_leaf, still-fits, ends-leaf}
+use borrow.Author.Rules.{rules}
+use Rattle.telling.proofs.tell_end.Goals as goal
+
+pub tell_state-state-requires : goal.tell_state-state-requires
+tell_state-state-requires c = still-fits c.tell_called-line.ensures c.requires
+
+pub handed-requires : goal.handed-requires
+handed-requires c = (still-fits state.tell_state.ensures (still-fits line.tell_called.ensures c.requires)).0
+
+pub returns : goal.returns
+returns c = ends-leaf line.tell_called.ensures state.tell_state.ensures

@@ -1,0 +1,22 @@
+use mathlib.Core.Path.{ap}
+use Rattle.tape.specs.Layout.{rows_in}
+use Rattle.host.specs.declared.host.Called.{Called}
+use Rattle.telling.proofs.Lines.{still-fits}
+use Rattle.telling.proofs.Books.{call-out}
+use borrow.Author.Rules.{rules}
+use Rattle.telling.proofs.tell_exact.Goals as goal
+
+pub tell_events-told-requires : goal.tell_events-told-requires
+tell_events-told-requires c = still-fits c.tell_begins-begins.ensures (search rules, c.requires)
+
+pub tell_end-sheet-requires : goal.tell_end-sheet-requires
+tell_end-sheet-requires c = c.tell_events-told.ensures.fits
+
+pub returns : goal.returns
+returns c = let a = c.args in
+    let said = c.tell_events-told.ensures in record {
+      served = ap (λ (x : Called). x.host) said.0;
+      passed = c.behind.ensures;
+      told = call-out a.number a.host a.words.now a.asked a.buffer.now (rows_in a.rows.now) c.tell_begins-begins.ensures said.0 said.1.1
+          c.tell_end-sheet.ensures;
+    }

@@ -1,0 +1,16 @@
+use Prim.Native.Nat.{◌-◌, ◌≤◌}
+use mathlib.Core.Path.{sym}
+use native.Mathlib.Omega.{arith}
+use lib.ListN.{length, take}
+use lib.Seq.{take_all}
+use Rattle.text.specs.Ink.{next, Laid}
+use Rattle.text.proofs.Ink.{ink_length, ink_nil, take_more, and_then}
+use borrow.Author.Rules.{rules}
+use Rattle.text.proofs.pen.put.Given as goal
+
+-- the first i bytes are laid in
+abbrev pub invariant-loop-i : goal.invariant-loop-i
+invariant-loop-i l = Laid l.text (take l.i l.initial.buffer) l.at l.place l.buffer × (l.i ≤ length l.initial.buffer)
+
+abbrev pub decreases-loop-i : goal.decreases-loop-i
+decreases-loop-i l = length l.initial.buffer - l.i

@@ -1,0 +1,31 @@
+use mathlib.Core.Path.{sym}
+use lib.Seq.{length-take-le}
+use Rattle.text.proofs.Ink.{stands-within}
+use Rattle.bench.proofs.Opens.{opening-fits}
+use Rattle.tracing.proofs.Traces.{not-begun, book-traced}
+use borrow.Author.Rules.{rules}
+use Rattle.tracing.proofs.trace_book.Goals as goal
+
+pub slice_bounds-write_all-end : goal.slice_bounds-write_all-end
+slice_bounds-write_all-end c = stands-within c.open-opening.ensures.printed
+
+pub slice_bounds-write_all-end-2 : goal.slice_bounds-write_all-end-2
+slice_bounds-write_all-end-2 c = sym (length-take-le _ _ (stands-within c.open-opening.ensures.printed))
+
+pub slice_bounds-trace_calls-end : goal.slice_bounds-trace_calls-end
+slice_bounds-trace_calls-end c = let opened = c.open-opening in
+    opening-fits _ _ _ opened.result opened.ensures.1.0 opened.ensures.0
+
+pub slice_bounds-trace_calls-end-2 : goal.slice_bounds-trace_calls-end-2
+slice_bounds-trace_calls-end-2 c = let opened = c.open-opening in
+    sym (length-take-le _ _ (opening-fits _ _ _ opened.result opened.ensures.1.0 opened.ensures.0))
+
+pub returns-then-not-write_all : goal.returns-then-not-write_all
+returns-then-not-write_all c = let opened = c.open-opening in
+    let said = opened.ensures in
+    record { loaded = said.0; traced = not-begun _ _ _ opened.result _ _ said.1.0 said.1.1 }
+
+pub returns : goal.returns
+returns c = let opened = c.open-opening in
+    let said = opened.ensures in
+    record { loaded = said.0; traced = book-traced _ _ _ _ opened.result _ _ _ _ said.0 said.1.0 said.1.1 c.trace_calls.ensures }

@@ -1,8 +1,0 @@
-use Rattle.types.specs.Answer.{field_number}
-use borrow.Author.Rules.{rules}
-use Rattle.types.proofs.error.Field.number.Statement.{statement}
-use Rattle.types.proofs.error.Field.number.Tie as tie
-
-pub number-spec : {M : Type 1} → statement M
-unfolding field_number
-number-spec = tie.close (tie.spec (λ c. search rules) (λ c. search rules) (λ c. search rules) (λ c. search rules) (λ c. search rules) (λ c. search rules) (λ c. search rules) (λ c. search rules) (λ c. rw c.enum_told.given.1) (λ c. rw c.enum-told2.given.1) (λ c. rw c.enum-told3.given.1) (λ c. rw c.enum-told4.given.1) (λ c. rw c.enum-told5.given.1) (λ c. rw c.enum-told6.given.1) (λ c. rw c.enum-told7.given.1) (λ c. rw c.enum-told8.given.1))

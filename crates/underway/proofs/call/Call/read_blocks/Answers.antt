@@ -1,0 +1,9 @@
+use mathlib.Core.Path.{ap, ◌∙◌}
+use Rattle.step.specs.Next.{next}
+use Rattle.stepping.specs.Closing.{Closing}
+use Rattle.tape.specs.Plan.{Plan}
+use borrow.Author.Rules.{rules}
+use Rattle.underway.proofs.call.Call.read_blocks.Goals as goal
+
+pub returns : goal.returns
+returns c = λ g. c.begin.ensures g ∙ ap (λ (p : Plan Closing). record { before = c.args.host; ahead = next p c.args.host.line }) (c.blocks_first.ensures g.sent)

@@ -1,0 +1,6 @@
+use mathlib.Core.Path.{refl}
+use borrow.Author.Rules.{rules}
+use Rattle.underway.proofs.steps.data_bus.Goals as goal
+
+pub returns : goal.returns
+returns c = rw (c.bus.ensures, c.rca.ensures) refl

@@ -1,0 +1,9 @@
+use borrow.Author.Rules.{rules}
+use borrow.Author.Tests.{eq-eqb, ne_eqb}
+use Rattle.wordtext.proofs.place.moved.Goals as goal
+
+pub returns-then-b-eq10 : goal.returns-then-b-eq10
+returns-then-b-eq10 c = rw (eq-eqb _ 10 c.if-b-eq10.true)
+
+pub returns-else-b-eq10 : goal.returns-else-b-eq10
+returns-else-b-eq10 c = rw (ne_eqb _ 10 c.if-b-eq10.false)

@@ -1,0 +1,15 @@
+use Prim.Native.Nat.{◌≤◌, ◌+◌, ◌-◌}
+use mathlib.Core.Logic.{⊎_elim}
+use mathlib.Core.Path.{◌≡◌, refl, ap, sym, ◌∙◌}
+use native.Mathlib.Omega.{arith}
+use lib.ListN.{length, get_or}
+use Rattle.wordtext.specs.Text.{moved, place_from, place_of}
+use Rattle.wordtext.specs.declared.place.Place.{Place}
+use Rattle.wordtext.proofs.Places.{place-more, place-all, moved_little}
+use Rattle.wordtext.proofs.place.place_at.Given as goal
+
+abbrev pub invariant-loop-i : goal.invariant-loop-i
+invariant-loop-i l = (l.i ≤ l.end) × (l.end ≤ length l.text) × (l.p ≡ place_of l.text l.i) × (l.p.line ≤ l.i + 1) × (l.p.column ≤ l.i + 1)
+
+abbrev pub decreases-loop-i : goal.decreases-loop-i
+decreases-loop-i l = l.end - l.i

@@ -1,0 +1,18 @@
+use Prim.Native.Nat.{ℕ, ◌+◌, ◌≤◌, ◌-◌}
+use mathlib.Core.Path.{◌≡◌, refl, ap, sym, ◌∙◌}
+use native.Mathlib.Omega.{arith}
+use lib.ListN.{length, get_or, drop}
+use Rattle.wordtext.specs.Token.{NEWLINE}
+use Rattle.wordtext.specs.Text.{State, step, scan, read_of, state_of}
+use Rattle.wordtext.proofs.Steps.{goes_on, ends, rest_more}
+use Rattle.wordtext.proofs.scan.scan_text.Given as goal
+
+abbrev pub invariant-loop-i : goal.invariant-loop-i
+invariant-loop-i l = (l.i ≤ length l.text)
+    × (scan (length l.initial.words) l.i (state_of l.s l.words) (drop l.i l.text) ≡ read_of (length l.initial.words) l.text)
+    × (drop l.s.count l.words ≡ drop l.s.count l.initial.words)
+    × (length l.words ≡ length l.initial.words)
+    × (l.s.count ≤ length l.initial.words)
+
+abbrev pub decreases-loop-i : goal.decreases-loop-i
+decreases-loop-i l = length l.text - l.i
