@@ -329,9 +329,8 @@ def convert(path, crate, mod, v):
             body = "\n".join(c[1:]).rstrip()
             m = re.match(r"(?:unfolding [^\n]*\n)*" + re.escape(name) + r"\s+(.*?)\s+=\s", body, re.S)
             params = m[1].split() if m else []
-            same = [n for n, ch in zip(names, changed) if not ch]
             moved = [n for n, ch in zip(names, changed) if ch]
-            want = [f"l.{n}" for n in same] + [f"l.initial.{n}" for n in moved] + [f"l.{n}" for n in moved]
+            want = [f"l.initial.{n}" if ch else f"l.{n}" for n, ch in zip(names, changed)] + [f"l.{n}" for n in moved]
             rest = body[m.end():] if m else body
             if len(params) != len(want):
                 t.hand(f"loop of {name}: parameters {params} for {want}")

@@ -11,7 +11,7 @@ use borrow.Author.Rules.{rules}
 use Rattle.book.proofs.layout.load.Given as goal
 
 abbrev pub invariant-loop-i : goal.invariant-loop-i
-invariant-loop-i l = (l.words ≡ inked 0 (take l.i (words_of l.bytes)) l.n) × (l.i ≤ l.initial.words) × (length l.words ≡ length l.n)
+invariant-loop-i l = (l.words ≡ inked 0 (take l.i (words_of l.bytes)) l.initial.words) × (l.i ≤ l.n) × (length l.words ≡ length l.initial.words)
 
 abbrev pub decreases-loop-i : goal.decreases-loop-i
-decreases-loop-i l = l.initial.words - l.i
+decreases-loop-i l = l.n - l.i

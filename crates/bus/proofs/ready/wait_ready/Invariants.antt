@@ -19,7 +19,7 @@ pub record Tried (script : List ℕ) (source limit rca attempts i : ℕ) (rows�
   turned : Turned script Bool false (try_ready source limit rca) (λ ready. ready) attempts i (at p (rows_in rows₀)) (at q (rows_in rows))
 
 abbrev pub invariant-loop-i : goal.invariant-loop-i
-invariant-loop-i l = Tried l.script l.rca.0 l.initial.rows l.attempts l.limit l.i l.source l.rows l.initial.q l.q
+invariant-loop-i l = Tried l.script l.source.0 l.limit l.rca l.attempts l.i l.initial.rows l.rows l.initial.q l.q
 
 abbrev pub decreases-loop-i : goal.decreases-loop-i
-decreases-loop-i l = l.limit - l.i
+decreases-loop-i l = l.attempts - l.i

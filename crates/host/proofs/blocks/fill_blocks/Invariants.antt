@@ -9,7 +9,7 @@ use borrow.Author.Rules.{rules}
 use Rattle.host.proofs.blocks.fill_blocks.Given as goal
 
 abbrev pub invariant-loop-k : goal.invariant-loop-k
-invariant-loop-k l = (l.buffer ≡ laid_blocks l.n l.words l.k) × (l.k ≤ l.initial.buffer) × (length l.buffer ≡ length l.words)
+invariant-loop-k l = (l.buffer ≡ laid_blocks l.words l.initial.buffer l.k) × (l.k ≤ l.n) × (length l.buffer ≡ length l.initial.buffer)
 
 abbrev pub decreases-loop-k : goal.decreases-loop-k
-decreases-loop-k l = l.initial.buffer - l.k
+decreases-loop-k l = l.n - l.k

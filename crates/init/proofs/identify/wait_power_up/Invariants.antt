@@ -20,7 +20,7 @@ pub record Tried (script : List ℕ) (set : Settings) (version2 : Bool) (attempt
   turned : Turned script ℕ 0 (try_power_up set version2) powered_up attempts i (at p (rows_in rows₀)) (at q (rows_in rows))
 
 abbrev pub invariant-loop-i : goal.invariant-loop-i
-invariant-loop-i l = Tried l.script l.version2 l.attempts l.initial.rows l.i l.settings l.rows l.initial.q l.q
+invariant-loop-i l = Tried l.script l.settings l.version2 l.attempts l.i l.initial.rows l.rows l.initial.q l.q
 
 abbrev pub decreases-loop-i : goal.decreases-loop-i
-decreases-loop-i l = l.initial.rows - l.i
+decreases-loop-i l = l.attempts - l.i

@@ -10,7 +10,7 @@ use Rattle.report.proofs.blocks.put_blocks.Given as goal
 
 -- the first i blocks are laid in
 abbrev pub invariant-loop-i : goal.invariant-loop-i
-invariant-loop-i l = Laid l.buffer (blocks_text l.i l.n) l.at l.place l.out × (l.i ≤ l.initial.out)
+invariant-loop-i l = Laid l.at (blocks_text l.i l.buffer) l.initial.out l.place l.out × (l.i ≤ l.n)
 
 abbrev pub decreases-loop-i : goal.decreases-loop-i
-decreases-loop-i l = l.initial.out - l.i
+decreases-loop-i l = l.n - l.i

@@ -10,7 +10,7 @@ use Rattle.report.proofs.blocks.put_bytes.Given as goal
 
 -- the first k bytes are laid in
 abbrev pub invariant-loop-k : goal.invariant-loop-k
-invariant-loop-k l = Laid l.buffer (bytes_text l.k (512 * l.initial.out) l.i) l.at l.place l.out × (l.k ≤ 512)
+invariant-loop-k l = Laid l.at (bytes_text l.k (512 * l.i) l.buffer) l.initial.out l.place l.out × (l.k ≤ 512)
 
 abbrev pub decreases-loop-k : goal.decreases-loop-k
 decreases-loop-k l = 512 - l.k

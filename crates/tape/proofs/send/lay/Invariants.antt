@@ -14,7 +14,7 @@ use borrow.Author.Rules.{rules}
 use Rattle.tape.proofs.send.lay.Given as goal
 
 abbrev pub invariant-loop-i : goal.invariant-loop-i
-invariant-loop-i l = (rows_in l.rows ≡ sent_over (words_of l.count) 0 l.i l.bytes (rows_in l.place)) × (l.i ≤ l.initial.rows) × (length l.rows ≡ length l.place)
+invariant-loop-i l = (rows_in l.rows ≡ sent_over (words_of l.bytes) 0 l.i l.place (rows_in l.initial.rows)) × (l.i ≤ l.count) × (length l.rows ≡ length l.initial.rows)
 
 abbrev pub decreases-loop-i : goal.decreases-loop-i
-decreases-loop-i l = l.initial.rows - l.i
+decreases-loop-i l = l.count - l.i

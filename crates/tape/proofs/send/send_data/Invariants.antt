@@ -14,7 +14,7 @@ use borrow.Author.Rules.{rules}
 use Rattle.tape.proofs.send.send_data.Given as goal
 
 abbrev pub invariant-loop-k : goal.invariant-loop-k
-invariant-loop-k l = ((s : List ℕ) → Did s (send_words (words_of l.blocks) (128 * l.k)) (at l.initial.sent (rows_in l.data)) (at l.sent (rows_in l.rows))) × (l.k ≤ l.initial.rows) × (length l.rows ≡ length l.data)
+invariant-loop-k l = ((s : List ℕ) → Did s (send_words (words_of l.data) (128 * l.k)) (at l.initial.sent (rows_in l.initial.rows)) (at l.sent (rows_in l.rows))) × (l.k ≤ l.blocks) × (length l.rows ≡ length l.initial.rows)
 
 abbrev pub decreases-loop-k : goal.decreases-loop-k
-decreases-loop-k l = l.initial.rows - l.k
+decreases-loop-k l = l.blocks - l.k

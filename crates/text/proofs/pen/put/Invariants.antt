@@ -10,7 +10,7 @@ use Rattle.text.proofs.pen.put.Given as goal
 
 -- the first i bytes are laid in
 abbrev pub invariant-loop-i : goal.invariant-loop-i
-invariant-loop-i l = Laid l.text (take l.i l.initial.buffer) l.at l.place l.buffer × (l.i ≤ length l.initial.buffer)
+invariant-loop-i l = Laid l.at (take l.i l.text) l.initial.buffer l.place l.buffer × (l.i ≤ length l.text)
 
 abbrev pub decreases-loop-i : goal.decreases-loop-i
-decreases-loop-i l = length l.initial.buffer - l.i
+decreases-loop-i l = length l.text - l.i

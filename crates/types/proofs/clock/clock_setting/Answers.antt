@@ -46,26 +46,29 @@ returns-then-may_bypass c = let args = c.args in
     let bypass : (args.allow_bypass && leb args.source.0 args.requested.0) ≡ true = search (sym c.may_bypass.ensures ∙ c.if-may_bypass.true) in
     sym (passed _ _ _ (omega arith) c.if-q-gt-MOST.false bypass)
 
--- what the search says of the divisor that it found
-sought : (c : lts.After-found (may-bypass-reads.Asked, may-bypass-reads.Learnt, divisor-for-reads.Asked, divisor-for-reads.Learnt, quotient-reads.Asked, quotient-reads.Learnt) reads.Pre reads.Post)
-    → Least c.before.before.before.before.before.before.before.args.source.0 c.before.before.before.before.before.before.before.args.requested.0 c.found.given.0.0
-unfolding Searched
-sought c = rw c.found.given.1 at c.before.before.divisor-for.ensures
-
 pub overflow_sub-result : goal.overflow_sub-result
-overflow_sub-result c = omega (arith, (sought c.before).enough.from2)
+unfolding Searched
+overflow_sub-result c =
+    let least : Least c.args.source.0 c.args.requested.0 c.in-Least.divisor = c.in-Least.ensures in
+    omega (arith, least.enough.from2)
 
 pub overflow_cast-result : goal.overflow_cast-result
-overflow_cast-result c = record { fits = omega (arith, (sought c.before).enough.to257) }
+unfolding Searched
+overflow_cast-result c =
+    let least : Least c.args.source.0 c.args.requested.0 c.in-Least.divisor = c.in-Least.ensures in
+    record { fits = omega (arith, least.enough.to257) }
 
 pub quotient-requires : goal.quotient-requires
-quotient-requires c = let enough = (sought c.before).enough in (omega arith, omega arith)
+unfolding Searched
+quotient-requires c =
+    let least : Least c.args.source.0 c.args.requested.0 c.in-Least.divisor = c.in-Least.ensures in
+    (omega (arith, least.enough.from2), omega (arith, least.enough.to257))
 
 pub returns-in-Least : goal.returns-in-Least
-unfolding clock_of
+unfolding clock_of Searched
 returns-in-Least c = let s = c.args.source.0 in
     let q = c.args.requested.0 in
-    let least = sought c.before.before in
+    let least : Least c.args.source.0 c.args.requested.0 c.in-Least.divisor = c.in-Least.ensures in
     let low : 1 ≤ q = asked s _ q (omega arith) least.enough.slow in
     let divisor = found s q (omega arith) low c.if-q-gt-MOST.false _ least in
     let divided = sym c.may_bypass.ensures ∙ c.if-may_bypass.false in

@@ -9,7 +9,7 @@ use borrow.Author.Rules.{rules}
 use Rattle.types.proofs.words.fill.Given as goal
 
 abbrev pub invariant-loop-i : goal.invariant-loop-i
-invariant-loop-i l = (l.bytes ≡ laid l.n l.words l.i) × (l.i ≤ l.initial.bytes) × (length l.bytes ≡ length l.words)
+invariant-loop-i l = (l.bytes ≡ laid l.words l.initial.bytes l.i) × (l.i ≤ l.n) × (length l.bytes ≡ length l.initial.bytes)
 
 abbrev pub decreases-loop-i : goal.decreases-loop-i
-decreases-loop-i l = l.initial.bytes - l.i
+decreases-loop-i l = l.n - l.i

@@ -1,21 +1,13 @@
 use Prim.Native.Nat.{ℕ}
-use mathlib.Core.List.{List, [], ◌∷◌}
 use mathlib.Core.Path.{◌≡◌, refl}
 use native.Mathlib.Omega.{arith}
-use denote.Enum.Declared as Declared
-use types.Run.{OneOf, miss}
 use Rattle.types.specs.Answer.{error_told}
 use Rattle.types.specs.declared.error.Error.{Error}
 use Rattle.types.specs.declared.error.Error.TheVariants as E
-use Rattle.types.specs.contracts.error.Error as Error-row
 use borrow.Author.Rules.{rules}
 use Rattle.types.proofs.error.Error.number.Goals as goal
 
--- every variant but WriteProtected
-abbrev others : List ℕ
-others = 0 ∷ 1 ∷ 2 ∷ 3 ∷ 4 ∷ 5 ∷ 6 ∷ 7 ∷ 8 ∷ 9 ∷ 10 ∷ 11 ∷ 12 ∷ 13 ∷ 14 ∷ 15 ∷ 16 ∷ 17 ∷ 18 ∷ 19 ∷ []
-
-drivers : (e : Error) → OneOf others (Declared.tag_of Error-row.the_type e) → (error_told e).number ≡ 26 → ⊥
+drivers : (e : Error) → (e ≡ E.WriteProtected → ⊥) → (error_told e).number ≡ 26 → ⊥
 unfolding error_told
 drivers E.Timeout h z = omega arith
 drivers E.SoftwareTimeout h z = omega arith
@@ -37,11 +29,11 @@ drivers E.BadClock h z = omega arith
 drivers E.InvalidConfig h z = omega arith
 drivers E.InvalidBufferLength h z = omega arith
 drivers E.AddressOutOfRange h z = omega arith
-drivers E.WriteProtected h z = miss others 20 tt h
+drivers E.WriteProtected h z = absurd (h refl)
 
 pub returns-in-WriteProtected : goal.returns-in-WriteProtected
 unfolding error_told
 returns-in-WriteProtected c = rw c.in-WriteProtected.is refl
 
 pub returns-in_default : goal.returns-in_default
-returns-in_default c = c.place.ensures (drivers c.args.self c.in_default.keys2)
+returns-in_default c = c.place.ensures (drivers c.args.self c.in_default.not-WriteProtected)
