@@ -1,4 +1,1 @@
-mod Answers
-mod Apart
-mod Made
 pub mod Tells

@@ -39,8 +39,6 @@ fn left_at(script: &[u32], place: usize) -> usize
     }
 }
 
-// The borrow checker covers no function over a struct that holds a slice: each of these is proved by a walk of its code, by
-// hand, for which straight-line code alone is known to serve. So they are thin, and test nothing themselves.
 impl<'a> Reader<'a> {
     // At the script's start.
     pub fn new(script: &'a [u32]) -> Reader<'a>
@@ -74,7 +72,7 @@ impl<'a> Reader<'a> {
     }
 }
 
-// What a reader of this script finds at this place. Whoever calls this function or the next holds no reader, and is covered.
+// What a reader of this script finds at this place. Whoever calls this function or the next holds no reader.
 pub fn word(script: &[u32], place: usize) -> Found
     ensures { result ≡ word_at script.now place }
 {
