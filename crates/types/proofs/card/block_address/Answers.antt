@@ -1,6 +1,5 @@
 use borrow.Author.Tests.{eq-eqb, ne_eqb, lt-ltb, le-ltb}
 use Rattle.types.specs.Leaf.{address_of, units_of}
-use borrow.Author.Rules.{rules}
 use Rattle.types.proofs.card.block_address.Goals as goal
 
 pub returns-then-count-eq0 : goal.returns-then-count-eq0

@@ -1,7 +1,6 @@
 use Prim.Native.Nat.{◌*◌, ◌^◌}
 use borrow.Author.Tests.{lt-ltb, le-ltb}
 use Rattle.types.specs.Leaf.{units_of}
-use borrow.Author.Rules.{rules}
 use Rattle.types.proofs.card.byte_address.Goals as goal
 
 pub returns-then-address-lt4294967296 : goal.returns-then-address-lt4294967296

@@ -10,7 +10,6 @@ use Rattle.types.specs.Least.{Enough, Least, Searched}
 use Rattle.types.specs.declared.clock.ClockAnswer.TheVariants.{Set, Refused}
 use Rattle.types.specs.declared.error.Error.TheVariants.{BadClock}
 use Rattle.types.proofs.Least.{found, over}
-use borrow.Author.Rules.{rules}
 use Rattle.types.proofs.clock.clock_setting.Goals as goal
 
 -- a request that a nonzero source comes down to is not 0

@@ -1,9 +1,5 @@
-use Prim.Native.Nat.{ℕ, suc, ◌+◌, ◌*◌, ◌-◌, ◌<◌, ◌≤◌}
+use Prim.Native.Nat.{◌+◌, ◌*◌, ◌-◌, ◌<◌, ◌≤◌}
 use mathlib.Core.Path.{◌≡◌}
-use native.Mathlib.Nat.{suc-mul, add-mul, one-mul, mul-le-mul_right, le_of_suc-le-suc}
-use native.Mathlib.Omega.{arith, not-le}
-use borrow.Author.Rules.{rules}
-use Rattle.types.specs.Least.{Enough, Least, Searched}
 use Rattle.types.proofs.clock.divisor_for.Given as goal
 
 abbrev pub invariant-loop-divisor : goal.invariant-loop-divisor

@@ -1,5 +1,4 @@
-use Prim.Native.Nat.{◌*◌, ◌-◌, ◌%◌, ◌^◌, ◌<◌, ◌≤◌}
-use mathlib.Core.Logic.{⊎_elim}
+use Prim.Native.Nat.{◌*◌, ◌-◌, ◌%◌, ◌^◌}
 use mathlib.Core.Path.{◌≡◌, ◌∙◌}
 use native.Mathlib.Nat.{mod-eq_of_lt}
 use native.Mathlib.Omega.{arith}
@@ -19,10 +18,10 @@ returns-then-left-eq0 c =
     let d = c.args.divisor in
     let at = c.loop-both in
     let after : Divided n d (32 - (at.left - 1)) (at.left - 1) c.if-place-both.both =
-      elim c.if-place-both.branch [
-        then-place-both w ↦ rw (w.both-is, place) (step-taken 32 n d at.left at.both at.invariant.0 at.invariant.1 at.invariant.3 (rw place at w.if-place-both.true))
-        | else-place-both w ↦ rw w.both-is (step_kept 32 n d at.left at.both at.invariant.0 at.invariant.1 at.invariant.3 (rw place at w.if-place-both.false))
-      ] in
+    elim c.if-place-both.branch [
+      | then-place-both w ↦ rw (w.both-is, place) (step-taken 32 n d at.left at.both at.invariant.0 at.invariant.1 at.invariant.3 (rw place at w.if-place-both.true))
+      | else-place-both w ↦ rw w.both-is (step_kept 32 n d at.left at.both at.invariant.0 at.invariant.1 at.invariant.3 (rw place at w.if-place-both.false))
+    ] in
     let none : at.left - 1 ≡ 0 = c.if-left-eq0.true in
     let last = rw none at after in
     and_mask c.if-place-both.both 32 ∙ ended 32 _ _ _ last
@@ -37,8 +36,8 @@ loop-both-preserved c =
     let d = c.args.divisor in
     let at = c.loop-both in
     let after : Divided n d (32 - (at.left - 1)) (at.left - 1) c.if-place-both.both =
-      elim c.if-place-both.branch [
-        then-place-both w ↦ rw (w.both-is, place) (step-taken 32 n d at.left at.both at.invariant.0 at.invariant.1 at.invariant.3 (rw place at w.if-place-both.true))
-        | else-place-both w ↦ rw w.both-is (step_kept 32 n d at.left at.both at.invariant.0 at.invariant.1 at.invariant.3 (rw place at w.if-place-both.false))
-      ] in
+    elim c.if-place-both.branch [
+      | then-place-both w ↦ rw (w.both-is, place) (step-taken 32 n d at.left at.both at.invariant.0 at.invariant.1 at.invariant.3 (rw place at w.if-place-both.true))
+      | else-place-both w ↦ rw w.both-is (step_kept 32 n d at.left at.both at.invariant.0 at.invariant.1 at.invariant.3 (rw place at w.if-place-both.false))
+    ] in
     (omega arith, omega arith, below 32 _ _ _ _ _ (omega arith) after, after)

@@ -1,11 +1,5 @@
-use Prim.Native.Nat.{◌*◌, ◌-◌, ◌%◌, ◌^◌, ◌<◌, ◌≤◌}
-use mathlib.Core.Logic.{⊎_elim}
-use mathlib.Core.Path.{◌≡◌, ◌∙◌}
-use native.Mathlib.Nat.{mod-eq_of_lt}
-use native.Mathlib.Omega.{arith}
-use lib.Bits.{and_mask, mask_lt}
-use borrow.Author.Rules.{rules}
-use Rattle.types.proofs.Quotient.{Divided, below, step-taken, step_kept, begun, ended}
+use Prim.Native.Nat.{◌*◌, ◌-◌, ◌^◌, ◌<◌, ◌≤◌}
+use Rattle.types.proofs.Quotient.{Divided}
 use Rattle.types.proofs.clock.quotient.Given as goal
 
 -- The steps left are counted down from 32, which is the measure too: so many and no more are taken.

@@ -5,7 +5,6 @@ use lib.Pow.{shl_exact}
 use native.Mathlib.Omega.{arith}
 use Rattle.types.specs.declared.register.CountAnswer.TheVariants.{Blocks}
 use Rattle.types.specs.Leaf.{count_of}
-use borrow.Author.Rules.{rules}
 use Rattle.types.proofs.register.block_count.Goals as goal
 
 pub returns-then-length-lt9 : goal.returns-then-length-lt9

@@ -7,7 +7,6 @@ use lib.Dec.{lit<}
 use lib.ListN.{get_or, get_or-map}
 use Rattle.types.specs.Leaf.{rate_of, rate_units, rate_tenths}
 use Rattle.types.proofs.Tables.{bounded}
-use borrow.Author.Rules.{rules}
 use Rattle.types.proofs.register.transfer_rate.Goals as goal
 
 pub returns-then-encoded-eq1 : goal.returns-then-encoded-eq1

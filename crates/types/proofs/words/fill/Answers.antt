@@ -1,11 +1,9 @@
-use Prim.Native.Nat.{◌-◌, ◌≤◌}
 use mathlib.Core.Path.{◌≡◌, refl}
 use native.Mathlib.Numerals.{add-one, add-two, add-three}
 use native.Mathlib.Omega.{arith}
-use lib.ListN.{length, length-set}
+use lib.ListN.{length-set}
 use Rattle.types.specs.Words.{bytes_of, filled}
-use Rattle.types.proofs.Bytes.{laid, one_more}
-use borrow.Author.Rules.{rules}
+use Rattle.types.proofs.Bytes.{one_more}
 use Rattle.types.proofs.words.fill.Goals as goal
 
 pub loop-i-init : goal.loop-i-init

@@ -1,5 +1,4 @@
 use Rattle.types.specs.Words.{halves_of}
-use borrow.Author.Rules.{rules}
 use Rattle.types.proofs.words.response_value.Goals as goal
 
 pub returns : goal.returns

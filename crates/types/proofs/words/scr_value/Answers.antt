@@ -1,5 +1,4 @@
 use Rattle.types.specs.Words.{scr_of}
-use borrow.Author.Rules.{rules}
 use Rattle.types.proofs.words.scr_value.Goals as goal
 
 pub returns : goal.returns

@@ -1,4 +1,4 @@
-use Prim.Native.Nat.{ℕ, ◌+◌, ◌-◌, ◌≤◌, ◌<◌}
+use Prim.Native.Nat.{ℕ, ◌+◌, ◌-◌, ◌<◌}
 use mathlib.Core.List.{List, ◌++◌, append-nil}
 use mathlib.Core.Path.{◌≡◌, refl, ap, sym, ◌∙◌}
 use native.Mathlib.Nat.{zero-add}
@@ -7,7 +7,6 @@ use lib.ListN.{get_or, set, length, drop, drop_of_length-le, replicate}
 use lib.Seq.{take_all}
 use Rattle.types.specs.Words.{turned, sd_status_of}
 use Rattle.types.proofs.Counted.{length-counted, get_d_counted, over, over-more}
-use borrow.Author.Rules.{rules}
 use Rattle.types.proofs.words.sd_status.Goals as goal
 
 -- the status at each place, laid over any sixteen words

@@ -1,13 +1,7 @@
-use Prim.Native.Nat.{ℕ, ◌+◌, ◌-◌, ◌≤◌, ◌<◌}
-use mathlib.Core.List.{List, ◌++◌, append-nil}
-use mathlib.Core.Path.{◌≡◌, refl, ap, sym, ◌∙◌}
-use native.Mathlib.Nat.{zero-add}
-use native.Mathlib.Omega.{arith}
-use lib.ListN.{get_or, set, length, drop, drop_of_length-le, replicate}
-use lib.Seq.{take_all}
-use Rattle.types.specs.Words.{turned, sd_status_of}
-use Rattle.types.proofs.Counted.{length-counted, get_d_counted, over, over-more}
-use borrow.Author.Rules.{rules}
+use Prim.Native.Nat.{◌-◌, ◌≤◌}
+use mathlib.Core.Path.{◌≡◌}
+use Rattle.types.specs.Words.{sd_status_of}
+use Rattle.types.proofs.Counted.{over}
 use Rattle.types.proofs.words.sd_status.Given as goal
 
 abbrev pub invariant-loop-i : goal.invariant-loop-i

@@ -1,5 +1,4 @@
 use Rattle.types.specs.Answer.{answer_told}
-use borrow.Author.Rules.{rules}
 use Rattle.types.proofs.error.Answer.number.Goals as goal
 
 pub returns-in-Accepted : goal.returns-in-Accepted

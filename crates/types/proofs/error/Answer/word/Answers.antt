@@ -1,5 +1,4 @@
 use Rattle.types.specs.Answer.{answer_told}
-use borrow.Author.Rules.{rules}
 use Rattle.types.proofs.error.Answer.word.Goals as goal
 
 pub returns-in-Refused : goal.returns-in-Refused

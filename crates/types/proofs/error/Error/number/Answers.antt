@@ -1,10 +1,8 @@
-use Prim.Native.Nat.{ℕ}
 use mathlib.Core.Path.{◌≡◌, refl}
 use native.Mathlib.Omega.{arith}
 use Rattle.types.specs.Answer.{error_told}
 use Rattle.types.specs.declared.error.Error.{Error}
 use Rattle.types.specs.declared.error.Error.TheVariants as E
-use borrow.Author.Rules.{rules}
 use Rattle.types.proofs.error.Error.number.Goals as goal
 
 drivers : (e : Error) → (e ≡ E.WriteProtected → ⊥) → (error_told e).number ≡ 26 → ⊥

@@ -1,6 +1,5 @@
 use mathlib.Core.Path.{refl}
 use Rattle.types.specs.Answer.{error_told}
-use borrow.Author.Rules.{rules}
 use Rattle.types.proofs.error.Error.place.Goals as goal
 
 pub returns-in-Timeout : goal.returns-in-Timeout

@@ -4,7 +4,6 @@ use Rattle.types.specs.Answer.{carried, error_told}
 use Rattle.types.specs.declared.error.Error.{Error}
 use Rattle.types.specs.declared.error.Field.{Field}
 use Rattle.types.specs.declared.error.Error.TheVariants as E
-use borrow.Author.Rules.{rules}
 use Rattle.types.proofs.error.Error.word.Goals as goal
 
 bare : (e : Error) → ((word : ℕ) → e ≡ E.CardStatus word → ⊥) → ((field : Field) → e ≡ E.UnsupportedCardType field → ⊥) → 0 ≡ carried (error_told e)

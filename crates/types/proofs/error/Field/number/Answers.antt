@@ -1,5 +1,4 @@
 use Rattle.types.specs.Answer.{field_number}
-use borrow.Author.Rules.{rules}
 use Rattle.types.proofs.error.Field.number.Goals as goal
 
 pub returns-in-CsdVersion : goal.returns-in-CsdVersion

@@ -1,6 +1,5 @@
 use borrow.Author.Tests.{lt-ltb, le-ltb}
 use Rattle.types.specs.Leaf.{size_of}
-use borrow.Author.Rules.{rules}
 use Rattle.types.proofs.register.BlockCount.bytes.Goals as goal
 
 pub returns-then-count-gt-MOST : goal.returns-then-count-gt-MOST

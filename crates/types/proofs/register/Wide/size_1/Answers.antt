@@ -2,7 +2,6 @@ use mathlib.Core.Path.{sym}
 use native.Mathlib.Nat.{lt_of_lt_of_le}
 use lib.Dec.{lit≤}
 use Rattle.types.proofs.Halves.{across, across_lt}
-use borrow.Author.Rules.{rules}
 use Rattle.types.proofs.register.Wide.size_1.Goals as goal
 
 pub overflow_add-result : goal.overflow_add-result

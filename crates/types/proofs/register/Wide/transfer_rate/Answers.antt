@@ -1,6 +1,5 @@
 use mathlib.Core.Path.{sym}
 use Rattle.types.proofs.Halves.{upper}
-use borrow.Author.Rules.{rules}
 use Rattle.types.proofs.register.Wide.transfer_rate.Goals as goal
 
 pub returns : goal.returns
