@@ -15,7 +15,7 @@ use Rattle.tape.specs.declared.progress.Line.{Line}
 use Rattle.tape.specs.declared.progress.Pace.TheVariants.{Going, Stopped}
 use Rattle.tape.specs.declared.rows.Row.{Row}
 use Rattle.tape.specs.Layout.{sent_over}
-use Rattle.tape.specs.Plan.{handle, ◌then◌}
+use Rattle.tape.specs.Plan.{write, handle, ◌then◌}
 use Rattle.tape.specs.Rows.{FIFO}
 use Rattle.tape.specs.Run.{State, after, noted, run, Did}
 use Rattle.tape.specs.Steps.{row, send_from}
@@ -91,7 +91,8 @@ sent-joined ws k zero m = rw (zero-add m, add-zero k)
 sent-joined ws k (suc n) m =
     let more : suc n + m ≡ suc (n + m) = omega arith in
     let place : k + suc n ≡ k + 1 + n = omega arith in
-    rw (more, place, sent-joined ws (k + 1) n m)
+    rw (more, sent-joined ws (k + 1) n m)
+    (ap (λ (t : ℕ). write (fifo (get_or ws k 0)) (send_from ws (k + 1) n then λ _. send_from ws t m)) (sym place))
 
 -- block k of the data: its words are those from place 128 * k on
 module _ (bytes : List ℕ) (k m : ℕ) (whole : m ≡ 512) (there : 512 * k + 512 ≤ length bytes) where

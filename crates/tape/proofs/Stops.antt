@@ -1,9 +1,7 @@
 -- How a call stops, and what a closing step hands on.
 use Prim.Native.Nat.{ℕ}
-use mathlib.Core.List.{List, [], ◌∷◌}
+use mathlib.Core.List.{List}
 use mathlib.Core.Path.{◌≡◌, refl, ap, ◌∙◌, sym}
-use denote.Enum.Declared as Declared
-use types.Run.{OneOf, miss}
 use Rattle.tape.specs.declared.progress.Halt.{Halt}
 use Rattle.tape.specs.declared.progress.Halt.TheVariants.{Refused, ScriptEnded, TraceFull}
 use Rattle.tape.specs.declared.progress.Pace.{Pace}
@@ -13,7 +11,6 @@ use Rattle.tape.specs.declared.rows.Row.{Row}
 use Rattle.tape.specs.Plan.{Cause, failed, ended, refuse}
 use Rattle.tape.specs.Run.{at, halt_of, stop_at, run, Did}
 use Rattle.tape.proofs.Laws.{from-going, from-stopped}
-use Rattle.tape.specs.contracts.progress.Halt as Halt-row
 
 -- one that had stopped stays so
 pub stays : {p : Progress} {y : Halt} (x : Halt) → p.pace ≡ Stopped y
@@ -38,11 +35,7 @@ pub record Caused (x : Halt) : Type 0 where
   pub cause : Cause
   pub told : x ≡ halt_of cause
 
--- every variant but TraceFull
-abbrev pub causes : List ℕ
-causes = 0 ∷ 1 ∷ []
-
-pub caused : (x : Halt) → OneOf causes (Declared.tag_of Halt-row.the_type x) → Caused x
+pub caused : (x : Halt) → (x ≡ TraceFull → ⊥) → Caused x
 caused (Refused e) h = record { cause = failed e; told = refl }
 caused ScriptEnded h = record { cause = ended; told = refl }
-caused TraceFull h = absurd (miss causes 2 tt h)
+caused TraceFull h = absurd (h refl)

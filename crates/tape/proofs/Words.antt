@@ -170,7 +170,7 @@ at_most n (hold h p) = at_most n p
 pub record AtMost {A : Type 0} (n : ℕ) (p : Plan A) : Type 0 where
   pub words : at_most n p
 
-more : (m n : ℕ) {A : Type 0} (p : Plan A) → m ≤ n → at_most m p → at_most n p
+more : {A : Type 0} (m n : ℕ) (p : Plan A) → m ≤ n → at_most m p → at_most n p
 unfolding at_most
 more m n (give a) h b = tt
 more m n (refuse (failed e)) h b = tt
@@ -276,13 +276,13 @@ none-taken n s u q e = record { most = omega arith; all = λ e' h. absurd (apart
     apart : is_ended q ≡ false → is_ended q ≡ true → ⊥
     apart e e' = let z : ◌≡◌ {A = ℕ} 0 1 = cc in omega arith
 
-run-taken : (s : List ℕ) (n : ℕ) {A : Type 0} (d : A) (p : Plan A) (u m : ℕ) (h : Line) (l : List Row) → at_most n p → TakenBy n s u (run s d p u m h l)
+run-taken : {A : Type 0} (s : List ℕ) (n : ℕ) (d : A) (p : Plan A) (u m : ℕ) (h : Line) (l : List Row) → at_most n p → TakenBy n s u (run s d p u m h l)
 unfolding at_most run
 run-taken s n d (give a) u m h l b = none-taken n s u Going refl
 run-taken s n d (refuse (failed e)) u m h l b = none-taken n s u (Stopped (Refused e)) refl
 run-taken s n d (refuse ended) u m h l b = absurd b
 run-taken s zero d (read r k z) u m h l b = absurd b
-run-taken s (suc n) {A} d (read r k z) u m h l b = by (dec_lt u (length s)) (run-taken s n d (k (get_or s u 0)) (u + 1) m h l (b (get_or s u 0)))
+run-taken {A} s (suc n) d (read r k z) u m h l b = by (dec_lt u (length s)) (run-taken s n d (k (get_or s u 0)) (u + 1) m h l (b (get_or s u 0)))
   where
     by : Dec (u < length s) → TakenBy n s (u + 1) (run s d (k (get_or s u 0)) (u + 1) m h l) → TakenBy (suc n) s u (run s d (read r k z) u m h l)
     by (yes some) ih =

@@ -12,6 +12,6 @@ pub returns-in-TraceFull : goal.returns-in-TraceFull
 returns-in-TraceFull c = λ s. settled-full (c.in-Stopped.is ∙ ap Stopped c.in-TraceFull.is)
 
 pub returns-in_default : goal.returns-in_default
-returns-in_default c = let why = caused _ c.in_default.keys2 in
+returns-in_default c = let why = caused _ c.in_default.not-TraceFull in
     λ s. settled-refusal why.cause (c.in-Stopped.is ∙ ap Stopped why.told)
     (seq (rw c.resumed.ensures at (c.set_clken-off-in_default.ensures s)) (refusal (stops why.cause why.told c.stop.ensures)))

@@ -1,10 +1,7 @@
 use Prim.Native.Nat.{◌-◌, ◌≤◌}
-use mathlib.Core.Path.{◌≡◌, refl}
-use native.Mathlib.Omega.{arith}
-use lib.ListN.{length, length-set}
+use mathlib.Core.Path.{◌≡◌}
+use lib.ListN.{length}
 use Rattle.tape.specs.Layout.{rows_in, pairs_over}
-use Rattle.tape.proofs.Converts.{none_over, one-over}
-use borrow.Author.Rules.{rules}
 use Rattle.tape.proofs.pairs.lay.Given as goal
 
 abbrev pub invariant-loop-k : goal.invariant-loop-k

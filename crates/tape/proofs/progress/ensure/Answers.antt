@@ -1,6 +1,5 @@
 use Rattle.tape.specs.Plan.{ensure}
 use Rattle.tape.proofs.Laws.{stay}
-use borrow.Author.Rules.{rules}
 use Rattle.tape.proofs.progress.ensure.Goals as goal
 
 pub returns-then-holds : goal.returns-then-holds

@@ -6,7 +6,6 @@ use Rattle.tape.specs.Run.{run}
 use Rattle.tape.specs.Steps.{row}
 use Rattle.tape.proofs.Laws.{from-going, from-stopped}
 use Rattle.tape.proofs.Layouts.{Fits, row-stored, rows_long}
-use borrow.Author.Rules.{rules}
 use Rattle.tape.proofs.rows.write_row.Goals as goal
 
 pub returns-in_default : goal.returns-in_default

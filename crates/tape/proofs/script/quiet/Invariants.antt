@@ -1,12 +1,9 @@
 use Prim.Native.Nat.{◌-◌, min}
 use mathlib.Core.Bool.{◌&&◌}
 use mathlib.Core.Path.{◌≡◌}
-use native.Mathlib.Omega.{arith}
 use lib.ListN.{length}
-use borrow.Author.Tests.{eq-eqb, ne_eqb}
 use Rattle.types.specs.Bits.{clear}
-use Rattle.tape.proofs.Polls.{Led, none_led, one_led, led_to, all_led}
-use borrow.Author.Rules.{rules}
+use Rattle.tape.proofs.Polls.{Led}
 use Rattle.tape.proofs.script.quiet.Given as goal
 
 abbrev pub invariant-loop-i : goal.invariant-loop-i

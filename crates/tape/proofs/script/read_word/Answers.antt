@@ -6,7 +6,6 @@ use Rattle.tape.specs.Run.{run}
 use Rattle.tape.specs.Steps.{word}
 use Rattle.tape.proofs.Behind.{at-used, in_used, past-used}
 use Rattle.tape.proofs.Laws.{from-going, from-stopped}
-use borrow.Author.Rules.{rules}
 use Rattle.tape.proofs.script.read_word.Goals as goal
 
 pub returns-in_default : goal.returns-in_default

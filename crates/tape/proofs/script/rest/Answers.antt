@@ -3,7 +3,6 @@ use Prim.Native.Nat.{◌-◌}
 use lib.ListN.{length, drop, length-drop, drop_of_length-le}
 use mathlib.Core.Path.{sym}
 use native.Mathlib.Omega.{arith}
-use borrow.Author.Rules.{rules}
 use Rattle.tape.proofs.script.rest.Goals as goal
 
 pub returns-then-used-script : goal.returns-then-used-script

@@ -17,7 +17,6 @@ use Rattle.tape.specs.Run.{After, after, kept_at, next, next_at, run}
 use Rattle.tape.specs.Steps.{word, data_from}
 use Rattle.tape.proofs.Behind.{left-used}
 use Rattle.tape.proofs.Laws.{run-handle, from-going, from-stopped}
-use borrow.Author.Rules.{rules}
 use Rattle.tape.proofs.script.take_data.Goals as goal
 
 -- n words one after the other, from a call that has taken u

@@ -7,7 +7,6 @@ use Rattle.tape.specs.Layout.{rows_in}
 use Rattle.tape.proofs.Laws.{from-going, from-stopped}
 use Rattle.tape.proofs.Layouts.{rows_long}
 use Rattle.tape.proofs.Sending.{sent-all, sent-full}
-use borrow.Author.Rules.{rules}
 use Rattle.tape.proofs.send.send_block.Goals as goal
 
 pub returns-in_default : goal.returns-in_default
@@ -20,7 +19,7 @@ pub returns-then-left-count : goal.returns-then-left-count
 returns-then-left-count c = let a = c.args in
     let ws = words_of a.bytes.now in
     let left : length (rows_in a.rows.now) - a.p.rows ≡ c.room-left.result = rw (rows_long a.rows.now) (sym c.room-left.ensures) in
-    λ s. from-going going.enum_told.given.1
+    λ s. from-going c.in-Going.is
     (rw c.lay.ensures (rw left at (sym (sent-full s ws a.p.used a.p.line 0 (length a.bytes.now / 4) a.p.rows (rows_in a.rows.now) (rw left (omega arith))))))
 
 pub lay-requires-2 : goal.lay-requires-2
@@ -30,5 +29,5 @@ pub returns : goal.returns
 returns c = let a = c.args in
     let ws = words_of a.bytes.now in
     let left = rows_long a.rows.now in
-    λ s. from-going going.enum_told.given.1
+    λ s. from-going c.in-Going.is
     (rw c.lay-2.ensures (sym (sent-all s ws a.p.used a.p.line 0 (length a.bytes.now / 4) a.p.rows (rows_in a.rows.now) (rw left (omega (arith, c.room-left.ensures))))))

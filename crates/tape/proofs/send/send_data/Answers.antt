@@ -1,13 +1,10 @@
 use Prim.Native.Nat.{ℕ, ◌+◌, ◌*◌, ◌-◌, ◌/◌, ◌≤◌}
 use mathlib.Core.Path.{◌≡◌, refl, ap}
-use mathlib.Core.List.{List}
 use native.Mathlib.Nat.{zero-add}
 use native.Mathlib.Omega.{arith}
 use lib.ListN.{length, take, drop}
 use Rattle.types.specs.Words.{words_of}
-use Rattle.tape.specs.Layout.{rows_in}
-use Rattle.tape.specs.Run.{at, Did}
-use Rattle.tape.specs.Steps.{send_from, send_words}
+use Rattle.tape.specs.Steps.{send_from}
 use Rattle.tape.proofs.Laws.{seq, stay}
 use Rattle.tape.proofs.Sending.{sent-joined, block_did}
 use borrow.Author.Rules.{rules}

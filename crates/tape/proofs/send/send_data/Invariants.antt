@@ -1,16 +1,11 @@
-use Prim.Native.Nat.{ℕ, ◌+◌, ◌*◌, ◌-◌, ◌/◌, ◌≤◌}
-use mathlib.Core.Path.{◌≡◌, refl, ap}
+use Prim.Native.Nat.{ℕ, ◌*◌, ◌-◌, ◌≤◌}
+use mathlib.Core.Path.{◌≡◌}
 use mathlib.Core.List.{List}
-use native.Mathlib.Nat.{zero-add}
-use native.Mathlib.Omega.{arith}
-use lib.ListN.{length, take, drop}
+use lib.ListN.{length}
 use Rattle.types.specs.Words.{words_of}
 use Rattle.tape.specs.Layout.{rows_in}
 use Rattle.tape.specs.Run.{at, Did}
-use Rattle.tape.specs.Steps.{send_from, send_words}
-use Rattle.tape.proofs.Laws.{seq, stay}
-use Rattle.tape.proofs.Sending.{sent-joined, block_did}
-use borrow.Author.Rules.{rules}
+use Rattle.tape.specs.Steps.{send_words}
 use Rattle.tape.proofs.send.send_data.Given as goal
 
 abbrev pub invariant-loop-k : goal.invariant-loop-k

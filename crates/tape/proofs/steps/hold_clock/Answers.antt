@@ -1,6 +1,5 @@
 use Rattle.tape.specs.Steps.{hold_clock}
 use Rattle.tape.proofs.Laws.{looking}
-use borrow.Author.Rules.{rules}
 use Rattle.tape.proofs.steps.hold_clock.Goals as goal
 
 pub returns : goal.returns

@@ -4,7 +4,6 @@ use Rattle.tape.proofs.Layouts.{rows_long}
 use Rattle.tape.proofs.Room.{keeps}
 use mathlib.Core.List.{[]}
 use mathlib.Core.Path.{sym, ◌∙◌}
-use borrow.Author.Rules.{rules}
 use Rattle.tape.proofs.steps.reset_controller.Goals as goal
 
 pub returns : goal.returns

@@ -2,7 +2,6 @@ use mathlib.Core.Path.{◌≡◌}
 use Rattle.tape.specs.Rows.{clken_of}
 use Rattle.tape.specs.Steps.{set_clken}
 use Rattle.tape.proofs.Laws.{looking}
-use borrow.Author.Rules.{rules}
 use Rattle.tape.proofs.steps.set_clken.Goals as goal
 
 pub returns : goal.returns

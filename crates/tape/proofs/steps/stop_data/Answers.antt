@@ -1,6 +1,5 @@
 use Rattle.tape.specs.Steps.{stop_data}
 use Rattle.tape.proofs.Laws.{seq}
-use borrow.Author.Rules.{rules}
 use Rattle.tape.proofs.steps.stop_data.Goals as goal
 
 pub returns : goal.returns

@@ -18,7 +18,6 @@ use Rattle.tape.proofs.Behind.{at_place, out-of-place}
 use Rattle.tape.proofs.Laws.{refusal, forget, from-stopped}
 use Rattle.tape.proofs.Loops.{Turned, last_turn, out-of-turns}
 use Rattle.tape.proofs.Polls.{on, counted-within, leads-to, read-turns, read-over}
-use borrow.Author.Rules.{rules}
 use Rattle.tape.proofs.steps.wait_idle.Goals as goal
 
 -- a word with a bit of the mask, and one with none

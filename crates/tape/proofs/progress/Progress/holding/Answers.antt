@@ -1,7 +1,6 @@
 use mathlib.Core.Path.{refl}
 use Rattle.tape.specs.Run.{run}
 use Rattle.tape.proofs.Laws.{from-going, from-stopped}
-use borrow.Author.Rules.{rules}
 use Rattle.tape.proofs.progress.Progress.holding.Goals as goal
 
 pub returns-in_default : goal.returns-in_default

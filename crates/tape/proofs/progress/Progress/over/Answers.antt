@@ -1,5 +1,4 @@
 use Rattle.tape.specs.Run.{over_at}
-use borrow.Author.Rules.{rules}
 use Rattle.tape.proofs.progress.Progress.over.Goals as goal
 
 pub returns-in-Going : goal.returns-in-Going

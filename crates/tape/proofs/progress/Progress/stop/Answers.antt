@@ -1,6 +1,5 @@
 use Rattle.tape.specs.Run.{stop_at}
 use Rattle.tape.proofs.Stops.{stays}
-use borrow.Author.Rules.{rules}
 use Rattle.tape.proofs.progress.Progress.stop.Goals as goal
 
 pub returns-in-Going : goal.returns-in-Going

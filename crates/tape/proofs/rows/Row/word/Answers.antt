@@ -1,5 +1,4 @@
 use native.Mathlib.Omega.{arith}
-use borrow.Author.Rules.{rules}
 use Rattle.tape.proofs.rows.Row.word.Goals as goal
 
 -- the register lies above the value
