@@ -20,7 +20,6 @@ use Rattle.tape.specs.declared.progress.Line.{Line}
 use Rattle.tape.specs.declared.progress.Pace.TheVariants.{Stopped}
 use Rattle.tape.specs.declared.rows.Row.{Row}
 use Rattle.tape.specs.declared.script.Reading.{Reading}
-use Rattle.tape.specs.declared.script.Reading.TheVariants as Reading
 use Rattle.tape.specs.Layout.{row_of}
 use Rattle.tape.specs.Plan.{Nothing, Cause, failed, ended, Plan, give, refuse, read, write, look, hold, handle, ◌then◌, fail, ensure, until}
 use Rattle.tape.specs.Rows.{CMD, cmd_of}

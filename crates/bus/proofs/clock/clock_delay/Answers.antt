@@ -1,5 +1,4 @@
 use Rattle.bus.specs.Clock.{delayed}
-use borrow.Author.Rules.{rules}
 use Rattle.bus.proofs.clock.clock_delay.Goals as goal
 
 pub returns-in-Spins : goal.returns-in-Spins

@@ -1,6 +1,5 @@
 use Rattle.bus.specs.Clock.{configure_clock}
 use Rattle.tape.proofs.Laws.{seq}
-use borrow.Author.Rules.{rules}
 use Rattle.bus.proofs.clock.configure_clock.Goals as goal
 
 pub returns : goal.returns

@@ -1,6 +1,5 @@
 use borrow.Author.Tests.{eq-eqb, ne_eqb, lt-ltb, le-ltb}
 use Rattle.bus.specs.Clock.{clock_delay, delayed}
-use borrow.Author.Rules.{rules}
 use Rattle.bus.proofs.clock.delay.Goals as goal
 
 pub returns-then-clock-eq0 : goal.returns-then-clock-eq0

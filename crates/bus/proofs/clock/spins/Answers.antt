@@ -2,7 +2,6 @@ use Prim.Native.Nat.{ℕ, ◌+◌, ◌*◌, ◌-◌, ◌/◌, ◌^◌, ◌<◌, 
 use native.Mathlib.Omega.{arith}
 use native.Mathlib.Nat.{div-lt_iff_lt-mul, lt_of_le_of_lt, mul-le-mul}
 use lib.Dec.{lit<}
-use borrow.Author.Rules.{rules}
 use Rattle.bus.proofs.clock.spins.Goals as goal
 
 -- a quotient of 32-bit numbers, rounded up, times another

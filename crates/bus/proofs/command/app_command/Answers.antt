@@ -1,6 +1,5 @@
 use Rattle.bus.specs.Command.{app_command}
 use Rattle.tape.proofs.Laws.{bind}
-use borrow.Author.Rules.{rules}
 use Rattle.bus.proofs.command.app_command.Goals as goal
 
 pub returns : goal.returns

@@ -1,7 +1,6 @@
 use Rattle.tape.specs.declared.script.Reading.TheVariants as Reading
 use Rattle.bus.specs.Command.{echo}
 use Rattle.tape.proofs.Laws.{bind, stay, on_true, on_false}
-use borrow.Author.Rules.{rules}
 use Rattle.bus.proofs.command.check_echo.Goals as goal
 
 pub returns-then-form : goal.returns-then-form

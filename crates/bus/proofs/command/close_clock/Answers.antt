@@ -2,7 +2,6 @@ use mathlib.Core.Path.{ap, ◌∙◌}
 use Rattle.tape.specs.declared.progress.Pace.TheVariants.{Stopped}
 use Rattle.tape.proofs.Laws.{seq, refusal, settled-value, settled-refusal, settled-full}
 use Rattle.tape.proofs.Stops.{caused, stops}
-use borrow.Author.Rules.{rules}
 use Rattle.bus.proofs.command.close_clock.Goals as goal
 
 pub returns-in-Going : goal.returns-in-Going

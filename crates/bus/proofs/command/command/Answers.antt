@@ -2,7 +2,6 @@ use mathlib.Core.List.{[]}
 use native.Mathlib.Omega.{arith}
 use Rattle.bus.specs.Command.{command}
 use Rattle.tape.proofs.Laws.{seq, dry, looking, on_true, on_false}
-use borrow.Author.Rules.{rules}
 use Rattle.bus.proofs.command.command.Goals as goal
 
 pub command_closing-requires : goal.command_closing-requires

@@ -1,6 +1,5 @@
 use Rattle.bus.specs.Command.{command_inner}
 use Rattle.tape.proofs.Laws.{handled, from-stopped}
-use borrow.Author.Rules.{rules}
 use Rattle.bus.proofs.command.command_closing.Goals as goal
 
 pub returns-in-Going : goal.returns-in-Going

@@ -4,7 +4,6 @@ use native.Mathlib.Omega.{arith}
 use Rattle.tape.specs.declared.progress.Progress.{Progress}
 use Rattle.bus.specs.Command.{command_inner}
 use Rattle.tape.proofs.Laws.{seq, dry, read-on, from-stopped, still-going}
-use borrow.Author.Rules.{rules}
 use Rattle.bus.proofs.command.command_inner.Goals as goal
 
 pub returns-in_default : goal.returns-in_default

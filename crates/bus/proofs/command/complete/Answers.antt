@@ -1,7 +1,6 @@
 use native.Mathlib.Omega.{arith}
 use Rattle.bus.specs.Command.{complete}
 use Rattle.tape.proofs.Laws.{bind, read-on}
-use borrow.Author.Rules.{rules}
 use Rattle.bus.proofs.command.complete.Goals as goal
 
 pub take_answer-requires : goal.take_answer-requires

@@ -1,6 +1,5 @@
 use Rattle.bus.specs.Command.{issue}
 use Rattle.tape.proofs.Laws.{seq}
-use borrow.Author.Rules.{rules}
 use Rattle.bus.proofs.command.issue.Goals as goal
 
 pub returns : goal.returns

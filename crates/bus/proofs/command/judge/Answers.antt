@@ -1,6 +1,5 @@
 use Rattle.bus.specs.Command.{judge}
 use Rattle.tape.proofs.Laws.{seq}
-use borrow.Author.Rules.{rules}
 use Rattle.bus.proofs.command.judge.Goals as goal
 
 pub returns : goal.returns

@@ -1,7 +1,6 @@
 use Rattle.tape.specs.declared.script.Reading.TheVariants as Reading
 use Rattle.bus.specs.Command.{poll_completion}
 use Rattle.tape.proofs.Laws.{bind, seq}
-use borrow.Author.Rules.{rules}
 use Rattle.bus.proofs.command.poll_completion.Goals as goal
 
 pub returns : goal.returns

@@ -2,7 +2,6 @@ use mathlib.Core.List.{[]}
 use native.Mathlib.Omega.{arith}
 use Rattle.bus.specs.Command.{answer}
 use Rattle.tape.proofs.Laws.{bind, seq, dry, read-on, on_true, on_false}
-use borrow.Author.Rules.{rules}
 use Rattle.bus.proofs.command.take_answer.Goals as goal
 
 pub returns-then-form : goal.returns-then-form

@@ -16,7 +16,6 @@ use Rattle.tape.specs.Run.{at, After, run, does_at, does, Behind, Gave}
 use Rattle.tape.specs.Steps.{word, data_from, data_words}
 use Rattle.tape.proofs.Behind.{long, at_place, at-used}
 use Rattle.bus.specs.Command.{zeros, response_words}
-use borrow.Author.Rules.{rules}
 use Rattle.bus.proofs.command.take_words.Goals as goal
 
 -- Four words in one go are four words one after the other, also where fewer are left.

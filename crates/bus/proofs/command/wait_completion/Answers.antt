@@ -1,4 +1,4 @@
-use Prim.Native.Nat.{ℕ, ◌+◌, ◌-◌, ◌≤◌, ◌<◌}
+use Prim.Native.Nat.{ℕ, ◌+◌, ◌≤◌, ◌<◌}
 use mathlib.Core.Bool.{Bool, true, false, not, ◌&&◌}
 use mathlib.Core.List.{List}
 use mathlib.Core.Path.{◌≡◌, refl, ap, ◌∙◌}
@@ -22,7 +22,6 @@ use Rattle.tape.proofs.Laws.{bind, refusal, from-going, from-stopped}
 use Rattle.tape.proofs.Loops.{Turned, last_turn, out-of-turns}
 use Rattle.tape.proofs.Polls.{on, counted-within, leads-within, leads, leads-to, skipped, reads}
 use Rattle.bus.specs.Command.{poll_completion, wait_completion}
-use borrow.Author.Rules.{rules}
 use Rattle.bus.proofs.command.wait_completion.Goals as goal
 
 first_of : (a b : Bool) → (a && b) ≡ true → a ≡ true

@@ -1,7 +1,6 @@
 use mathlib.Core.Path.{sym, ◌∙◌}
 use Rattle.bus.specs.Transfer.{clean}
 use Rattle.tape.proofs.Laws.{stay}
-use borrow.Author.Rules.{rules}
 use Rattle.bus.proofs.poll.clean.Goals as goal
 
 pub returns-in-Clean : goal.returns-in-Clean

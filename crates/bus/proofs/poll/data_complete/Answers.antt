@@ -2,7 +2,6 @@ use native.Mathlib.Omega.{arith}
 use borrow.Author.Tests.{eq-eqb, ne_eqb}
 use Rattle.bus.specs.Transfer.{data_complete}
 use Rattle.tape.proofs.Laws.{bind, read-on, on_true, on_false}
-use borrow.Author.Rules.{rules}
 use Rattle.bus.proofs.poll.data_complete.Goals as goal
 
 pub settle-requires : goal.settle-requires

@@ -6,7 +6,6 @@ use Rattle.tape.specs.Run.{at, Gave}
 use Rattle.tape.specs.Steps.{word}
 use Rattle.bus.specs.Transfer.{drained}
 use Rattle.tape.proofs.Laws.{bind, seq, dry}
-use borrow.Author.Rules.{rules}
 use Rattle.bus.proofs.poll.drained.Goals as goal
 
 pub read_word-count-requires : goal.read_word-count-requires

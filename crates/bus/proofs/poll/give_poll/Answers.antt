@@ -1,6 +1,5 @@
 use Rattle.tape.specs.Run.{run}
 use Rattle.tape.proofs.Laws.{from-going, from-stopped}
-use borrow.Author.Rules.{rules}
 use Rattle.bus.proofs.poll.give_poll.Goals as goal
 
 pub returns-in-Going : goal.returns-in-Going

@@ -3,7 +3,6 @@ use native.Mathlib.Omega.{arith}
 use Rattle.tape.specs.declared.script.Reading.TheVariants as Reading
 use Rattle.bus.specs.Transfer.{poll_transfer}
 use Rattle.tape.proofs.Laws.{bind, seq, dry, read-on}
-use borrow.Author.Rules.{rules}
 use Rattle.bus.proofs.poll.poll_transfer.Goals as goal
 
 pub read_word-dma-requires : goal.read_word-dma-requires

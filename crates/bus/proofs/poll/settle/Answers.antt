@@ -2,7 +2,6 @@ use mathlib.Core.Path.{sym, ◌∙◌}
 use native.Mathlib.Omega.{arith}
 use Rattle.bus.specs.Transfer.{settle}
 use Rattle.tape.proofs.Laws.{bind, seq, read-on, on_true, on_false}
-use borrow.Author.Rules.{rules}
 use Rattle.bus.proofs.poll.settle.Goals as goal
 
 pub drained-done-requires : goal.drained-done-requires

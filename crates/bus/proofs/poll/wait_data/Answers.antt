@@ -1,15 +1,9 @@
-use mathlib.Core.List.{List}
 use mathlib.Core.Path.{sym, ◌∙◌}
-use mathlib.Core.Bool.{Bool, false}
-use Prim.Native.Nat.{ℕ, ◌-◌}
 use native.Mathlib.Omega.{arith}
-use Rattle.tape.specs.declared.rows.Row.{Row}
-use Rattle.bus.specs.Transfer.{data_complete, wait_data}
-use Rattle.tape.specs.Run.{at, Behind}
+use Rattle.bus.specs.Transfer.{wait_data}
 use Rattle.tape.proofs.Behind.{further, long}
 use Rattle.tape.proofs.Laws.{refusal, forget}
-use Rattle.tape.proofs.Loops.{Turned, no_turn, next-turn, last_turn, out-of-turns, turned_on}
-use borrow.Author.Rules.{rules}
+use Rattle.tape.proofs.Loops.{no_turn, next-turn, last_turn, out-of-turns, turned_on}
 use Rattle.bus.proofs.poll.wait_data.Goals as goal
 
 pub loop-i-init : goal.loop-i-init

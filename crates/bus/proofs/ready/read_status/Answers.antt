@@ -1,7 +1,6 @@
 use Rattle.bus.specs.Command.{first_of}
 use Rattle.bus.specs.Ready.{read_status}
 use Rattle.tape.proofs.Laws.{mapped}
-use borrow.Author.Rules.{rules}
 use Rattle.bus.proofs.ready.read_status.Goals as goal
 
 pub returns : goal.returns

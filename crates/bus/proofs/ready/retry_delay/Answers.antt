@@ -1,5 +1,4 @@
 use Rattle.bus.specs.Ready.{retry_delay}
-use borrow.Author.Rules.{rules}
 use Rattle.bus.proofs.ready.retry_delay.Goals as goal
 
 pub returns : goal.returns

@@ -1,7 +1,6 @@
 use mathlib.Core.Path.{sym, ◌∙◌}
 use Rattle.bus.specs.Ready.{try_ready}
 use Rattle.tape.proofs.Laws.{bind, seq, stay, on_true, on_false}
-use borrow.Author.Rules.{rules}
 use Rattle.bus.proofs.ready.try_ready.Goals as goal
 
 pub returns-then-ready : goal.returns-then-ready

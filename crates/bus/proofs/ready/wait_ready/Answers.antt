@@ -1,17 +1,9 @@
-use lib.ListN.{length}
-use mathlib.Core.List.{List}
-use mathlib.Core.Path.{◌≡◌, refl, sym, ◌∙◌}
-use mathlib.Core.Bool.{Bool, false}
-use Prim.Native.Nat.{ℕ, ◌-◌}
+use mathlib.Core.Path.{refl, sym, ◌∙◌}
 use native.Mathlib.Omega.{arith}
-use Rattle.tape.specs.declared.progress.Progress.{Progress}
-use Rattle.bus.specs.Ready.{try_ready, wait_ready}
-use Rattle.tape.specs.Run.{at}
+use Rattle.bus.specs.Ready.{wait_ready}
 use Rattle.tape.proofs.Laws.{refusal, forget, not-over, still-going}
-use Rattle.tape.proofs.Loops.{Turned, no_turn, next-turn, last_turn, out-of-turns}
-use Rattle.tape.specs.Layout.{rows_in}
+use Rattle.tape.proofs.Loops.{no_turn, next-turn, last_turn, out-of-turns}
 use borrow.Author.Rules.{rules}
-use Rattle.bus.proofs.ready.wait_ready.Invariants.{Tried}
 use Rattle.bus.proofs.ready.wait_ready.Goals as goal
 
 pub loop-i-init : goal.loop-i-init

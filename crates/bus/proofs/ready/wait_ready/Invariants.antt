@@ -1,22 +1,19 @@
 use lib.ListN.{length}
 use mathlib.Core.List.{List}
-use mathlib.Core.Path.{◌≡◌, refl, sym, ◌∙◌}
+use mathlib.Core.Path.{◌≡◌}
 use mathlib.Core.Bool.{Bool, false}
 use Prim.Native.Nat.{ℕ, ◌-◌}
-use native.Mathlib.Omega.{arith}
 use Rattle.tape.specs.declared.progress.Progress.{Progress}
-use Rattle.bus.specs.Ready.{try_ready, wait_ready}
+use Rattle.bus.specs.Ready.{try_ready}
 use Rattle.tape.specs.Run.{at}
-use Rattle.tape.proofs.Laws.{refusal, forget, not-over, still-going}
-use Rattle.tape.proofs.Loops.{Turned, no_turn, next-turn, last_turn, out-of-turns}
+use Rattle.tape.proofs.Loops.{Turned}
 use Rattle.tape.specs.Layout.{rows_in}
-use borrow.Author.Rules.{rules}
 use Rattle.bus.proofs.ready.wait_ready.Given as goal
 
 -- after i attempts of the loop that began at p with these rows
 pub record Tried (script : List ℕ) (source limit rca attempts i : ℕ) (rows₀ rows : List ℕ) (p q : Progress) : Type 0 where
-  room : length rows ≡ length rows₀
-  turned : Turned script Bool false (try_ready source limit rca) (λ ready. ready) attempts i (at p (rows_in rows₀)) (at q (rows_in rows))
+  pub room : length rows ≡ length rows₀
+  pub turned : Turned script Bool false (try_ready source limit rca) (λ ready. ready) attempts i (at p (rows_in rows₀)) (at q (rows_in rows))
 
 abbrev pub invariant-loop-i : goal.invariant-loop-i
 invariant-loop-i l = Tried l.script l.source.0 l.limit l.rca l.attempts l.i l.initial.rows l.rows l.initial.q l.q

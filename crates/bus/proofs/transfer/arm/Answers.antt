@@ -4,7 +4,6 @@ use Rattle.bus.specs.Transfer.{arm}
 use Rattle.tape.proofs.Laws.{seq}
 use Rattle.tape.proofs.Layouts.{rows_long}
 use Rattle.tape.proofs.Room.{keeps}
-use borrow.Author.Rules.{rules}
 use Rattle.bus.proofs.transfer.arm.Goals as goal
 
 pub returns : goal.returns

@@ -5,7 +5,6 @@ use Rattle.tape.specs.Steps.{reset_controller}
 use Rattle.bus.specs.Transfer.{transfer_data, blocking_data}
 use Rattle.tape.proofs.Laws.{guarded, settled-value, stay, from-stopped}
 use Rattle.tape.proofs.Lying.{guard-keeps}
-use borrow.Author.Rules.{rules}
 use Rattle.bus.proofs.transfer.blocking_data.Goals as goal
 
 pub returns-in-Going-left : goal.returns-in-Going-left

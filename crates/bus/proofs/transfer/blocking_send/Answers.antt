@@ -1,7 +1,6 @@
 use Rattle.tape.specs.Steps.{reset_controller}
 use Rattle.bus.specs.Transfer.{transfer_data, blocking_data}
 use Rattle.tape.proofs.Laws.{guarded, from-stopped}
-use borrow.Author.Rules.{rules}
 use Rattle.bus.proofs.transfer.blocking_send.Goals as goal
 
 pub returns-in-Going : goal.returns-in-Going

@@ -1,6 +1,5 @@
 use Rattle.bus.specs.Transfer.{close_gate}
 use Rattle.tape.proofs.Laws.{looking, stay, on_true, on_false}
-use borrow.Author.Rules.{rules}
 use Rattle.bus.proofs.transfer.close_gate.Goals as goal
 
 pub returns-then-p : goal.returns-then-p

@@ -1,4 +1,3 @@
-use borrow.Author.Rules.{rules}
 use Rattle.bus.proofs.transfer.control.Goals as goal
 
 pub returns : goal.returns

@@ -1,6 +1,5 @@
 use Rattle.bus.specs.Transfer.{end_data}
 use Rattle.tape.proofs.Laws.{seq}
-use borrow.Author.Rules.{rules}
 use Rattle.bus.proofs.transfer.end_data.Goals as goal
 
 pub returns : goal.returns

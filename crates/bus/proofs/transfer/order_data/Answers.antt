@@ -1,6 +1,5 @@
 use Rattle.bus.specs.Transfer.{order_data}
 use Rattle.tape.proofs.Laws.{seq, forget}
-use borrow.Author.Rules.{rules}
 use Rattle.bus.proofs.transfer.order_data.Goals as goal
 
 pub returns : goal.returns

@@ -4,7 +4,6 @@ use Rattle.tape.specs.Plan.{Nothing}
 use Rattle.tape.specs.Run.{After}
 use Rattle.bus.specs.Transfer.{receive, landed}
 use Rattle.tape.proofs.Laws.{seq, read-on}
-use borrow.Author.Rules.{rules}
 use Rattle.bus.proofs.transfer.receive.Goals as goal
 
 pub take_data-requires : goal.take_data-requires

@@ -1,6 +1,5 @@
 use Rattle.bus.specs.Transfer.{receive, landed, end_data, transfer_data}
 use Rattle.tape.proofs.Laws.{bind, seq, stay}
-use borrow.Author.Rules.{rules}
 use Rattle.bus.proofs.transfer.send_data.Goals as goal
 
 pub returns : goal.returns

@@ -1,5 +1,4 @@
 use Rattle.bus.proofs.Starting.{reads_begin}
-use borrow.Author.Rules.{rules}
 use Rattle.bus.proofs.transfer.start_data.Goals as goal
 
 pub returns : goal.returns

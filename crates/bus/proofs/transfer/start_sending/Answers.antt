@@ -1,5 +1,4 @@
 use Rattle.bus.proofs.Starting.{sends_begin}
-use borrow.Author.Rules.{rules}
 use Rattle.bus.proofs.transfer.start_sending.Goals as goal
 
 pub returns : goal.returns

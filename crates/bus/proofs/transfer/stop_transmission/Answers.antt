@@ -1,6 +1,5 @@
 use Rattle.bus.specs.Transfer.{stop_transmission}
 use Rattle.tape.proofs.Laws.{forget, stay, on_true, on_false}
-use borrow.Author.Rules.{rules}
 use Rattle.bus.proofs.transfer.stop_transmission.Goals as goal
 
 pub returns-then-of_many : goal.returns-then-of_many

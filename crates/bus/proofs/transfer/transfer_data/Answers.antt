@@ -7,7 +7,6 @@ use Rattle.tape.specs.Run.{After, Lies}
 use Rattle.bus.specs.Transfer.{wait_data, end_data, transfer_data}
 use Rattle.tape.proofs.Laws.{bind, seq}
 use Rattle.tape.proofs.Lying.{was-going, lies_still}
-use borrow.Author.Rules.{rules}
 use Rattle.bus.proofs.transfer.transfer_data.Goals as goal
 
 -- the same place, told otherwise

@@ -16,8 +16,8 @@ use Rattle.init.proofs.identify.wait_power_up.Given as goal
 
 -- after i attempts of the loop that began at p with these rows
 pub record Tried (script : List ℕ) (set : Settings) (version2 : Bool) (attempts i : ℕ) (rows₀ rows : List ℕ) (p q : Progress) : Type 0 where
-  room : length rows ≡ length rows₀
-  turned : Turned script ℕ 0 (try_power_up set version2) powered_up attempts i (at p (rows_in rows₀)) (at q (rows_in rows))
+  pub room : length rows ≡ length rows₀
+  pub turned : Turned script ℕ 0 (try_power_up set version2) powered_up attempts i (at p (rows_in rows₀)) (at q (rows_in rows))
 
 abbrev pub invariant-loop-i : goal.invariant-loop-i
 invariant-loop-i l = Tried l.script l.settings l.version2 l.attempts l.i l.initial.rows l.rows l.initial.q l.q

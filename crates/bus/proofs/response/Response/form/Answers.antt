@@ -1,5 +1,4 @@
 use Rattle.bus.specs.Command.{form_of}
-use borrow.Author.Rules.{rules}
 use Rattle.bus.proofs.response.Response.form.Goals as goal
 
 pub returns-in-None : goal.returns-in-None
