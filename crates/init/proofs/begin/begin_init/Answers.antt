@@ -1,6 +1,5 @@
 use Rattle.init.specs.Initialise.{begin_init}
 use Rattle.tape.proofs.Laws.{seq, bind}
-use borrow.Author.Rules.{rules}
 use Rattle.init.proofs.begin.begin_init.Goals as goal
 
 pub returns : goal.returns

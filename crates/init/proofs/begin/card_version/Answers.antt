@@ -1,6 +1,5 @@
 use Rattle.init.specs.Initialise.{card_version}
 use Rattle.tape.proofs.Laws.{handled, from-stopped}
-use borrow.Author.Rules.{rules}
 use Rattle.init.proofs.begin.card_version.Goals as goal
 
 pub returns-in-Going : goal.returns-in-Going

@@ -4,7 +4,6 @@ use Rattle.init.specs.Initialise.{late}
 use Rattle.tape.proofs.Laws.{stay, from-going, on_true, on_false, settled-value, settled-refusal, settled-full}
 use Rattle.tape.specs.Plan.{failed, ended}
 use Rattle.tape.specs.Run.{run}
-use borrow.Author.Rules.{rules}
 use Rattle.init.proofs.begin.judge_version.Goals as goal
 
 pub returns-in-Going : goal.returns-in-Going

@@ -3,7 +3,6 @@ use mathlib.Core.Path.{◌≡◌, refl}
 use Rattle.types.specs.declared.error.Error.{Error}
 use Rattle.types.specs.declared.error.Error.TheVariants as E
 use Rattle.init.specs.Initialise.{timed_out}
-use borrow.Author.Rules.{rules}
 use Rattle.init.proofs.begin.timed_out.Goals as goal
 
 other : (e : Error) → (e ≡ E.Timeout → ⊥) → false ≡ timed_out e

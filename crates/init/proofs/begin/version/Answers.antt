@@ -1,7 +1,6 @@
 use borrow.Author.Tests.{eq-eqb, ne_eqb}
 use Rattle.init.specs.Initialise.{version}
 use Rattle.tape.proofs.Laws.{seq, stay, on_true, on_false}
-use borrow.Author.Rules.{rules}
 use Rattle.init.proofs.begin.version.Goals as goal
 
 pub returns-then-word-eq-CONDITION : goal.returns-then-word-eq-CONDITION

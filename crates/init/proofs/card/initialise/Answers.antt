@@ -1,7 +1,6 @@
 use Rattle.tape.specs.Steps.{reset_controller}
 use Rattle.init.specs.Initialise.{initialise}
 use Rattle.tape.proofs.Laws.{guarded, settled-value, stay, from-stopped}
-use borrow.Author.Rules.{rules}
 use Rattle.init.proofs.card.initialise.Goals as goal
 
 pub returns-in-Going-left : goal.returns-in-Going-left

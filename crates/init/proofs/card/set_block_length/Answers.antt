@@ -1,6 +1,5 @@
 use Rattle.init.specs.Initialise.{block_length}
 use Rattle.tape.proofs.Laws.{forget, stay}
-use borrow.Author.Rules.{rules}
 use Rattle.init.proofs.card.set_block_length.Goals as goal
 
 pub returns-in-SDSC : goal.returns-in-SDSC

@@ -1,5 +1,4 @@
 use borrow.Author.Tests.{eq-eqb, ne_eqb}
-use borrow.Author.Rules.{rules}
 use Rattle.init.proofs.identify.agree.Goals as goal
 
 pub returns-then-ocr-ne0 : goal.returns-then-ocr-ne0

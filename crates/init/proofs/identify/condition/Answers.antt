@@ -1,4 +1,3 @@
-use borrow.Author.Rules.{rules}
 use Rattle.init.proofs.identify.condition.Goals as goal
 
 pub returns-then-version2 : goal.returns-then-version2

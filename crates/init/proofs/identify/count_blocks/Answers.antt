@@ -1,6 +1,5 @@
 use mathlib.Core.Path.{sym, ◌∙◌}
 use Rattle.tape.proofs.Laws.{refusal}
-use borrow.Author.Rules.{rules}
 use Rattle.init.proofs.identify.count_blocks.Goals as goal
 
 pub returns-in-Blocks : goal.returns-in-Blocks

@@ -1,4 +1,3 @@
-use borrow.Author.Rules.{rules}
 use Rattle.init.proofs.identify.described.Goals as goal
 
 pub returns : goal.returns

@@ -1,6 +1,5 @@
 use Rattle.tape.proofs.Laws.{from-going, from-stopped}
 use Rattle.tape.specs.Run.{run}
-use borrow.Author.Rules.{rules}
 use Rattle.init.proofs.identify.give_card.Goals as goal
 
 pub returns-in-Going : goal.returns-in-Going

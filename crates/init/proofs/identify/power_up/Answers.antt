@@ -1,6 +1,5 @@
 use Rattle.init.specs.Initialise.{power_up}
 use Rattle.tape.proofs.Laws.{seq, bind}
-use borrow.Author.Rules.{rules}
 use Rattle.init.proofs.identify.power_up.Goals as goal
 
 pub returns : goal.returns

@@ -2,7 +2,6 @@ use Prim.Native.Nat.{◌/◌, ◌^◌}
 use Rattle.bus.specs.Command.{first_of}
 use Rattle.init.specs.Initialise.{publish}
 use Rattle.tape.proofs.Laws.{mapped}
-use borrow.Author.Rules.{rules}
 use Rattle.init.proofs.identify.publish.Goals as goal
 
 pub returns : goal.returns

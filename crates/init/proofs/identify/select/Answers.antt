@@ -1,7 +1,6 @@
 use Rattle.init.specs.Initialise.{select}
 use Rattle.tape.proofs.Laws.{seq, bind}
 use Rattle.tape.specs.Layout.{rows_in}
-use borrow.Author.Rules.{rules}
 use Rattle.init.proofs.identify.select.Goals as goal
 
 pub returns : goal.returns

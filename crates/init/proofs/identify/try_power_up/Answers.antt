@@ -3,7 +3,6 @@ use mathlib.Core.Path.{ap}
 use borrow.Author.Tests.{eq-eqb, ne_eqb}
 use Rattle.init.specs.Initialise.{try_power_up}
 use Rattle.tape.proofs.Laws.{seq, bind, on_true, on_false}
-use borrow.Author.Rules.{rules}
 use Rattle.init.proofs.identify.try_power_up.Goals as goal
 
 pub returns-then-ocr-ne0 : goal.returns-then-ocr-ne0

@@ -1,17 +1,14 @@
 use lib.ListN.{length}
 use mathlib.Core.List.{List}
-use mathlib.Core.Path.{◌≡◌, refl, sym, ◌∙◌}
+use mathlib.Core.Path.{◌≡◌}
 use mathlib.Core.Bool.{Bool}
 use Prim.Native.Nat.{ℕ, ◌-◌}
-use native.Mathlib.Omega.{arith}
 use Rattle.tape.specs.declared.progress.Progress.{Progress}
 use Rattle.init.specs.declared.settings.Settings.{Settings}
 use Rattle.tape.specs.Run.{at}
-use Rattle.init.specs.Initialise.{powered_up, try_power_up, wait_power_up}
-use Rattle.tape.proofs.Laws.{refusal}
-use Rattle.tape.proofs.Loops.{Turned, no_turn, next-turn, last_turn, out-of-turns}
+use Rattle.init.specs.Initialise.{powered_up, try_power_up}
+use Rattle.tape.proofs.Loops.{Turned}
 use Rattle.tape.specs.Layout.{rows_in}
-use borrow.Author.Rules.{rules}
 use Rattle.init.proofs.identify.wait_power_up.Given as goal
 
 -- after i attempts of the loop that began at p with these rows

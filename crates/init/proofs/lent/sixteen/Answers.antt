@@ -1,13 +1,12 @@
-use Prim.Native.Nat.{ℕ, ◌+◌, ◌-◌, ◌≤◌, ◌<◌}
+use Prim.Native.Nat.{ℕ, ◌+◌, ◌<◌}
 use mathlib.Core.List.{List, ◌++◌, append-nil}
 use mathlib.Core.Path.{◌≡◌, refl, ap, sym, ◌∙◌}
 use native.Mathlib.Nat.{zero-add}
 use native.Mathlib.Omega.{arith}
-use lib.ListN.{get_or, set, length, take, drop, drop_of_length-le, replicate}
+use lib.ListN.{get_or, set, length, drop, drop_of_length-le, replicate}
 use lib.Seq.{take_all}
 use Rattle.types.proofs.Counted.{length-counted, get_d_counted, over, over-more}
 use Rattle.init.specs.Lent.{sixteen_of}
-use borrow.Author.Rules.{rules}
 use Rattle.init.proofs.lent.sixteen.Goals as goal
 
 -- the words at each place, laid over any sixteen

@@ -1,13 +1,8 @@
-use Prim.Native.Nat.{ℕ, ◌+◌, ◌-◌, ◌≤◌, ◌<◌}
-use mathlib.Core.List.{List, ◌++◌, append-nil}
-use mathlib.Core.Path.{◌≡◌, refl, ap, sym, ◌∙◌}
-use native.Mathlib.Nat.{zero-add}
-use native.Mathlib.Omega.{arith}
-use lib.ListN.{get_or, set, length, take, drop, drop_of_length-le, replicate}
-use lib.Seq.{take_all}
-use Rattle.types.proofs.Counted.{length-counted, get_d_counted, over, over-more}
+use Prim.Native.Nat.{◌-◌, ◌≤◌}
+use mathlib.Core.Path.{◌≡◌}
+use lib.ListN.{take, drop}
+use Rattle.types.proofs.Counted.{over}
 use Rattle.init.specs.Lent.{sixteen_of}
-use borrow.Author.Rules.{rules}
 use Rattle.init.proofs.lent.sixteen.Given as goal
 
 abbrev pub invariant-loop-i : goal.invariant-loop-i

@@ -1,6 +1,5 @@
 use Rattle.init.proofs.Sixteen.{past-count, past-script, within}
 use native.Mathlib.Omega.{arith}
-use borrow.Author.Rules.{rules}
 use Rattle.init.proofs.lent.word.Goals as goal
 
 pub returns-then-count-k : goal.returns-then-count-k

@@ -2,7 +2,6 @@ use mathlib.Core.Path.{ap, sym, ◌∙◌}
 use Rattle.init.proofs.Sixteen.{offered_sixteen}
 use Rattle.init.specs.Initialise.{offered, ask_switch}
 use Rattle.tape.proofs.Laws.{bind, stay, on_true, on_false}
-use borrow.Author.Rules.{rules}
 use Rattle.init.proofs.speed.ask_switch.Goals as goal
 
 pub returns-then-offers : goal.returns-then-offers

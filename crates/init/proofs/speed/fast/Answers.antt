@@ -1,5 +1,4 @@
 use borrow.Author.Tests.{lt-ltb, le-ltb}
-use borrow.Author.Rules.{rules}
 use Rattle.init.proofs.speed.fast.Goals as goal
 
 pub returns-then-frequency-gt-SDR12 : goal.returns-then-frequency-gt-SDR12

@@ -1,6 +1,5 @@
 use mathlib.Core.Path.{sym, ◌∙◌}
 use Rattle.tape.proofs.Laws.{refusal}
-use borrow.Author.Rules.{rules}
 use Rattle.init.proofs.speed.find_rate.Goals as goal
 
 pub returns-in-Rate : goal.returns-in-Rate

@@ -1,5 +1,4 @@
 use mathlib.Core.Path.{sym, ◌∙◌}
-use borrow.Author.Rules.{rules}
 use Rattle.init.proofs.speed.fits.Goals as goal
 
 pub returns-then-wide : goal.returns-then-wide

@@ -1,5 +1,4 @@
 use borrow.Author.Tests.{eq-eqb, ne_eqb}
-use borrow.Author.Rules.{rules}
 use Rattle.init.proofs.speed.offers.Goals as goal
 
 pub returns-then-bytes-ne0 : goal.returns-then-bytes-ne0

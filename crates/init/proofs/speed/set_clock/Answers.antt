@@ -1,6 +1,5 @@
 use Rattle.init.specs.Initialise.{set_clock}
 use Rattle.tape.proofs.Laws.{seq, bind}
-use borrow.Author.Rules.{rules}
 use Rattle.init.proofs.speed.set_clock.Goals as goal
 
 pub returns : goal.returns

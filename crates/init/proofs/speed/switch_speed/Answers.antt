@@ -1,7 +1,6 @@
 use mathlib.Core.Path.{sym, ◌∙◌}
 use Rattle.init.specs.Initialise.{switch_speed}
 use Rattle.tape.proofs.Laws.{stay, on_true, on_false}
-use borrow.Author.Rules.{rules}
 use Rattle.init.proofs.speed.switch_speed.Goals as goal
 
 pub returns-then-fast : goal.returns-then-fast

@@ -1,4 +1,3 @@
-use borrow.Author.Rules.{rules}
 use Rattle.init.proofs.speed.took.Goals as goal
 
 pub returns : goal.returns

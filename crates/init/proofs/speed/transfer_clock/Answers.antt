@@ -1,6 +1,5 @@
 use Rattle.init.specs.Initialise.{transfer_clock}
 use Rattle.tape.proofs.Laws.{bind}
-use borrow.Author.Rules.{rules}
 use Rattle.init.proofs.speed.transfer_clock.Goals as goal
 
 pub returns : goal.returns
