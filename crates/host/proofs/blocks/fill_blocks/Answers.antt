@@ -1,10 +1,9 @@
-use Prim.Native.Nat.{◌+◌, ◌*◌, ◌-◌, ◌≤◌}
+use Prim.Native.Nat.{◌+◌, ◌*◌, ◌-◌}
 use mathlib.Core.Path.{◌≡◌, refl}
 use native.Mathlib.Omega.{arith}
-use lib.ListN.{length}
 use Rattle.types.specs.Words.{bytes_of}
 use Rattle.host.specs.Calls.{blocks_filled}
-use Rattle.host.proofs.Laying.{laid_blocks, next-block}
+use Rattle.host.proofs.Laying.{next-block}
 use borrow.Author.Rules.{rules}
 use Rattle.host.proofs.blocks.fill_blocks.Goals as goal
 

@@ -1,11 +1,7 @@
-use Prim.Native.Nat.{◌+◌, ◌*◌, ◌-◌, ◌≤◌}
-use mathlib.Core.Path.{◌≡◌, refl}
-use native.Mathlib.Omega.{arith}
+use Prim.Native.Nat.{◌-◌, ◌≤◌}
+use mathlib.Core.Path.{◌≡◌}
 use lib.ListN.{length}
-use Rattle.types.specs.Words.{bytes_of}
-use Rattle.host.specs.Calls.{blocks_filled}
-use Rattle.host.proofs.Laying.{laid_blocks, next-block}
-use borrow.Author.Rules.{rules}
+use Rattle.host.proofs.Laying.{laid_blocks}
 use Rattle.host.proofs.blocks.fill_blocks.Given as goal
 
 abbrev pub invariant-loop-k : goal.invariant-loop-k

@@ -4,7 +4,6 @@ use Prim.Native.Nat.{ℕ, ◌+◌, ◌-◌}
 use mathlib.Core.Path.{◌≡◌}
 use lib.ListN.{length, take, drop, length-drop, drop_of_length-le}
 use lib.Seq.{take_all, take-nil}
-use borrow.Author.Rules.{rules}
 use Rattle.host.proofs.blocks.part.Goals as goal
 
 pub returns-then-script-place : goal.returns-then-script-place

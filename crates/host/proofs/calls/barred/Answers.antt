@@ -1,4 +1,3 @@
-use borrow.Author.Rules.{rules}
 use Rattle.host.proofs.calls.barred.Goals as goal
 
 pub returns-then-sends : goal.returns-then-sends

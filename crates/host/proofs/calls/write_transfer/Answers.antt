@@ -1,4 +1,3 @@
-use borrow.Author.Rules.{rules}
 use Rattle.host.proofs.calls.write_transfer.Goals as goal
 
 pub returns : goal.returns

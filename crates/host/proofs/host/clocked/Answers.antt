@@ -2,7 +2,6 @@ use mathlib.Core.Bool.{false}
 use mathlib.Core.Path.{◌≡◌, sym, ◌∙◌}
 use Rattle.types.specs.Leaf.{clock_of}
 use Rattle.host.specs.Calls.{clocked_host}
-use borrow.Author.Rules.{rules}
 use Rattle.host.proofs.host.clocked.Goals as goal
 
 pub returns-in-Set : goal.returns-in-Set

@@ -1,4 +1,3 @@
-use borrow.Author.Rules.{rules}
 use Rattle.host.proofs.host.no_host.Goals as goal
 
 pub returns : goal.returns

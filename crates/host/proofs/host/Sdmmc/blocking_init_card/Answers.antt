@@ -2,7 +2,6 @@ use mathlib.Core.List.{[]}
 use borrow.Author.Tests.{eq-eqb, ne_eqb, lt-ltb, le-ltb}
 use mathlib.Core.Path.{refl, sym, ◌∙◌}
 use Rattle.host.specs.Calls.{init_from, initialised}
-use borrow.Author.Rules.{rules}
 use Rattle.host.proofs.host.Sdmmc.blocking_init_card.Goals as goal
 
 pub returns-then-asked-eq0 : goal.returns-then-asked-eq0

@@ -5,7 +5,6 @@ use lib.ListN.{length}
 use Rattle.host.specs.Calls.{blocks_from, blocks_came}
 use Rattle.host.proofs.Ran.{judged-good}
 use Rattle.host.proofs.Laying.{none_filled}
-use borrow.Author.Rules.{rules}
 use Rattle.host.proofs.host.Sdmmc.blocking_read_blocks.Goals as goal
 
 pub overflow_cast-bytes : goal.overflow_cast-bytes

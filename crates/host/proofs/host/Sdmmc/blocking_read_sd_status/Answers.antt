@@ -1,5 +1,4 @@
 use Rattle.host.proofs.Ran.{status-read}
-use borrow.Author.Rules.{rules}
 use Rattle.host.proofs.host.Sdmmc.blocking_read_sd_status.Goals as goal
 
 pub returns : goal.returns

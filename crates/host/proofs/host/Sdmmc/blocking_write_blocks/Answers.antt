@@ -4,7 +4,6 @@ use native.Mathlib.Omega.{arith}
 use lib.ListN.{length}
 use Rattle.host.specs.Calls.{blocks_from, blocks_came}
 use Rattle.host.proofs.Ran.{judged-good}
-use borrow.Author.Rules.{rules}
 use Rattle.host.proofs.host.Sdmmc.blocking_write_blocks.Goals as goal
 
 pub overflow_cast-bytes : goal.overflow_cast-bytes

@@ -3,7 +3,6 @@ use Rattle.types.specs.declared.error.Error.TheVariants.{NoCard}
 use Rattle.init.specs.Initialise.{no_card}
 use Rattle.host.specs.declared.host.Held.{Held}
 use Rattle.host.proofs.Ran.{if_true, if_false}
-use borrow.Author.Rules.{rules}
 use Rattle.host.proofs.host.Sdmmc.card.Goals as goal
 
 abbrev none : Held

@@ -5,7 +5,6 @@ use Rattle.tape.specs.declared.progress.Pace.TheVariants.{Stopped}
 use Rattle.host.specs.declared.host.Called.{Called}
 use Rattle.host.specs.declared.host.Sdmmc.{Sdmmc}
 use Rattle.host.specs.Calls.{ends}
-use borrow.Author.Rules.{rules}
 use Rattle.host.proofs.host.Sdmmc.ends.Goals as goal
 
 -- a call comes to the same where each part does: the answer, the words used, the rows, the next host

@@ -1,5 +1,4 @@
 use mathlib.Core.List.{[]}
-use borrow.Author.Rules.{rules}
 use Rattle.host.proofs.host.Sdmmc.ends_before.Goals as goal
 
 pub returns : goal.returns

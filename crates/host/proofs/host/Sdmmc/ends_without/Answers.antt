@@ -1,7 +1,6 @@
 use mathlib.Core.Path.{◌≡◌}
 use Rattle.tape.specs.Run.{at}
 use Rattle.host.specs.Calls.{dropped}
-use borrow.Author.Rules.{rules}
 use Rattle.host.proofs.host.Sdmmc.ends_without.Goals as goal
 
 pub returns : goal.returns

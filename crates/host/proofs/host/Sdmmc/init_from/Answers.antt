@@ -12,7 +12,6 @@ use Rattle.host.specs.declared.host.Called.{Called}
 use Rattle.host.specs.declared.host.Sdmmc.{Sdmmc}
 use Rattle.host.specs.Calls.{Came, fresh_line, dropped, holding, ends, called_of, init_from}
 use Rattle.host.proofs.Ran.{begun, from_start, ends-list, none-accepted, none-refused}
-use borrow.Author.Rules.{rules}
 use Rattle.host.proofs.host.Sdmmc.init_from.Goals as goal
 
 -- what an initialisation comes to, from what its plan came to
@@ -32,13 +31,15 @@ pub returns-in_default : goal.returns-in_default
 returns-in_default c = let host = c.args.self in
     let first : c.start-begun.result ≡ begun (fresh_line c.args.initial.frequency) = c.start-begun.ensures ∙ ap begun c.fresh_line.ensures in
     let left = at c.initialise-done.result.progress (rows_in c.initialise-done.new.rows) in
-    told host c.args.frequency.0 c.args.initial c.args.script.now (rows_in c.args.rows.now) (from_start (rw first at c.initialise-done.ensures))
-    (c.ends_without.ensures [] left.list ∙ ap called_of (none-accepted host _ _ _ [] _ _ left c.in_default.is))
+    let came = told host c.args.frequency.0 c.args.initial c.args.script.now (rows_in c.args.rows.now) {r = c.ends_without.result} (from_start (rw first at c.initialise-done.ensures))
+    (c.ends_without.ensures [] left.list ∙ ap called_of (none-accepted host _ _ _ [] _ _ left c.in_default.is)) in
+    record { answered = came.0; listed = came.1 }
 
 pub returns : goal.returns
 returns c = let host = c.args.self in
     let first : c.start-begun.result ≡ begun (fresh_line c.args.initial.frequency) = c.start-begun.ensures ∙ ap begun c.fresh_line.ensures in
     let left = at c.initialise-done.result.progress (rows_in c.initialise-done.new.rows) in
     let next : c.with-next.result ≡ holding host left c.initialise-done.result.card = c.with-next.ensures in
-    told host c.args.frequency.0 c.args.initial c.args.script.now (rows_in c.args.rows.now) (from_start (rw first at c.initialise-done.ensures))
-    (rw next at (c.ends.ensures [] left.list) ∙ ap called_of (none-refused host _ _ _ [] _ left c.in-Going.is))
+    let came = told host c.args.frequency.0 c.args.initial c.args.script.now (rows_in c.args.rows.now) {r = c.ends.result} (from_start (rw first at c.initialise-done.ensures))
+    (rw next at (c.ends.ensures [] left.list) ∙ ap called_of (none-refused host _ _ _ [] _ left c.in-Going.is)) in
+    record { answered = came.0; listed = came.1 }

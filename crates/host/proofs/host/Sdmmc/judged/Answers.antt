@@ -2,7 +2,6 @@ use mathlib.Core.Path.{refl, sym, ◌∙◌}
 use Prim.Native.Nat.{◌%◌}
 use borrow.Author.Tests.{eq-eqb, ne_eqb, not-true, not-false}
 use Rattle.host.specs.Calls.{blocks_judged}
-use borrow.Author.Rules.{rules}
 use Rattle.host.proofs.host.Sdmmc.judged.Goals as goal
 
 pub returns-then-not-self : goal.returns-then-not-self

@@ -1,6 +1,5 @@
 use mathlib.Core.Path.{sym, ◌∙◌}
 use Rattle.host.specs.Calls.{judged_host, made}
-use borrow.Author.Rules.{rules}
 use Rattle.host.proofs.host.Sdmmc.new.Goals as goal
 
 pub returns-in-Sound : goal.returns-in-Sound

@@ -5,7 +5,6 @@ use Rattle.bus.specs.Transfer.{incoming}
 use Rattle.host.specs.Calls.{Came, called_of, blocks_plan, blocks_next, blocks_from, blocks_filled}
 use Rattle.host.proofs.Ran.{ends-list, ends-taken, kept-none, going_on, stopped-there}
 use Rattle.host.proofs.Laying.{none_filled}
-use borrow.Author.Rules.{rules}
 use Rattle.host.proofs.host.Sdmmc.read_from.Goals as goal
 
 pub returns-in-Going : goal.returns-in-Going
@@ -13,7 +12,7 @@ unfolding blocks_from
 returns-in-Going c = let host = c.args.self in
     let got = c.read_data.ensures in
     let came = going_on host (blocks_plan host incoming c.args.address c.args.blocks) (blocks_next host) _ _ _ (rw c.start.ensures at c.wait_ready-ready.ensures) c.in-Going.is in
-    record { answered = got.0 ∙ ap called_of came; listed = got.1.0 ∙ ap (λ (x : Came). x.list) came; filled = got.1.1 ∙ ap (λ (x : Came). blocks_filled x.taken c.args.buffer.now) came }
+    record { answered = got.answered ∙ ap called_of came; listed = got.listed ∙ ap (λ (x : Came). x.list) came; filled = got.filled ∙ ap (λ (x : Came). blocks_filled x.taken c.args.buffer.now) came }
 
 pub returns-in-Stopped : goal.returns-in-Stopped
 unfolding blocks_from

@@ -3,7 +3,6 @@ use mathlib.Core.Path.{ap, ◌∙◌}
 use Rattle.tape.specs.Layout.{rows_in}
 use Rattle.host.specs.Calls.{Came, called_of, untouched, status_from, status_came}
 use Rattle.host.proofs.Ran.{if_true, if_false}
-use borrow.Author.Rules.{rules}
 use Rattle.host.proofs.host.Sdmmc.status_called.Goals as goal
 
 pub returns-then-self : goal.returns-then-self

@@ -23,8 +23,9 @@ pub returns-in_default : goal.returns-in_default
 returns-in_default c = let host = c.args.self in
     let left = at c.blocking_data-read.result.progress (rows_in c.blocking_data-read.new.rows) in
     let ws = take c.blocking_data-read.result.count (drop c.blocking_data-read.result.place c.args.script.now) in
-    data-told host (status_plan host) (status_next host) _ c.requires c.blocking_data-read.ensures.gave
-    (c.ends_without.ensures ws left.list ∙ ap called_of (none-accepted host _ _ _ ws _ _ left c.in_default.is))
+    let came = data-told host (status_plan host) (status_next host) _ {r = c.ends_without.result} c.requires c.blocking_data-read.ensures.gave
+    (c.ends_without.ensures ws left.list ∙ ap called_of (none-accepted host _ _ _ ws _ _ left c.in_default.is)) in
+    record { answered = came.0; listed = came.1 }
 
 pub returns : goal.returns
 returns c = let host = c.args.self in
@@ -33,5 +34,6 @@ returns c = let host = c.args.self in
     let words : c.sixteen.result ≡ sixteen_of ws = c.sixteen.ensures in
     let status = c.sd_status-status.ensures ∙ ap sd_status_of words ∙ status_sixteen ws in
     let next : c.with-next.result ≡ status_next host left ws = rw (c.with_status.ensures, status) at c.with-next.ensures in
-    data-told host (status_plan host) (status_next host) _ c.requires c.blocking_data-read.ensures.gave
-    (rw next at (c.ends.ensures ws left.list) ∙ ap called_of (none-refused host _ _ _ ws _ left c.in-Going.is))
+    let came = data-told host (status_plan host) (status_next host) _ {r = c.ends.result} c.requires c.blocking_data-read.ensures.gave
+    (rw next at (c.ends.ensures ws left.list) ∙ ap called_of (none-refused host _ _ _ ws _ left c.in-Going.is)) in
+    record { answered = came.0; listed = came.1 }

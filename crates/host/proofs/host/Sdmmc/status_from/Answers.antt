@@ -1,7 +1,6 @@
 use mathlib.Core.Path.{ap, sym, ◌∙◌}
 use Rattle.host.specs.Calls.{Came, called_of, status_plan, status_next}
 use Rattle.host.proofs.Ran.{ends-list, going_on, stopped-there}
-use borrow.Author.Rules.{rules}
 use Rattle.host.proofs.host.Sdmmc.status_from.Goals as goal
 
 pub returns-in-Going : goal.returns-in-Going

@@ -3,7 +3,6 @@ use Rattle.types.specs.Words.{words_of}
 use Rattle.bus.specs.Transfer.{outgoing}
 use Rattle.host.specs.Calls.{Came, called_of, blocks_plan, blocks_next, blocks_from}
 use Rattle.host.proofs.Ran.{ends-list, going_on, stopped-there}
-use borrow.Author.Rules.{rules}
 use Rattle.host.proofs.host.Sdmmc.write_from.Goals as goal
 
 pub returns-in-Going : goal.returns-in-Going
@@ -11,7 +10,7 @@ unfolding blocks_from
 returns-in-Going c = let host = c.args.self in
     let got = c.write_data.ensures in
     let came = going_on host (blocks_plan host (outgoing (words_of c.args.data.now)) c.args.address c.args.blocks) (blocks_next host) _ _ _ (rw c.start.ensures at c.wait_ready-waited.ensures) c.in-Going.is in
-    record { answered = got.0 ∙ ap called_of came; listed = got.1 ∙ ap (λ (x : Came). x.list) came }
+    record { answered = got.answered ∙ ap called_of came; listed = got.listed ∙ ap (λ (x : Came). x.list) came }
 
 pub returns-in-Stopped : goal.returns-in-Stopped
 unfolding blocks_from
