@@ -13,17 +13,17 @@ use Rattle.step.specs.declared.command.CommandStep.{CommandStep}
 use Rattle.step.proofs.Parts as parts
 
 -- two plans with the same ahead of them have the same ahead of them in a context
-pub same-plug : {A B : Type 0} (k : Context B A) (p q : Plan A) (h : Line) → next p h ≡ next q h → next (plug k p) h ≡ next (plug k q) h
+pub same-plug : {B A : Type 0} (k : Context B A) (p q : Plan A) (h : Line) → next p h ≡ next q h → next (plug k p) h ≡ next (plug k q) h
 same-plug k p q h e = next_plug k p h ∙ ap (plug_next k) e ∙ sym (next_plug k q h)
 
-plug-waits : {A B : Type 0} (k : Context B A) (x : Next A) → waits x ≡ true → waits (plug_next k x) ≡ true
+plug-waits : {B A : Type 0} (k : Context B A) (x : Next A) → waits x ≡ true → waits (plug_next k x) ≡ true
 unfolding plug_next waits
 plug-waits k (asks h r f z) e = refl
 plug-waits k (tells h r p) e = refl
 plug-waits k (over h a) e = cc
 plug-waits k (refused h c) e = cc
 
-module _ {A B : Type 0} (k : Context B A) (p : Plan A) (h : Line) (waiting : waits (next p h) ≡ true) where
+module _ {B A : Type 0} (k : Context B A) (p : Plan A) (h : Line) (waiting : waits (next p h) ≡ true) where
   pub inside_wants : want_of (next p h) ≡ want_of (next (plug k p) h)
   inside_wants = sym (ap want_of (next_plug k p h) ∙ wants_plug k (next p h) waiting)
 

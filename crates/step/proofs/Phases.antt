@@ -141,7 +141,7 @@ module _ (bus : Bus) (phase : Phase) (h : Line) where
   -- after the rows that ready the data path, after the data command, and after DCTRL: a read's and a write's
   pub readied_reads : (ws : Lent) → sends_of phase ≡ false → telling ws W.Control ≡ next (plug (armed bus phase ws) (give tt)) h
   unfolding writes_plan before_command row handle plug
-  readied_reads ws e = rw e
+  readied_reads ws e = rw (e, buffer_of, e)
 
   pub readied_sends : (ws : Lent) → sends_of phase ≡ true → telling ws W.Open ≡ next (plug (armed bus phase ws) (give tt)) h
   unfolding writes_plan before_command handle plug
@@ -157,7 +157,7 @@ module _ (bus : Bus) (phase : Phase) (h : Line) where
 
   pub ordered-sends : (ws : Lent) → sends_of phase ≡ true → telling ws W.Control ≡ next (plug (ordered bus phase ws) (give tt)) h
   unfolding writes_plan after_command row handle plug
-  ordered-sends ws e = rw e
+  ordered-sends ws e = rw (e, buffer_of, e)
 
   pub controls_reads : (ws : Lent) → sends_of phase ≡ false → telling ws W.Open ≡ next (told_plan bus phase ws W.Control) h
   unfolding writes_plan told_plan handle plug

@@ -20,7 +20,7 @@ pub returns-then-attempts-gt65535 : goal.returns-then-attempts-gt65535
 returns-then-attempts-gt65535 c = sym (cause.over-attempts c.args.words.now (omega arith))
 
 pub returns-then-calls-eq0 : goal.returns-then-calls-eq0
-returns-then-calls-eq0 c = sym (cause.no-calls c.args.words.now (omega arith))
+returns-then-calls-eq0 c = sym (cause.no_calls c.args.words.now (omega arith))
 
 pub returns-then-calls-gt64 : goal.returns-then-calls-gt64
 returns-then-calls-gt64 c = sym (cause.over-calls c.args.words.now (omega arith))

@@ -11,7 +11,7 @@ pub returns-else-word-eq0 : goal.returns-else-word-eq0
 returns-else-word-eq0 c = λ h. rw c.in-Idle.is (c.idles.ensures h ∙ parts.idle-goes _ _ _ _ _ h _ _ (ne_eqb _ _ c.if-word-eq0.false))
 
 pub returns-in-Poll : goal.returns-in-Poll
-returns-in-Poll c = λ h. rw c.in-Poll.is (c.polled.ensures h ∙ parts.poll-goes _ _ _ _ _ h _ _)
+returns-in-Poll c = λ h. rw c.in-Poll.is (c.polled.ensures h ∙ parts.poll_goes _ _ _ _ _ h _ _)
 
 pub returns-then-word-index : goal.returns-then-word-index
 returns-then-word-index c = λ h. rw c.in-Echo.is (c.asks.ensures h ∙ parts.echo-good _ _ _ _ _ h _ (eq-eqb _ _ c.if-word-index.true))

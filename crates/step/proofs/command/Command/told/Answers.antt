@@ -8,13 +8,13 @@ pub returns-in-Open : goal.returns-in-Open
 returns-in-Open c = λ h. rw c.in-Open.is (c.idles.ensures _ ∙ parts.opened _ _ _ _ _ h)
 
 pub returns-in-Icr : goal.returns-in-Icr
-returns-in-Icr c = λ h. rw c.in-Icr.is (c.tells.ensures _ ∙ parts.icr-goes _ _ _ _ _ h)
+returns-in-Icr c = λ h. rw c.in-Icr.is (c.tells.ensures _ ∙ parts.icr_goes _ _ _ _ _ h)
 
 pub returns-in-Argument : goal.returns-in-Argument
-returns-in-Argument c = λ h. rw c.in-Argument.is (c.tells-in-Argument.ensures _ ∙ parts.argument-goes _ _ _ _ _ h)
+returns-in-Argument c = λ h. rw c.in-Argument.is (c.tells-in-Argument.ensures _ ∙ parts.argument_goes _ _ _ _ _ h)
 
 pub returns-in-Order : goal.returns-in-Order
-returns-in-Order c = λ h. rw c.in-Order.is (c.polls.ensures _ ∙ parts.order-goes _ _ _ _ _ h)
+returns-in-Order c = λ h. rw c.in-Order.is (c.polls.ensures _ ∙ parts.order_goes _ _ _ _ _ h)
 
 pub returns-in-Close : goal.returns-in-Close
 unfolding command_next
