@@ -4,7 +4,6 @@ use native.Mathlib.Omega.{arith}
 use lib.ListN.{drop}
 use Rattle.book.specs.Layout.{bad_rows}
 use Rattle.book.proofs.Causes as cause
-use borrow.Author.Rules.{rules}
 use Rattle.book.proofs.layout.is_bad.Goals as goal
 
 pub returns-then-words-gt4096 : goal.returns-then-words-gt4096
@@ -20,7 +19,7 @@ pub returns-then-attempts-gt65535 : goal.returns-then-attempts-gt65535
 returns-then-attempts-gt65535 c = sym (cause.over-attempts c.args.words.now (omega arith))
 
 pub returns-then-calls-eq0 : goal.returns-then-calls-eq0
-returns-then-calls-eq0 c = sym (cause.no-calls c.args.words.now (omega arith))
+returns-then-calls-eq0 c = sym (cause.no_calls c.args.words.now (omega arith))
 
 pub returns-then-calls-gt64 : goal.returns-then-calls-gt64
 returns-then-calls-gt64 c = sym (cause.over-calls c.args.words.now (omega arith))
@@ -28,7 +27,7 @@ returns-then-calls-gt64 c = sym (cause.over-calls c.args.words.now (omega arith)
 pub returns-then-rows_are_bad : goal.returns-then-rows_are_bad
 returns-then-rows_are_bad c = let words = c.args.words.now in
     let calls = c.word-calls.ensures in
-    sym (cause.bad_row words (ap (λ (n : ℕ). bad_rows n (drop 7 words)) (sym calls) ∙ sym c.rows_are_bad.ensures ∙ c.if-rows_are_bad.true))
+    sym (cause.bad-row words (ap (λ (n : ℕ). bad_rows n (drop 7 words)) (sym calls) ∙ sym c.rows_are_bad.ensures ∙ c.if-rows_are_bad.true))
 
 pub returns : goal.returns
 returns c = let words = c.args.words.now in
