@@ -2,7 +2,6 @@ use mathlib.Core.Path.{sym, ◌∙◌}
 use native.Mathlib.Nat.{zero-add}
 use Rattle.boundary.proofs.Told.{same}
 use Rattle.boundary.specs.Packed.{address_word}
-use borrow.Author.Rules.{rules}
 use Rattle.boundary.proofs.boresacu_block_address.Goals as goal
 
 pub returns-in-Address : goal.returns-in-Address

@@ -3,7 +3,6 @@ use native.Mathlib.Nat.{zero-add}
 use Rattle.boundary.proofs.Told.{same}
 use borrow.Author.Tests.{lt-ltb, le-ltb}
 use Rattle.boundary.specs.Packed.{rate_word, rate_at}
-use borrow.Author.Rules.{rules}
 use Rattle.boundary.proofs.boresacu_transfer_rate.Goals as goal
 
 pub returns-then-encoded-gt255 : goal.returns-then-encoded-gt255

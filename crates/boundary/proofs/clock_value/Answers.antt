@@ -1,5 +1,4 @@
 use native.Mathlib.Nat.{zero-add}
-use borrow.Author.Rules.{rules}
 use Rattle.boundary.proofs.clock_value.Goals as goal
 
 pub returns-then-clock : goal.returns-then-clock

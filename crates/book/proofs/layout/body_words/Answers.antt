@@ -1,12 +1,10 @@
-use Prim.Native.Nat.{◌+◌, ◌*◌, ◌-◌, ◌≤◌}
-use mathlib.Core.Path.{◌≡◌, sym, ap, ◌∙◌}
+use Prim.Native.Nat.{◌+◌, ◌*◌}
+use mathlib.Core.Path.{sym, ap, ◌∙◌}
 use native.Mathlib.Nat.{zero-add, add_assoc, sub-zero}
 use native.Mathlib.Omega.{arith}
 use lib.ListN.{drop}
-use Rattle.book.specs.Layout.{body_words}
 use Rattle.book.specs.declared.layout.Asked.{Asked}
 use Rattle.book.proofs.Rows.{words_step, words-none}
-use borrow.Author.Rules.{rules}
 use Rattle.book.proofs.layout.body_words.Goals as goal
 
 pub loop-k-init : goal.loop-k-init

@@ -1,12 +1,7 @@
 use Prim.Native.Nat.{◌+◌, ◌*◌, ◌-◌, ◌≤◌}
-use mathlib.Core.Path.{◌≡◌, sym, ap, ◌∙◌}
-use native.Mathlib.Nat.{zero-add, add_assoc, sub-zero}
-use native.Mathlib.Omega.{arith}
+use mathlib.Core.Path.{◌≡◌}
 use lib.ListN.{drop}
 use Rattle.book.specs.Layout.{body_words}
-use Rattle.book.specs.declared.layout.Asked.{Asked}
-use Rattle.book.proofs.Rows.{words_step, words-none}
-use borrow.Author.Rules.{rules}
 use Rattle.book.proofs.layout.body_words.Given as goal
 
 -- the sum, with the words of the rows from k on, is all; each row adds less than 2 ^ 32

@@ -1,4 +1,3 @@
-use borrow.Author.Rules.{rules}
 use Rattle.book.proofs.layout.call_at.Goals as goal
 
 pub returns : goal.returns

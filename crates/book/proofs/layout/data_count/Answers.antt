@@ -1,6 +1,5 @@
 use borrow.Author.Tests.{eq-eqb, ne_eqb}
 use Rattle.book.specs.Layout.{data_count}
-use borrow.Author.Rules.{rules}
 use Rattle.book.proofs.layout.data_count.Goals as goal
 
 pub returns-then-kind-eq4 : goal.returns-then-kind-eq4

@@ -1,4 +1,3 @@
-use borrow.Author.Rules.{rules}
 use Rattle.book.proofs.layout.head.Goals as goal
 
 pub returns : goal.returns

@@ -4,7 +4,6 @@ use native.Mathlib.Omega.{arith}
 use lib.ListN.{drop}
 use Rattle.book.specs.Layout.{bad_rows}
 use Rattle.book.proofs.Causes as cause
-use borrow.Author.Rules.{rules}
 use Rattle.book.proofs.layout.is_bad.Goals as goal
 
 pub returns-then-words-gt4096 : goal.returns-then-words-gt4096
@@ -28,7 +27,7 @@ returns-then-calls-gt64 c = sym (cause.over-calls c.args.words.now (omega arith)
 pub returns-then-rows_are_bad : goal.returns-then-rows_are_bad
 returns-then-rows_are_bad c = let words = c.args.words.now in
     let calls = c.word-calls.ensures in
-    sym (cause.bad_row words (ap (λ (n : ℕ). bad_rows n (drop 7 words)) (sym calls) ∙ sym c.rows_are_bad.ensures ∙ c.if-rows_are_bad.true))
+    sym (cause.bad-row words (ap (λ (n : ℕ). bad_rows n (drop 7 words)) (sym calls) ∙ sym c.rows_are_bad.ensures ∙ c.if-rows_are_bad.true))
 
 pub returns : goal.returns
 returns c = let words = c.args.words.now in

@@ -1,13 +1,12 @@
-use Prim.Native.Nat.{◌*◌, ◌-◌, ◌≤◌}
+use Prim.Native.Nat.{◌*◌}
 use mathlib.Core.Path.{◌≡◌, refl, sym, ◌∙◌}
 use native.Mathlib.Omega.{arith}
-use lib.ListN.{length, take, length-set}
-use Rattle.text.specs.Ink.{inked, next}
+use lib.ListN.{length-set}
+use Rattle.text.specs.Ink.{next}
 use Rattle.text.proofs.Ink.{ink_nil}
 use Rattle.types.specs.Words.{words_of}
 use Rattle.types.proofs.Back.{length-words, word_at, word-is}
 use Rattle.book.proofs.Load.{store, stored}
-use borrow.Author.Rules.{rules}
 use Rattle.book.proofs.layout.load.Goals as goal
 
 pub loop-i-init : goal.loop-i-init

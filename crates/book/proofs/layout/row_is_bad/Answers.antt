@@ -1,6 +1,5 @@
 use borrow.Author.Tests.{eq-eqb, ne_eqb}
 use Rattle.book.specs.Layout.{bad_row}
-use borrow.Author.Rules.{rules}
 use Rattle.book.proofs.layout.row_is_bad.Goals as goal
 
 pub returns-then-kind-eq1 : goal.returns-then-kind-eq1

@@ -1,11 +1,7 @@
 use Prim.Native.Nat.{◌+◌, ◌*◌, ◌-◌, ◌≤◌}
-use mathlib.Core.Path.{◌≡◌, sym, ap, ◌∙◌}
-use native.Mathlib.Nat.{sub-zero}
-use native.Mathlib.Omega.{arith}
+use mathlib.Core.Path.{◌≡◌}
 use lib.ListN.{drop}
 use Rattle.book.specs.Layout.{bad_rows}
-use Rattle.book.proofs.Rows.{bad_asked, bad-here, bad-further, bad-none}
-use borrow.Author.Rules.{rules}
 use Rattle.book.proofs.layout.rows_are_bad.Given as goal
 
 -- whether a row is bad stands with the rows from k on

@@ -1,6 +1,5 @@
 use native.Mathlib.Omega.{arith}
 use borrow.Author.Tests.{lt-ltb, le-ltb}
-use borrow.Author.Rules.{rules}
 use Rattle.book.proofs.layout.write_is_bad.Goals as goal
 
 pub returns-then-b-gt16 : goal.returns-then-b-gt16

@@ -5,7 +5,6 @@ use borrow.Author.Tests.{eq-eqb, ne_eqb}
 use Rattle.types.specs.Answer.{answer_told}
 use Rattle.text.specs.Ink.{Laid}
 use Rattle.text.proofs.Ink.{and_then}
-use borrow.Author.Rules.{rules}
 use Rattle.book.proofs.lines.put_answer.Goals as goal
 
 pub returns-then-number-eq13 : goal.returns-then-number-eq13

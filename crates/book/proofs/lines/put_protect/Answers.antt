@@ -2,7 +2,6 @@ use mathlib.Core.Path.{◌≡◌, sym, ◌∙◌}
 use borrow.Author.Tests.{eq-eqb, ne_eqb}
 use Rattle.types.specs.Answer.{answer_told}
 use Rattle.text.proofs.Ink.{nothing}
-use borrow.Author.Rules.{rules}
 use Rattle.book.proofs.lines.put_protect.Goals as goal
 
 pub returns-then-kind-ne1 : goal.returns-then-kind-ne1

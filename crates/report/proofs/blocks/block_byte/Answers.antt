@@ -1,7 +1,6 @@
 use mathlib.Core.Path.{sym}
 use native.Mathlib.Omega.{arith}
 use lib.ListN.{get_or-eq_default}
-use borrow.Author.Rules.{rules}
 use Rattle.report.proofs.blocks.block_byte.Goals as goal
 
 pub returns-then-buffer-i : goal.returns-then-buffer-i

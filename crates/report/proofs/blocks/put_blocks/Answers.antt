@@ -1,11 +1,7 @@
-use Prim.Native.Nat.{◌-◌, ◌≤◌}
 use mathlib.Core.Path.{◌≡◌}
 use native.Mathlib.Omega.{arith}
-use Rattle.text.specs.Ink.{Laid}
 use Rattle.text.proofs.Ink.{ink_length, nothing}
-use Rattle.report.specs.Report.{blocks_text}
 use Rattle.report.proofs.Lines.{blocks-none, block_more}
-use borrow.Author.Rules.{rules}
 use Rattle.report.proofs.blocks.put_blocks.Goals as goal
 
 pub loop-i-init : goal.loop-i-init

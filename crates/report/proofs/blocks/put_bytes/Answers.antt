@@ -1,11 +1,8 @@
-use Prim.Native.Nat.{◌*◌, ◌-◌, ◌≤◌}
+use Prim.Native.Nat.{◌*◌}
 use mathlib.Core.Path.{◌≡◌}
 use native.Mathlib.Omega.{arith}
-use Rattle.text.specs.Ink.{Laid}
 use Rattle.text.proofs.Ink.{ink_length, nothing}
-use Rattle.report.specs.Report.{bytes_text}
 use Rattle.report.proofs.Lines.{bytes-none, byte_more}
-use borrow.Author.Rules.{rules}
 use Rattle.report.proofs.blocks.put_bytes.Goals as goal
 
 pub loop-k-init : goal.loop-k-init

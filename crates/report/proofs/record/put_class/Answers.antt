@@ -1,4 +1,3 @@
-use borrow.Author.Rules.{rules}
 use Rattle.report.proofs.record.put_class.Goals as goal
 
 pub returns-in-SDSC : goal.returns-in-SDSC

@@ -1,6 +1,5 @@
 use Rattle.text.proofs.Ink.{and_then}
 use Rattle.report.specs.Report.{record_text}
-use borrow.Author.Rules.{rules}
 use Rattle.report.proofs.record.put_record.Goals as goal
 
 pub returns : goal.returns

@@ -1,7 +1,6 @@
 use native.Mathlib.Omega.{arith}
 use Rattle.text.proofs.Ink.{and_then}
 use Rattle.report.proofs.Halves.{wide}
-use borrow.Author.Rules.{rules}
 use Rattle.report.proofs.record.put_wide.Goals as goal
 
 pub returns : goal.returns

@@ -2,7 +2,6 @@ use mathlib.Core.Path.{◌≡◌, sym, ◌∙◌}
 use borrow.Author.Tests.{eq-eqb, ne_eqb}
 use Rattle.types.specs.Answer.{answer_told}
 use Rattle.text.proofs.Ink.{and_then, nothing}
-use borrow.Author.Rules.{rules}
 use Rattle.report.proofs.rows.put_carried.Goals as goal
 
 pub returns-then-number-eq10 : goal.returns-then-number-eq10

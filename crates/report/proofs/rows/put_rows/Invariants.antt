@@ -1,12 +1,7 @@
-use mathlib.Core.Path.{◌≡◌}
 use Prim.Native.Nat.{◌-◌, ◌≤◌}
-use native.Mathlib.Omega.{arith}
 use Rattle.text.specs.Ink.{Laid}
-use Rattle.text.proofs.Ink.{ink_length, nothing}
 use Rattle.tape.specs.Layout.{rows_in}
 use Rattle.report.specs.Report.{rows_text}
-use Rattle.report.proofs.Lines.{rows_none, row_more}
-use borrow.Author.Rules.{rules}
 use Rattle.report.proofs.rows.put_rows.Given as goal
 
 -- the first i rows are laid in

@@ -1,7 +1,6 @@
 use mathlib.Core.Path.{◌∙◌, ap, sym}
 use lib.ListN.{get_or-map, get_or-eq_default}
 use Rattle.tape.specs.Layout.{row_of, rows_in}
-use borrow.Author.Rules.{rules}
 use Rattle.report.proofs.rows.row_at.Goals as goal
 
 pub returns-then-rows-i : goal.returns-then-rows-i

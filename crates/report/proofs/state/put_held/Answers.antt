@@ -1,7 +1,6 @@
 use mathlib.Core.Bool.{true, false}
 use mathlib.Core.Path.{◌≡◌}
 use Rattle.text.proofs.Ink.{and_then}
-use borrow.Author.Rules.{rules}
 use Rattle.report.proofs.state.put_held.Goals as goal
 
 pub returns-then-known : goal.returns-then-known

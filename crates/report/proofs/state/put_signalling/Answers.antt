@@ -1,4 +1,3 @@
-use borrow.Author.Rules.{rules}
 use Rattle.report.proofs.state.put_signalling.Goals as goal
 
 pub returns-in-SDR12 : goal.returns-in-SDR12

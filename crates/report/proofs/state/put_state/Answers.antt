@@ -1,6 +1,5 @@
 use Rattle.text.proofs.Ink.{and_then}
 use Rattle.report.specs.Report.{state_text}
-use borrow.Author.Rules.{rules}
 use Rattle.report.proofs.state.put_state.Goals as goal
 
 pub returns : goal.returns

@@ -1,12 +1,7 @@
 use Prim.Native.Nat.{ℕ, ◌-◌, ◌≤◌}
-use mathlib.Core.Path.{◌≡◌}
 use mathlib.Core.List.{List}
-use native.Mathlib.Omega.{arith}
 use Rattle.text.specs.Ink.{Laid}
-use Rattle.text.proofs.Ink.{ink_length, and_then}
 use Rattle.report.specs.Report.{words_text}
-use Rattle.report.proofs.Lines.{words-one, word_more}
-use borrow.Author.Rules.{rules}
 use Rattle.report.proofs.status.put_words.Given as goal
 
 -- the words up to word i are laid in, once word 0 is

@@ -1,11 +1,6 @@
 use Prim.Native.Nat.{◌-◌, ◌≤◌}
-use mathlib.Core.Path.{sym}
-use native.Mathlib.Omega.{arith}
 use lib.ListN.{length, take}
-use lib.Seq.{take_all}
-use Rattle.text.specs.Ink.{next, Laid}
-use Rattle.text.proofs.Ink.{ink_length, ink_nil, take_more, and_then}
-use borrow.Author.Rules.{rules}
+use Rattle.text.specs.Ink.{Laid}
 use Rattle.text.proofs.pen.put.Given as goal
 
 -- the first i bytes are laid in

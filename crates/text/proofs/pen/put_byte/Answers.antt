@@ -3,7 +3,6 @@ use native.Mathlib.Omega.{arith}
 use lib.Seq.{set_out}
 use Rattle.text.specs.Ink.{next}
 use Rattle.text.proofs.Ink.{ink_sets}
-use borrow.Author.Rules.{rules}
 use Rattle.text.proofs.pen.put_byte.Goals as goal
 
 pub returns-then-at-buffer : goal.returns-then-at-buffer

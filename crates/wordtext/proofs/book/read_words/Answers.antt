@@ -5,7 +5,6 @@ use Rattle.wordtext.specs.declared.token.Verdict.{Verdict}
 use Rattle.wordtext.specs.declared.token.Verdict.TheVariants as W
 use Rattle.wordtext.specs.Text.{answer_by, place_of}
 use Rattle.wordtext.proofs.Answers.{held-answer, held-list}
-use borrow.Author.Rules.{rules}
 use Rattle.wordtext.proofs.book.read_words.Goals as goal
 
 pub returns-in-Right : goal.returns-in-Right

@@ -1,51 +1,45 @@
 use mathlib.Core.Bool.{true, false}
 use mathlib.Core.Path.{◌≡◌, sym, ◌∙◌}
 use native.Mathlib.Omega.{arith}
-use borrow.Author.Rules.{rules}
 use Rattle.wordtext.specs.Token.{between, digit_of}
 use Rattle.wordtext.proofs.Tests.{between_true}
 use Rattle.wordtext.proofs.byte.digit.Goals as goal
 
 -- a decimal digit; a capital; a small letter
-decimal : (c : tie.Then1) → between 48 57 c.before.before.args.b ≡ true
-decimal c = sym c.before.within.ensures ∙ c.if1.true
-
-no-decimal : (c : tie.Else1) → between 48 57 c.before.before.args.b ≡ false
-no-decimal c = sym c.before.within.ensures ∙ c.if1.false
-
-capital : (c : tie.Then2) → between 65 70 c.before.before.before.before.args.b ≡ true
-capital c = sym c.before.within2.ensures ∙ c.if2.true
-
-no-capital : (c : tie.Else2) → between 65 70 c.before.before.before.before.args.b ≡ false
-no-capital c = sym c.before.within2.ensures ∙ c.if2.false
-
-small : (c : tie.Then3) → between 97 102 c.before.before.before.before.before.before.args.b ≡ true
-small c = sym c.before.within3.ensures ∙ c.if3.true
-
-no-small : (c : tie.Else3) → between 97 102 c.before.before.before.before.before.before.args.b ≡ false
-no-small c = sym c.before.within3.ensures ∙ c.if3.false
-
 pub overflow_sub-result : goal.overflow_sub-result
-overflow_sub-result c = omega (arith, between_true 48 57 c.args.b (decimal c))
+overflow_sub-result c = omega (arith, between_true 48 57 c.args.b (sym c.within.ensures ∙ c.if-within.true))
 
 pub returns-then-within : goal.returns-then-within
 unfolding digit_of
-returns-then-within c = rw (decimal c)
+returns-then-within c =
+    let decimal : between 48 57 c.args.b ≡ true = sym c.within.ensures ∙ c.if-within.true in
+    rw decimal
 
 pub overflow_sub-result-then-within-2 : goal.overflow_sub-result-then-within-2
-overflow_sub-result-then-within-2 c = omega (arith, between_true 65 70 c.args.b (capital c))
+overflow_sub-result-then-within-2 c = omega (arith, between_true 65 70 c.args.b (sym c.within-2.ensures ∙ c.if-within-2.true))
 
 pub returns-then-within-2 : goal.returns-then-within-2
 unfolding digit_of
-returns-then-within-2 c = rw (no-decimal c.before.before, capital c)
+returns-then-within-2 c =
+    let no_decimal : between 48 57 c.args.b ≡ false = sym c.within.ensures ∙ c.if-within.false in
+    let capital : between 65 70 c.args.b ≡ true = sym c.within-2.ensures ∙ c.if-within-2.true in
+    rw (no_decimal, capital)
 
 pub overflow_sub-result-then-within-3 : goal.overflow_sub-result-then-within-3
-overflow_sub-result-then-within-3 c = omega (arith, between_true 97 102 c.args.b (small c))
+overflow_sub-result-then-within-3 c = omega (arith, between_true 97 102 c.args.b (sym c.within-3.ensures ∙ c.if-within-3.true))
 
 pub returns-then-within-3 : goal.returns-then-within-3
 unfolding digit_of
-returns-then-within-3 c = rw (no-decimal c.before.before.before.before, no-capital c.before.before, small c)
+returns-then-within-3 c =
+    let no_decimal : between 48 57 c.args.b ≡ false = sym c.within.ensures ∙ c.if-within.false in
+    let no_capital : between 65 70 c.args.b ≡ false = sym c.within-2.ensures ∙ c.if-within-2.false in
+    let small : between 97 102 c.args.b ≡ true = sym c.within-3.ensures ∙ c.if-within-3.true in
+    rw (no_decimal, no_capital, small)
 
 pub returns : goal.returns
 unfolding digit_of
-returns c = rw (no-decimal c.before.before.before.before, no-capital c.before.before, no-small c)
+returns c =
+    let no_decimal : between 48 57 c.args.b ≡ false = sym c.within.ensures ∙ c.if-within.false in
+    let no_capital : between 65 70 c.args.b ≡ false = sym c.within-2.ensures ∙ c.if-within-2.false in
+    let no_small : between 97 102 c.args.b ≡ false = sym c.within-3.ensures ∙ c.if-within-3.false in
+    rw (no_decimal, no_capital, no_small)

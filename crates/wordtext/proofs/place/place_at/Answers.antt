@@ -1,16 +1,22 @@
-use Prim.Native.Nat.{◌≤◌, ◌+◌, ◌-◌}
-use mathlib.Core.Logic.{⊎_elim}
-use mathlib.Core.Path.{◌≡◌, refl, ap, sym, ◌∙◌}
+use Prim.Native.Nat.{◌+◌}
+use mathlib.Core.Path.{refl, ap, sym, ◌∙◌}
 use native.Mathlib.Omega.{arith}
-use lib.ListN.{length, get_or}
+use lib.ListN.{get_or}
 use Rattle.wordtext.specs.Text.{moved, place_from, place_of}
 use Rattle.wordtext.specs.declared.place.Place.{Place}
 use Rattle.wordtext.proofs.Places.{place-more, place-all, moved_little}
 use Rattle.wordtext.proofs.place.place_at.Goals as goal
+use Rattle.wordtext.proofs.place.place_at.Goals.{then-at-text, else-at-text}
 
 pub loop-i-init : goal.loop-i-init
 unfolding place_of place_from
-loop-i-init c = (omega arith, ⊎_elim (λ w. omega arith) (λ w. omega arith) c.if-at-text.branch, refl, omega arith, omega arith)
+loop-i-init c = (
+  omega arith,
+  elim c.if-at-text.branch [ then-at-text w ↦ omega arith | else-at-text w ↦ omega arith ],
+  refl,
+  omega arith,
+  omega arith,
+)
 
 pub loop-i-preserved : goal.loop-i-preserved
 loop-i-preserved c = let text = c.args.text.now in
@@ -25,25 +31,11 @@ loop-i-preserved c = let text = c.args.text.now in
     )
 
 pub returns : goal.returns
-returns c = let a = c.args in
-    let text = a.text.now in
+returns c =
+    let text = c.args.text.now in
     let i = c.loop-i.i in
     c.loop-i.invariant.2
-    ∙ ⊎_elim
-    (λ w.
-    let same : i ≡ a.at = omega arith in
-    ap (place_of text) same)
-    (λ w. place-all text i a.at (omega arith) (omega arith))
-    c.if-at-text.branch
-
-pub bounds-text-i : goal.bounds-text-i
-bounds-text-i c = omega arith
-
-pub moved-p-requires : goal.moved-p-requires
-moved-p-requires c = (omega arith, omega arith)
-
-pub overflow_add-i : goal.overflow_add-i
-overflow_add-i c = omega arith
-
-pub loop-i-smaller : goal.loop-i-smaller
-loop-i-smaller c = omega arith
+    ∙ elim c.if-at-text.branch [
+      | then-at-text w ↦ ap (place_of text) (omega arith)
+      | else-at-text w ↦ place-all text i c.args.at (omega arith) (omega arith)
+    ]

@@ -1,11 +1,7 @@
 use Prim.Native.Nat.{◌≤◌, ◌+◌, ◌-◌}
-use mathlib.Core.Logic.{⊎_elim}
-use mathlib.Core.Path.{◌≡◌, refl, ap, sym, ◌∙◌}
-use native.Mathlib.Omega.{arith}
-use lib.ListN.{length, get_or}
-use Rattle.wordtext.specs.Text.{moved, place_from, place_of}
-use Rattle.wordtext.specs.declared.place.Place.{Place}
-use Rattle.wordtext.proofs.Places.{place-more, place-all, moved_little}
+use mathlib.Core.Path.{◌≡◌}
+use lib.ListN.{length}
+use Rattle.wordtext.specs.Text.{place_of}
 use Rattle.wordtext.proofs.place.place_at.Given as goal
 
 abbrev pub invariant-loop-i : goal.invariant-loop-i

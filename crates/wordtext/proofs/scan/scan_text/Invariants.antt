@@ -1,10 +1,7 @@
-use Prim.Native.Nat.{ℕ, ◌+◌, ◌≤◌, ◌-◌}
-use mathlib.Core.Path.{◌≡◌, refl, ap, sym, ◌∙◌}
-use native.Mathlib.Omega.{arith}
-use lib.ListN.{length, get_or, drop}
-use Rattle.wordtext.specs.Token.{NEWLINE}
-use Rattle.wordtext.specs.Text.{State, step, scan, read_of, state_of}
-use Rattle.wordtext.proofs.Steps.{goes_on, ends, rest_more}
+use Prim.Native.Nat.{◌≤◌, ◌-◌}
+use mathlib.Core.Path.{◌≡◌}
+use lib.ListN.{length, drop}
+use Rattle.wordtext.specs.Text.{scan, read_of, state_of}
 use Rattle.wordtext.proofs.scan.scan_text.Given as goal
 
 abbrev pub invariant-loop-i : goal.invariant-loop-i

@@ -1,6 +1,5 @@
 use mathlib.Core.Path.{sym, ◌∙◌}
 use native.Mathlib.Omega.{arith}
-use borrow.Author.Rules.{rules}
 use Rattle.wordtext.proofs.Steps.{by-none, by_word, by-full}
 use Rattle.wordtext.proofs.scan.step.Goals as goal
 

@@ -1,5 +1,4 @@
 use mathlib.Core.Path.{◌≡◌, sym, ◌∙◌}
-use borrow.Author.Rules.{rules}
 use Rattle.wordtext.specs.declared.token.Grown.TheVariants.{To, Not}
 use Rattle.wordtext.specs.Token.{with_digit}
 use Rattle.wordtext.proofs.token.hexadecimal.Goals as goal

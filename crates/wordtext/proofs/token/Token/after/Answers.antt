@@ -1,5 +1,4 @@
 use mathlib.Core.Path.{sym, ◌∙◌}
-use borrow.Author.Rules.{rules}
 use Rattle.wordtext.specs.Token.{after}
 use Rattle.wordtext.proofs.token.Token.after.Goals as goal
 

@@ -1,4 +1,3 @@
-use borrow.Author.Rules.{rules}
 use Rattle.wordtext.specs.Token.{began_at}
 use Rattle.wordtext.proofs.token.Token.began.Goals as goal
 

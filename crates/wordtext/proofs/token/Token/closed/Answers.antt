@@ -1,4 +1,3 @@
-use borrow.Author.Rules.{rules}
 use borrow.Author.Tests.{eq-eqb, ne_eqb}
 use Rattle.wordtext.specs.Token.{closed}
 use Rattle.wordtext.proofs.token.Token.closed.Goals as goal

@@ -1,4 +1,3 @@
-use borrow.Author.Rules.{rules}
 use borrow.Author.Tests.{eq-eqb, ne_eqb}
 use Rattle.wordtext.specs.Token.{gone_on}
 use Rattle.wordtext.proofs.token.Token.gone_on.Goals as goal

@@ -1,4 +1,3 @@
-use borrow.Author.Rules.{rules}
 use Rattle.wordtext.proofs.token.Token.verdict.Goals as goal
 
 pub returns-in-Wrong : goal.returns-in-Wrong

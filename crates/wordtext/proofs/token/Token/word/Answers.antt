@@ -1,4 +1,3 @@
-use borrow.Author.Rules.{rules}
 use Rattle.wordtext.proofs.token.Token.word.Goals as goal
 
 pub returns-in-Zero : goal.returns-in-Zero
