@@ -50,6 +50,7 @@ use Rattle.step.specs.declared.ready.Bus.{Bus}
 use Rattle.step.specs.declared.ready.Ready.{Ready}
 use Rattle.step.specs.declared.ready.ReadyStep.TheVariants as RS
 use Rattle.step.specs.declared.phase.Phase.{Phase}
+use Rattle.step.specs.declared.phase.Phase.TheVariants as P
 use Rattle.step.specs.declared.transfer.Reads.{Reads}
 use Rattle.step.specs.declared.transfer.Reads.TheVariants as R
 use Rattle.step.specs.declared.transfer.Writes.{Writes}
@@ -74,6 +75,27 @@ arm-rows timeout transfer = refl
 stop-rows : stop_data ≡ rows_from stop_rows
 unfolding stop_data row handle rows_from
 stop-rows = refl
+
+-- DCTRL, before the command of a read and behind that of a write, is a row of the plan, whichever phase it is
+control_reads : (bus : Bus) (phase : Phase) (h : Line) (ws : Lent) → sends_of phase ≡ false
+    → next (writes_plan bus phase ws W.Control) h ≡ next (plug (armed bus phase ws) (give tt)) h
+unfolding writes_plan before_command row handle plug sends_of transfer_of
+control_reads bus P.Scr h ws e = refl
+control_reads bus P.Check h ws e = refl
+control_reads bus P.Switch h ws e = refl
+control_reads bus P.Status h ws e = refl
+control_reads bus (P.Blocks address blocks) h ws e = refl
+control_reads bus (P.Sends address blocks) h ws e = cc
+
+control_sends : (bus : Bus) (phase : Phase) (h : Line) (ws : Lent) → sends_of phase ≡ true
+    → next (writes_plan bus phase ws W.Control) h ≡ next (plug (ordered bus phase ws) (give tt)) h
+unfolding writes_plan after_command row handle plug sends_of transfer_of
+control_sends bus P.Scr h ws e = cc
+control_sends bus P.Check h ws e = cc
+control_sends bus P.Switch h ws e = cc
+control_sends bus P.Status h ws e = cc
+control_sends bus (P.Blocks address blocks) h ws e = cc
+control_sends bus (P.Sends address blocks) h ws e = refl
 
 module _ (bus : Bus) (phase : Phase) (h : Line) where
   abbrev timeout : ℕ
@@ -140,8 +162,7 @@ module _ (bus : Bus) (phase : Phase) (h : Line) where
 
   -- after the rows that ready the data path, after the data command, and after DCTRL: a read's and a write's
   pub readied_reads : (ws : Lent) → sends_of phase ≡ false → telling ws W.Control ≡ next (plug (armed bus phase ws) (give tt)) h
-  unfolding writes_plan before_command row handle plug
-  readied_reads ws e = rw (e, buffer_of, e)
+  readied_reads ws e = control_reads bus phase h ws e
 
   pub readied_sends : (ws : Lent) → sends_of phase ≡ true → telling ws W.Open ≡ next (plug (armed bus phase ws) (give tt)) h
   unfolding writes_plan before_command handle plug
@@ -156,8 +177,7 @@ module _ (bus : Bus) (phase : Phase) (h : Line) where
   ordered-reads ws e = polls_begin ws ∙ rw e
 
   pub ordered-sends : (ws : Lent) → sends_of phase ≡ true → telling ws W.Control ≡ next (plug (ordered bus phase ws) (give tt)) h
-  unfolding writes_plan after_command row handle plug
-  ordered-sends ws e = rw (e, buffer_of, e)
+  ordered-sends ws e = control_sends bus phase h ws e
 
   pub controls_reads : (ws : Lent) → sends_of phase ≡ false → telling ws W.Open ≡ next (told_plan bus phase ws W.Control) h
   unfolding writes_plan told_plan handle plug

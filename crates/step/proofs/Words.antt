@@ -7,7 +7,6 @@ use lib.ListN.{take, set, length, length-append, length-take}
 use borrow.Author.Tests.{lt-ltb}
 use lib.Seq.{take_all}
 use Rattle.tape.specs.declared.script.Reading.{Reading}
-use Rattle.tape.specs.declared.script.Reading.TheVariants as Reading
 use Rattle.tape.specs.Plan.{Plan, give, refuse, read, write, look, hold, handle}
 use Rattle.step.specs.Next.{Lent, Handed, HandedBy, handed_to, handed}
 use Rattle.step.specs.Transfer.{blocks_of, transfer_of, place_of, put_at}

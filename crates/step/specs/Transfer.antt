@@ -7,7 +7,6 @@ use Rattle.types.specs.declared.config.Config.{Config}
 use Rattle.tape.specs.declared.progress.Line.{Line}
 use Rattle.tape.specs.declared.rows.Row.{Row}
 use Rattle.tape.specs.declared.script.Reading.{Reading}
-use Rattle.tape.specs.declared.script.Reading.TheVariants as Reading
 use Rattle.tape.specs.Plan.{Nothing, Plan, give, refuse, ◌then◌, refusing, ensure, until}
 use Rattle.tape.specs.Rows.{CLKCR, DCTRL, clken_of, dctrl_of}
 use Rattle.tape.specs.Steps.{word, row, wait_idle, reset_controller, set_clken, data_from, send_from, send_words}

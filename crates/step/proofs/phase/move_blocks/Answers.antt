@@ -1,7 +1,6 @@
 use native.Mathlib.Omega.{arith}
 use borrow.Author.Tests.{ne_eqb}
 use Rattle.step.specs.Transfer.{blocks_of}
-use borrow.Author.Rules.{rules}
 use Rattle.step.proofs.phase.move_blocks.Goals as goal
 
 pub overflow_mul-result : goal.overflow_mul-result

@@ -1,5 +1,4 @@
 use Rattle.step.specs.Arm.{arm_row}
-use borrow.Author.Rules.{rules}
 use Rattle.step.proofs.arm.Arm.row.Goals as goal
 
 pub returns-in-Dctrl2 : goal.returns-in-Dctrl2

@@ -1,5 +1,4 @@
 use Rattle.step.specs.Arm.{stop_rest, stop_next}
-use borrow.Author.Rules.{rules}
 use Rattle.step.proofs.arm.Stop.after.Goals as goal
 
 pub returns-in-Mask : goal.returns-in-Mask

@@ -1,5 +1,4 @@
 use Rattle.step.specs.Arm.{stop_row}
-use borrow.Author.Rules.{rules}
 use Rattle.step.proofs.arm.Stop.row.Goals as goal
 
 pub returns-in-Mask : goal.returns-in-Mask

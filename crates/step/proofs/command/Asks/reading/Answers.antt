@@ -1,5 +1,4 @@
 use Rattle.step.specs.Command.{reading_of}
-use borrow.Author.Rules.{rules}
 use Rattle.step.proofs.command.Asks.reading.Goals as goal
 
 pub returns-in-Idle : goal.returns-in-Idle

@@ -4,7 +4,6 @@ use Rattle.step.specs.Context.{plug}
 use Rattle.tape.specs.Plan.{handle, ensure}
 use Rattle.bus.specs.Command.{echo, answer}
 use borrow.Author.Tests.{eq-eqb, ne_eqb}
-use borrow.Author.Rules.{rules}
 use Rattle.step.proofs.command.Command.answers.Goals as goal
 
 pub returns-then-form : goal.returns-then-form

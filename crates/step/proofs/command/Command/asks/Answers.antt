@@ -1,5 +1,4 @@
 use Rattle.step.specs.Command.{part_plan, command_next}
-use borrow.Author.Rules.{rules}
 use Rattle.step.proofs.command.Command.asks.Goals as goal
 
 pub returns : goal.returns

@@ -3,7 +3,6 @@ use Rattle.tape.specs.Steps.{wait_idle}
 use Rattle.step.specs.Context.{plug}
 use Rattle.step.specs.Command.{begun_next, begun_plan, part_plan, tells_plan, asks_plan, within, shut}
 use Rattle.step.proofs.Parts.{one_less}
-use borrow.Author.Rules.{rules}
 use Rattle.step.proofs.command.Command.begin.Goals as goal
 
 pub returns-then-gate : goal.returns-then-gate

@@ -2,7 +2,6 @@ use mathlib.Core.Path.{◌∙◌}
 use Rattle.step.specs.Command.{shut, tells_plan, command_next}
 use Rattle.step.specs.Context.{plug}
 use Rattle.step.proofs.Parts.{closing}
-use borrow.Author.Rules.{rules}
 use Rattle.step.proofs.command.Command.ends.Goals as goal
 
 pub returns-then-gate : goal.returns-then-gate

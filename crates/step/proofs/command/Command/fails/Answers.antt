@@ -1,5 +1,4 @@
 use Rattle.step.specs.Command.{end_next}
-use borrow.Author.Rules.{rules}
 use Rattle.step.proofs.command.Command.fails.Goals as goal
 
 pub returns : goal.returns

@@ -1,6 +1,5 @@
 use Rattle.step.specs.Command.{part_plan, command_next}
 use Rattle.step.proofs.Parts as parts
-use borrow.Author.Rules.{rules}
 use Rattle.step.proofs.command.Command.fed.Goals as goal
 
 pub returns-in-Tells : goal.returns-in-Tells

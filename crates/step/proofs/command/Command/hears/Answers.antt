@@ -1,7 +1,6 @@
 use mathlib.Core.Path.{◌∙◌}
 use Rattle.step.proofs.Parts as parts
 use borrow.Author.Tests.{eq-eqb, ne_eqb}
-use borrow.Author.Rules.{rules}
 use Rattle.step.proofs.command.Command.hears.Goals as goal
 
 pub returns-then-word-eq0 : goal.returns-then-word-eq0

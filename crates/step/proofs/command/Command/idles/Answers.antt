@@ -4,7 +4,6 @@ use Rattle.step.specs.Context.{plug}
 use Rattle.tape.specs.Plan.{handle, until}
 use Rattle.tape.specs.Steps.{wait_idle}
 use Rattle.step.proofs.Parts.{one_less}
-use borrow.Author.Rules.{rules}
 use Rattle.step.proofs.command.Command.idles.Goals as goal
 
 pub returns-then-polls-eq0 : goal.returns-then-polls-eq0

@@ -2,7 +2,6 @@ use Rattle.step.specs.Command.{end_next}
 use Rattle.tape.specs.Plan.{handle, ensure}
 use Rattle.bus.specs.Command.{judge}
 use borrow.Author.Tests.{eq-eqb, ne_eqb}
-use borrow.Author.Rules.{rules}
 use Rattle.step.proofs.command.Command.judged.Goals as goal
 
 pub returns-then-first-form-ne0 : goal.returns-then-first-form-ne0

@@ -1,7 +1,6 @@
 use mathlib.Core.Path.{◌∙◌}
 use Rattle.step.specs.Command.{end_next, part_plan, command_next}
 use Rattle.step.proofs.Parts as parts
-use borrow.Author.Rules.{rules}
 use Rattle.step.proofs.command.Command.missed.Goals as goal
 
 pub returns-in-Tells : goal.returns-in-Tells

@@ -2,7 +2,6 @@ use Rattle.step.specs.Command.{polling, polled_at}
 use Rattle.step.specs.Context.{plug}
 use Rattle.tape.specs.Plan.{handle, ensure}
 use borrow.Author.Tests.{eq-eqb, ne_eqb}
-use borrow.Author.Rules.{rules}
 use Rattle.step.proofs.command.Command.polled.Goals as goal
 
 pub returns-then-word-ne0 : goal.returns-then-word-ne0

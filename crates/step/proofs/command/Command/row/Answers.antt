@@ -5,7 +5,6 @@ use Rattle.tape.specs.Plan.{handle}
 use Rattle.tape.specs.Steps.{row, set_clken}
 use Rattle.bus.specs.Command.{issue}
 use Rattle.step.specs.Next.{next, want_of}
-use borrow.Author.Rules.{rules}
 use Rattle.step.proofs.command.Command.row.Goals as goal
 
 pub returns-in-Open : goal.returns-in-Open

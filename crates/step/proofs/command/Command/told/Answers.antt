@@ -1,7 +1,6 @@
 use mathlib.Core.Path.{◌∙◌}
 use Rattle.step.specs.Command.{command_next}
 use Rattle.step.proofs.Parts as parts
-use borrow.Author.Rules.{rules}
 use Rattle.step.proofs.command.Command.told.Goals as goal
 
 pub returns-in-Open : goal.returns-in-Open

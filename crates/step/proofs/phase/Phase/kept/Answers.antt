@@ -2,7 +2,6 @@ use native.Mathlib.Omega.{arith}
 use Rattle.step.specs.Next.{Handed}
 use Rattle.step.specs.Transfer.{transfer_of, taken_by, kept_by}
 use Rattle.step.proofs.Words.{put_more}
-use borrow.Author.Rules.{rules}
 use Rattle.step.proofs.phase.Phase.kept.Goals as goal
 
 pub returns-in-Scr : goal.returns-in-Scr

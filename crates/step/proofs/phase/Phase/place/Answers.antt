@@ -1,6 +1,5 @@
 use mathlib.Core.Path.{refl}
 use native.Mathlib.Omega.{arith}
-use borrow.Author.Rules.{rules}
 use Rattle.step.proofs.phase.Phase.place.Goals as goal
 
 pub returns-then-after-top : goal.returns-then-after-top

@@ -1,5 +1,4 @@
 use Rattle.step.specs.Transfer.{reading_at}
-use borrow.Author.Rules.{rules}
 use Rattle.step.proofs.phase.Phase.reading.Goals as goal
 
 pub returns-in-Idle : goal.returns-in-Idle

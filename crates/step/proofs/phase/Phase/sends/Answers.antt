@@ -1,5 +1,4 @@
 use Rattle.step.specs.Transfer.{sends_of}
-use borrow.Author.Rules.{rules}
 use Rattle.step.proofs.phase.Phase.sends.Goals as goal
 
 pub returns-in-Scr : goal.returns-in-Scr

@@ -1,6 +1,5 @@
 use mathlib.Core.Path.{refl}
 use native.Mathlib.Omega.{arith}
-use borrow.Author.Rules.{rules}
 use Rattle.step.proofs.phase.Phase.top.Goals as goal
 
 pub returns-then-words-eq0 : goal.returns-then-words-eq0

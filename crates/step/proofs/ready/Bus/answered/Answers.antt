@@ -1,7 +1,6 @@
 use mathlib.Core.Path.{sym, ◌∙◌}
 use Rattle.step.specs.Ready.{ready_next}
 use Rattle.step.proofs.Readying as W
-use borrow.Author.Rules.{rules}
 use Rattle.step.proofs.ready.Bus.answered.Goals as goal
 
 pub returns-then-ready : goal.returns-then-ready

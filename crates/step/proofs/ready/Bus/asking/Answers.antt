@@ -1,7 +1,6 @@
 use mathlib.Core.Path.{◌∙◌}
 use Rattle.step.specs.Ready.{ready_next}
 use Rattle.step.proofs.Readying as W
-use borrow.Author.Rules.{rules}
 use Rattle.step.proofs.ready.Bus.asking.Goals as goal
 
 pub returns-in-On : goal.returns-in-On

@@ -4,7 +4,6 @@ use Rattle.step.specs.Next.{next}
 use Rattle.step.specs.Ready.{attempts, waits_next}
 use Rattle.step.proofs.Readying as W
 use Rattle.step.proofs.Parts as one
-use borrow.Author.Rules.{rules}
 use Rattle.step.proofs.ready.Bus.attempt.Goals as goal
 
 pub returns-then-left-eq0 : goal.returns-then-left-eq0

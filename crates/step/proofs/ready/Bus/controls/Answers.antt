@@ -1,6 +1,5 @@
 use Rattle.step.specs.Transfer.{data_plan}
 use Rattle.step.proofs.Phases as P
-use borrow.Author.Rules.{rules}
 use Rattle.step.proofs.ready.Bus.controls.Goals as goal
 
 pub returns-then-sends : goal.returns-then-sends

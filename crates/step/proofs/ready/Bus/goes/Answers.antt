@@ -1,7 +1,6 @@
 use mathlib.Core.Path.{◌∙◌}
 use Rattle.step.specs.Transfer.{transfer_of, data_plan, data_next, told_plan}
 use Rattle.step.proofs.Phases as P
-use borrow.Author.Rules.{rules}
 use Rattle.step.proofs.ready.Bus.goes.Goals as goal
 
 pub returns-in-At : goal.returns-in-At

@@ -3,7 +3,6 @@ use borrow.Author.Tests.{eq-eqb, ne_eqb}
 use Rattle.step.specs.Next.{Handed}
 use Rattle.step.specs.Transfer.{reading_at, data_plan}
 use Rattle.step.proofs.Phases as P
-use borrow.Author.Rules.{rules}
 use Rattle.step.proofs.ready.Bus.hears.Goals as goal
 
 pub returns-then-word-eq0 : goal.returns-then-word-eq0

@@ -1,7 +1,6 @@
 use mathlib.Core.Path.{sym, ◌∙◌}
 use Rattle.step.specs.Transfer.{data_plan}
 use Rattle.step.proofs.Phases as P
-use borrow.Author.Rules.{rules}
 use Rattle.step.proofs.ready.Bus.opens.Goals as goal
 
 pub returns-in-Clean : goal.returns-in-Clean

@@ -1,7 +1,6 @@
 use mathlib.Core.Path.{◌∙◌}
 use Rattle.step.specs.Transfer.{data_plan}
 use Rattle.step.proofs.Phases as P
-use borrow.Author.Rules.{rules}
 use Rattle.step.proofs.ready.Bus.ordered.Goals as goal
 
 pub returns-then-sends : goal.returns-then-sends

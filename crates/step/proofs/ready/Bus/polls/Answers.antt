@@ -4,7 +4,6 @@ use Rattle.step.specs.Next.{next}
 use Rattle.step.specs.Transfer.{data_plan, polling}
 use Rattle.step.proofs.Phases as P
 use Rattle.step.proofs.Parts as one
-use borrow.Author.Rules.{rules}
 use Rattle.step.proofs.ready.Bus.polls.Goals as goal
 
 pub returns-then-polls-eq0 : goal.returns-then-polls-eq0

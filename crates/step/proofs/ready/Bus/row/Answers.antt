@@ -1,5 +1,4 @@
 use Rattle.step.specs.Transfer.{row_at}
-use borrow.Author.Rules.{rules}
 use Rattle.step.proofs.ready.Bus.row.Goals as goal
 
 pub returns-in-Reset : goal.returns-in-Reset

@@ -2,7 +2,6 @@ use mathlib.Core.Path.{◌∙◌}
 use borrow.Author.Tests.{eq-eqb, ne_eqb}
 use Rattle.step.specs.Transfer.{data_plan}
 use Rattle.step.proofs.Phases as P
-use borrow.Author.Rules.{rules}
 use Rattle.step.proofs.ready.Bus.runs.Goals as goal
 
 pub returns-then-word-ne0 : goal.returns-then-word-ne0

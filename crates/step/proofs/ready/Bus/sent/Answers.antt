@@ -1,6 +1,5 @@
 use mathlib.Core.Path.{◌∙◌}
 use Rattle.step.proofs.Phases as P
-use borrow.Author.Rules.{rules}
 use Rattle.step.proofs.ready.Bus.sent.Goals as goal
 
 pub returns-then-place-top : goal.returns-then-place-top

@@ -1,6 +1,5 @@
 use mathlib.Core.Path.{◌∙◌}
 use Rattle.step.proofs.Phases as P
-use borrow.Author.Rules.{rules}
 use Rattle.step.proofs.ready.Bus.starting.Goals as goal
 
 pub returns-in-On : goal.returns-in-On

@@ -2,7 +2,6 @@ use mathlib.Core.Path.{ap, ◌∙◌}
 use Rattle.step.specs.Context.{plug_next}
 use Rattle.step.specs.Transfer.{ending, data_next}
 use Rattle.step.proofs.Phases as P
-use borrow.Author.Rules.{rules}
 use Rattle.step.proofs.ready.Bus.stops.Goals as goal
 
 pub returns-in-On : goal.returns-in-On

@@ -1,7 +1,6 @@
 use Rattle.step.specs.Next.{Handed}
 use Rattle.step.specs.Transfer.{reading_at, data_plan}
 use Rattle.step.proofs.Phases as P
-use borrow.Author.Rules.{rules}
 use Rattle.step.proofs.ready.Bus.takes.Goals as goal
 
 pub returns-then-place-top : goal.returns-then-place-top

@@ -1,6 +1,5 @@
 use mathlib.Core.Path.{refl}
 use Rattle.step.specs.Ready.{ready_next, waits_next}
-use borrow.Author.Rules.{rules}
 use Rattle.step.proofs.ready.Bus.tries.Goals as goal
 
 pub returns-in-On : goal.returns-in-On

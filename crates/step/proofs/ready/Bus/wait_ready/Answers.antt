@@ -1,6 +1,5 @@
 use mathlib.Core.Path.{◌∙◌}
 use Rattle.step.proofs.Readying as W
-use borrow.Author.Rules.{rules}
 use Rattle.step.proofs.ready.Bus.wait_ready.Goals as goal
 
 pub returns : goal.returns

@@ -1,7 +1,6 @@
 use mathlib.Core.Path.{◌∙◌}
 use Rattle.step.specs.Transfer.{data_next}
 use Rattle.step.proofs.Phases as P
-use borrow.Author.Rules.{rules}
 use Rattle.step.proofs.ready.Bus.waiting.Goals as goal
 
 pub returns-in-On : goal.returns-in-On

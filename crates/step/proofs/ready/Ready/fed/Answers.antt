@@ -7,7 +7,6 @@ use Rattle.step.specs.Context.{plug, plug_next}
 use Rattle.step.specs.Command.{command_plan}
 use Rattle.step.specs.Ready.{asked, ready_plan, ready_next}
 use Rattle.step.proofs.Inside.{inside-heard, command-waits}
-use borrow.Author.Rules.{rules}
 use Rattle.step.proofs.ready.Ready.fed.Goals as goal
 
 pub returns-in-Asks : goal.returns-in-Asks

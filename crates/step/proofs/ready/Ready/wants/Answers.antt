@@ -3,7 +3,6 @@ use Rattle.step.specs.Command.{command_plan}
 use Rattle.step.specs.Ready.{asked, ready_plan}
 use Rattle.step.proofs.Inside.{inside_wants, command-waits}
 use Rattle.step.proofs.Readying as W
-use borrow.Author.Rules.{rules}
 use Rattle.step.proofs.ready.Ready.wants.Goals as goal
 
 pub returns-in-Asks : goal.returns-in-Asks

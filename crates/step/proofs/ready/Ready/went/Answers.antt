@@ -2,7 +2,6 @@ use mathlib.Core.Path.{◌∙◌}
 use Rattle.step.specs.Ready.{asked, ready_plan}
 use Rattle.step.proofs.Inside.{command-goes}
 use Rattle.step.proofs.Readying as W
-use borrow.Author.Rules.{rules}
 use Rattle.step.proofs.ready.Ready.went.Goals as goal
 
 pub returns-in-Asks : goal.returns-in-Asks

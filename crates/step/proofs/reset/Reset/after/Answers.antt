@@ -1,5 +1,4 @@
 use Rattle.step.specs.Reset.{rest_left, step_left}
-use borrow.Author.Rules.{rules}
 use Rattle.step.proofs.reset.Reset.after.Goals as goal
 
 pub returns-in-Mask : goal.returns-in-Mask

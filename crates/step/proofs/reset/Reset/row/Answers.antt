@@ -1,5 +1,4 @@
 use Rattle.step.specs.Reset.{reset_row}
-use borrow.Author.Rules.{rules}
 use Rattle.step.proofs.reset.Reset.row.Goals as goal
 
 pub returns-in-Mask : goal.returns-in-Mask

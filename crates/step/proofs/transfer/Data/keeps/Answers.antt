@@ -2,7 +2,6 @@ use mathlib.Core.Path.{refl}
 use Rattle.step.specs.Next.{Handed}
 use Rattle.step.specs.Transfer.{reading_at, HandedAt, held_by, held_after}
 use Rattle.step.proofs.Words.{place-fits}
-use borrow.Author.Rules.{rules}
 use Rattle.step.proofs.transfer.Data.keeps.Goals as goal
 
 pub returns-in-Idle : goal.returns-in-Idle

@@ -6,7 +6,6 @@ use Rattle.step.specs.Transfer.{start_site, stop_site, ending, data_plan, data_n
 use Rattle.step.proofs.Inside.{inside-missed, command-waits}
 use Rattle.step.proofs.Readying.{ready-waits}
 use Rattle.step.proofs.Phases as P
-use borrow.Author.Rules.{rules}
 use Rattle.step.proofs.transfer.Data.missed.Goals as goal
 
 pub returns-in-Asks : goal.returns-in-Asks

@@ -6,7 +6,6 @@ use Rattle.step.specs.Transfer.{start_site, stop_site, ending, data_plan}
 use Rattle.step.proofs.Inside.{inside_wants, command-waits, filled_want}
 use Rattle.step.proofs.Readying.{ready-waits}
 use Rattle.step.proofs.Phases as P
-use borrow.Author.Rules.{rules}
 use Rattle.step.proofs.transfer.Data.wants.Goals as goal
 
 pub returns-in-Asks : goal.returns-in-Asks

@@ -3,7 +3,6 @@ use Rattle.step.specs.Transfer.{start_site, stop_site, ending, data_plan, data_n
 use Rattle.step.proofs.Inside.{command-goes, command_gate}
 use Rattle.step.proofs.Readying.{ready-goes}
 use Rattle.step.proofs.Phases as P
-use borrow.Author.Rules.{rules}
 use Rattle.step.proofs.transfer.Data.went.Goals as goal
 
 pub returns-in-Asks : goal.returns-in-Asks
