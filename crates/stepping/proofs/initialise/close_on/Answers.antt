@@ -1,5 +1,4 @@
 use Rattle.stepping.specs.Ahead.{close_on}
-use borrow.Author.Rules.{rules}
 use Rattle.stepping.proofs.initialise.close_on.Goals as goal
 
 pub returns-in-At : goal.returns-in-At

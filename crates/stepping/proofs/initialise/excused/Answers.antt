@@ -1,5 +1,4 @@
 use Rattle.stepping.specs.Ahead.{excused}
-use borrow.Author.Rules.{rules}
 use Rattle.stepping.proofs.initialise.excused.Goals as goal
 
 pub returns-in-Failed : goal.returns-in-Failed

@@ -1,5 +1,4 @@
 use Rattle.stepping.specs.Ahead.{forgiven}
-use borrow.Author.Rules.{rules}
 use Rattle.stepping.proofs.initialise.forgives.Goals as goal
 
 pub returns-in-Cmd0 : goal.returns-in-Cmd0

@@ -1,5 +1,4 @@
 use Rattle.stepping.specs.Ahead.{initial_of}
-use borrow.Author.Rules.{rules}
 use Rattle.stepping.proofs.call.Asked.initial.Goals as goal
 
 pub returns-in-Card : goal.returns-in-Card

@@ -1,5 +1,4 @@
 use Rattle.stepping.specs.Ahead.{phase_by, phase_of}
-use borrow.Author.Rules.{rules}
 use Rattle.stepping.proofs.call.Asked.phase.Goals as goal
 
 pub returns-in-Card : goal.returns-in-Card

@@ -1,5 +1,4 @@
 use Rattle.stepping.proofs.Standing as S
-use borrow.Author.Rules.{rules}
 use Rattle.stepping.proofs.call.Job.gets.Goals as goal
 
 pub returns : goal.returns

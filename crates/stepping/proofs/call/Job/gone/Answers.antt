@@ -2,7 +2,6 @@ use mathlib.Core.Path.{ap, ◌∙◌}
 use Rattle.stepping.specs.declared.call.Then.{Then}
 use Rattle.stepping.specs.Ahead.{line_set, told_plan, then_next}
 use Rattle.stepping.proofs.Follows as F
-use borrow.Author.Rules.{rules}
 use Rattle.stepping.proofs.call.Job.gone.Goals as goal
 
 pub returns-in-Reset : goal.returns-in-Reset

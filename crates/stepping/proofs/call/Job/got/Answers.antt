@@ -1,11 +1,9 @@
 use mathlib.Core.Path.{ap, ◌∙◌}
-use Rattle.init.specs.Initialise.{switched}
 use Rattle.stepping.specs.declared.call.Then.{Then}
 use Rattle.stepping.specs.Ahead.{phase_of, then_next, words_in}
 use Rattle.step.specs.Transfer.{taken_by, sends_of, transfer_of}
 use Rattle.stepping.proofs.Follows as F
 use Rattle.stepping.specs.declared.call.Gets.TheVariants as G
-use borrow.Author.Rules.{rules}
 use Rattle.stepping.proofs.call.Job.got.Goals as goal
 
 pub returns-in-Asked : goal.returns-in-Asked

@@ -3,7 +3,6 @@ use borrow.Author.Tests.{eq-eqb, ne_eqb}
 use Rattle.stepping.specs.Ahead.{stand_next}
 use Rattle.stepping.specs.declared.call.Stand.{Stand}
 use Rattle.stepping.proofs.Standing as S
-use borrow.Author.Rules.{rules}
 use Rattle.stepping.proofs.call.Job.idled.Goals as goal
 
 pub returns-then-word-eq0 : goal.returns-then-word-eq0

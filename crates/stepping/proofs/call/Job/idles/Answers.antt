@@ -4,7 +4,6 @@ use Rattle.step.proofs.Parts.{one_less}
 use Rattle.stepping.specs.Ahead.{idling}
 use Rattle.step.specs.Next.{next}
 use Rattle.stepping.proofs.Standing as S
-use borrow.Author.Rules.{rules}
 use Rattle.stepping.proofs.call.Job.idles.Goals as goal
 
 pub returns-then-polls-eq0 : goal.returns-then-polls-eq0

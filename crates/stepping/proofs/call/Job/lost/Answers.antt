@@ -1,7 +1,6 @@
 use Rattle.tape.specs.Plan.{handle}
 use Rattle.step.specs.Context.{plug}
 use Rattle.stepping.specs.Ahead.{end_plan, follow_plan, gets_site, refusal}
-use borrow.Author.Rules.{rules}
 use Rattle.stepping.proofs.call.Job.lost.Goals as goal
 
 pub returns-in-Asked : goal.returns-in-Asked

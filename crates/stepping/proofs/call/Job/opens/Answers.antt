@@ -1,5 +1,4 @@
 use Rattle.stepping.proofs.Follows as F
-use borrow.Author.Rules.{rules}
 use Rattle.stepping.proofs.call.Job.opens.Goals as goal
 
 pub returns-in-Spins : goal.returns-in-Spins

@@ -4,7 +4,6 @@ use Rattle.step.proofs.Parts.{one_less}
 use Rattle.stepping.specs.Ahead.{powering}
 use Rattle.step.specs.Next.{next}
 use Rattle.stepping.proofs.Follows as F
-use borrow.Author.Rules.{rules}
 use Rattle.stepping.proofs.call.Job.powers.Goals as goal
 
 pub returns-then-left-eq0 : goal.returns-then-left-eq0

@@ -1,5 +1,4 @@
 use Rattle.stepping.specs.Ahead.{rca_of}
-use borrow.Author.Rules.{rules}
 use Rattle.stepping.proofs.call.Job.rca.Goals as goal
 
 pub returns-in-Asked : goal.returns-in-Asked

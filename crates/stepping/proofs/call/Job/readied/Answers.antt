@@ -1,6 +1,5 @@
 use mathlib.Core.Path.{sym, ◌∙◌}
 use Rattle.stepping.proofs.Standing as S
-use borrow.Author.Rules.{rules}
 use Rattle.stepping.proofs.call.Job.readied.Goals as goal
 
 pub returns-in-Blocks : goal.returns-in-Blocks

@@ -2,7 +2,6 @@ use mathlib.Core.Path.{refl, ap, ◌∙◌}
 use Rattle.stepping.specs.Ahead.{stand_next}
 use Rattle.stepping.specs.declared.call.Stand.{Stand}
 use Rattle.stepping.proofs.Standing as S
-use borrow.Author.Rules.{rules}
 use Rattle.stepping.proofs.call.Job.received.Goals as goal
 
 pub returns-in-On : goal.returns-in-On

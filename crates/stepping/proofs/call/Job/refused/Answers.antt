@@ -2,7 +2,6 @@ use mathlib.Core.Path.{ap, ◌∙◌}
 use Rattle.stepping.specs.declared.call.Then.{Then}
 use Rattle.stepping.specs.Ahead.{then_next}
 use Rattle.stepping.proofs.Standing as S
-use borrow.Author.Rules.{rules}
 use Rattle.stepping.proofs.call.Job.refused.Goals as goal
 
 pub returns-in-App : goal.returns-in-App

@@ -3,7 +3,6 @@ use Rattle.stepping.specs.declared.call.Then.{Then}
 use Rattle.stepping.specs.Ahead.{then_next}
 use Rattle.stepping.proofs.Held.{first_two}
 use Rattle.stepping.proofs.Follows as F
-use borrow.Author.Rules.{rules}
 use Rattle.stepping.proofs.call.Job.scr_read.Goals as goal
 
 pub returns-then-fits : goal.returns-then-fits

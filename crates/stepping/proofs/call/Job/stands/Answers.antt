@@ -1,6 +1,5 @@
 use mathlib.Core.Path.{refl}
 use Rattle.stepping.specs.Ahead.{follow_plan, at_plan}
-use borrow.Author.Rules.{rules}
 use Rattle.stepping.proofs.call.Job.stands.Goals as goal
 
 pub returns-in-Sends : goal.returns-in-Sends

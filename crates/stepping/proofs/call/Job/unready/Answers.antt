@@ -1,7 +1,6 @@
 use Rattle.tape.specs.Plan.{handle}
 use Rattle.step.specs.Context.{plug}
 use Rattle.stepping.specs.Ahead.{end_plan, follow_plan, refusal, wait_site}
-use borrow.Author.Rules.{rules}
 use Rattle.stepping.proofs.call.Job.unready.Goals as goal
 
 pub returns-in-Blocks : goal.returns-in-Blocks

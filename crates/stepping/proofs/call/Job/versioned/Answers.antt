@@ -3,7 +3,6 @@ use borrow.Author.Tests.{eq-eqb, ne_eqb}
 use Rattle.stepping.specs.declared.call.Then.{Then}
 use Rattle.stepping.specs.Ahead.{then_next}
 use Rattle.stepping.proofs.Follows as F
-use borrow.Author.Rules.{rules}
 use Rattle.stepping.proofs.call.Job.versioned.Goals as goal
 
 pub returns-then-word-eq-CONDITION : goal.returns-then-word-eq-CONDITION

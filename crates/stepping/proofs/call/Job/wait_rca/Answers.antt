@@ -1,5 +1,4 @@
 use Rattle.stepping.specs.Ahead.{wait_rca}
-use borrow.Author.Rules.{rules}
 use Rattle.stepping.proofs.call.Job.wait_rca.Goals as goal
 
 pub returns-in-Blocks : goal.returns-in-Blocks
