@@ -1,5 +1,5 @@
 -- Document 01's table of refusals, lines 4 and 5: a read, a write or a status call refused before its data phase, or in it.
-use Prim.Native.Nat.{ℕ, ◌-◌, ◌/◌}
+use Prim.Native.Nat.{ℕ, ◌/◌}
 use mathlib.Core.Bool.{true}
 use mathlib.Core.List.{List, []}
 use mathlib.Core.Path.{◌≡◌, refl, ◌∙◌}
@@ -13,7 +13,7 @@ use Rattle.tape.specs.declared.progress.Pace.{Pace}
 use Rattle.tape.specs.declared.progress.Pace.TheVariants.{Going, Stopped}
 use Rattle.tape.specs.declared.rows.Row.{Row}
 use Rattle.tape.specs.Plan.{Nothing, Cause, failed, ended, Plan}
-use Rattle.tape.specs.Run.{State, at, halt_of, run, run_from}
+use Rattle.tape.specs.Run.{State, halt_of, run, run_from}
 use Rattle.refusals.proofs.Guards.{guard-refused}
 use Rattle.refusals.proofs.Reset.{ends-refused, ends-accepted, ResetAfter, reset-after}
 use Rattle.bus.specs.declared.transfer.Transfer.{Transfer}

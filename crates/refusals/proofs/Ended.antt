@@ -1,6 +1,6 @@
 -- 21, and the script's end, of whole calls: where a reading finds no word the answer is 21, or 22 if a closing row finds no
 -- room; 21 comes nowhere else; and all words were used.
-use Prim.Native.Nat.{ℕ, ◌+◌, ◌≤◌, ◌<◌}
+use Prim.Native.Nat.{ℕ, ◌≤◌, ◌<◌}
 use mathlib.Core.Bool.{Bool, true, false, cond, ◌||◌}
 use mathlib.Core.List.{List, [], ◌++◌}
 use mathlib.Core.Path.{◌≡◌, ap, sym, ◌∙◌}

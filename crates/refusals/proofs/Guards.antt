@@ -18,7 +18,7 @@ use Rattle.tape.proofs.Laws.{run-handle}
 use Rattle.tape.specs.Plan.{Nothing, Cause, failed, ended, Plan, give, refuse, read, write, look, hold, handle, ◌then◌, refusing, guard}
 use Rattle.tape.proofs.Room.{is_full, free, full_exactly, laid-between, run_fits}
 use Rattle.tape.specs.Rows.{ARG, CLKCR, CMD, DCTRL, DCTRL2, DLEN, DTIMER, ICR, MASK, POWER}
-use Rattle.tape.specs.Run.{State, at, After, after, noted, halt_of, run, run_from, next_at}
+use Rattle.tape.specs.Run.{State, After, after, noted, halt_of, run, run_from, next_at}
 use Rattle.tape.specs.Steps.{row, reset_controller}
 
 abbrev row_to : ℕ → ℕ → Row

@@ -1,5 +1,5 @@
 -- Document 01's table of refusals, lines 1 and 2: refused at making, or before the first row.
-use Prim.Native.Nat.{ℕ, ◌+◌, ◌*◌, ◌-◌, ◌/◌, ◌%◌, ◌≤◌, ◌<◌}
+use Prim.Native.Nat.{ℕ, ◌+◌, ◌*◌, ◌/◌, ◌%◌, ◌≤◌, ◌<◌}
 use mathlib.Core.Bool.{Bool, true, false, cond, ◌&&◌, ◌||◌}
 use mathlib.Core.List.{List}
 use mathlib.Core.Path.{◌≡◌, refl}
@@ -18,7 +18,6 @@ use Rattle.types.specs.declared.error.Error.{Error}
 use Rattle.types.specs.declared.error.Error.TheVariants as E
 use Rattle.types.specs.Leaf.{address_of, clock_of, stops_writes}
 use Rattle.types.specs.Settings.{made_of}
-use Rattle.tape.specs.declared.progress.Halt.TheVariants.{Refused}
 use Rattle.tape.specs.declared.rows.Row.{Row}
 use Rattle.bus.specs.Transfer.{Buffer, outgoing}
 use Rattle.init.specs.declared.settings.Settings.{Settings}

@@ -1,7 +1,7 @@
 -- Theorems about whole calls. Each call does what its one plan does (`initialise-ran`, `blocks-ran`, `status-ran`); from that, of
 -- every call: when it answers 22, and how many rows it has then written; whence a 17 and a 26 come; and that an accepted read has
 -- filled its whole buffer. (21: Ended.antt.)
-use Prim.Native.Nat.{ℕ, ◌+◌, ◌*◌, ◌-◌, ◌/◌, ◌%◌, ◌≤◌, ◌<◌, ◌^◌, min}
+use Prim.Native.Nat.{ℕ, ◌+◌, ◌*◌, ◌/◌, ◌%◌, ◌≤◌, ◌<◌, ◌^◌, min}
 use mathlib.Core.Bool.{Bool, true, false, cond, ◌&&◌, ◌||◌}
 use mathlib.Core.List.{List, [], append-nil}
 use mathlib.Core.Path.{◌≡◌, refl, ap, sym, ◌∙◌}
