@@ -1,14 +1,14 @@
 -- Lines of the table of status words.
 use Prim.Native.Nat.{ℕ, zero, suc, ◌+◌, ◌≤◌, ◌<◌}
 use mathlib.Core.Bool.{Bool, true, false}
-use mathlib.Core.List.{List, [], ◌∷◌, ◌++◌}
+use mathlib.Core.List.{◌∷◌, ◌++◌}
 use mathlib.Core.Path.{◌≡◌, refl}
 use native.Mathlib.Numerals.{add-one}
 use native.Mathlib.Omega.{arith}
-use lib.ListN.{length, drop, get_or, get_or-eq_default, drop_of_length-le}
+use lib.ListN.{length, drop, get_or-eq_default, drop_of_length-le}
 use lib.Seq.{drop-cons}
 use Rattle.types.specs.Bits.{clear}
-use Rattle.events.specs.Meaning.{Flag, flag, flags, flag_at, joint, none_left, flags_text}
+use Rattle.events.specs.Meaning.{flag, flags, flag_at, joint, none_left, flags_text}
 
 -- none of the first n numbers, as a `match` over them tells it of any other
 abbrev Other : ℕ → ℕ → Type 0

@@ -1,5 +1,4 @@
 use Rattle.events.specs.Event.{event_text}
-use borrow.Author.Rules.{rules}
 use Rattle.events.proofs.event.put_event.Goals as goal
 
 pub returns-in-Read : goal.returns-in-Read

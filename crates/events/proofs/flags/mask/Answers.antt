@@ -52,4 +52,4 @@ unfolding flags flag_at
 returns-in-11 c = rw c.in-11.is
 
 pub returns-in_default : goal.returns-in_default
-returns-in_default c = rw (past c.args.i c.in_default.rest)
+returns-in_default c = rw (past c.args.i (search rules))

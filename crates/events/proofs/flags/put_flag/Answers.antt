@@ -53,4 +53,4 @@ unfolding flags flag_at
 returns-in-11 c = rw c.in-11.is c.put-in-11.ensures
 
 pub returns-in_default : goal.returns-in_default
-returns-in_default c = rw (past c.args.i c.in_default.rest) (nothing c.least.ensures)
+returns-in_default c = rw (past c.args.i (search rules)) (nothing c.least.ensures)

@@ -1,7 +1,6 @@
 use mathlib.Core.Bool.{true, false}
 use mathlib.Core.Path.{◌≡◌}
 use Rattle.text.proofs.Ink.{nothing}
-use borrow.Author.Rules.{rules}
 use Rattle.events.proofs.flags.put_none.Goals as goal
 
 pub returns-then-said : goal.returns-then-said

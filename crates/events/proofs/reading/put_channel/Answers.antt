@@ -1,5 +1,4 @@
 use borrow.Author.Tests.{eq-eqb, ne_eqb}
-use borrow.Author.Rules.{rules}
 use Rattle.events.proofs.reading.put_channel.Goals as goal
 
 pub returns-then-word-ne0 : goal.returns-then-word-ne0

@@ -1,7 +1,6 @@
 use borrow.Author.Tests.{eq-eqb, ne_eqb}
 use Rattle.text.proofs.Ink.{and_then, nothing}
 use Rattle.events.specs.Meaning.{reading_meaning}
-use borrow.Author.Rules.{rules}
 use Rattle.events.proofs.reading.put_count.Goals as goal
 
 pub returns-then-word-eq0 : goal.returns-then-word-eq0

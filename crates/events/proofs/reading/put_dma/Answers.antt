@@ -1,6 +1,5 @@
 use Rattle.text.proofs.Ink.{and_then}
 use Rattle.events.specs.Meaning.{reading_meaning}
-use borrow.Author.Rules.{rules}
 use Rattle.events.proofs.reading.put_dma.Goals as goal
 
 pub returns : goal.returns

@@ -1,4 +1,3 @@
-use borrow.Author.Rules.{rules}
 use Rattle.events.proofs.reading.put_kind.Goals as goal
 
 pub returns-in-Status : goal.returns-in-Status

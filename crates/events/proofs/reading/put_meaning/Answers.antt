@@ -1,6 +1,5 @@
 use Rattle.text.proofs.Ink.{nothing}
 use Rattle.events.specs.Meaning.{reading_meaning}
-use borrow.Author.Rules.{rules}
 use Rattle.events.proofs.reading.put_meaning.Goals as goal
 
 pub returns-in-Status : goal.returns-in-Status

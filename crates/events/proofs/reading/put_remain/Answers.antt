@@ -1,6 +1,5 @@
 use borrow.Author.Tests.{eq-eqb, ne_eqb}
 use Rattle.text.proofs.Ink.{and_then, nothing}
-use borrow.Author.Rules.{rules}
 use Rattle.events.proofs.reading.put_remain.Goals as goal
 
 pub returns-then-n-eq0 : goal.returns-then-n-eq0

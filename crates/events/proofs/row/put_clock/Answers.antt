@@ -1,6 +1,5 @@
 use borrow.Author.Tests.{eq-eqb, ne_eqb}
 use Rattle.events.specs.Meaning.{row_table, first_line, row_meaning}
-use borrow.Author.Rules.{rules}
 use Rattle.events.proofs.row.put_clock.Goals as goal
 
 pub returns-then-value-eq1 : goal.returns-then-value-eq1

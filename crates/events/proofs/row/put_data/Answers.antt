@@ -1,7 +1,6 @@
 use borrow.Author.Tests.{eq-eqb, ne_eqb}
 use Rattle.text.proofs.Ink.{and_then}
 use Rattle.events.specs.Meaning.{row_table, first_line, row_meaning}
-use borrow.Author.Rules.{rules}
 use Rattle.events.proofs.row.put_data.Goals as goal
 
 pub returns-then-value-ne1 : goal.returns-then-value-ne1

@@ -1,6 +1,5 @@
 use Rattle.text.proofs.Ink.{and_then}
 use Rattle.events.specs.Meaning.{row_table, first_line, row_meaning}
-use borrow.Author.Rules.{rules}
 use Rattle.events.proofs.row.put_length.Goals as goal
 
 pub returns : goal.returns

@@ -1,7 +1,7 @@
+use native.Mathlib.Omega.{arith}
 use borrow.Author.Tests.{ne_eqb}
 use Rattle.text.proofs.Ink.{nothing}
 use Rattle.events.specs.Meaning.{row_table, first_line, row_meaning}
-use borrow.Author.Rules.{rules}
 use Rattle.events.proofs.row.put_meaning.Goals as goal
 
 pub returns-in-1 : goal.returns-in-1
@@ -42,4 +42,6 @@ returns-in-12 c = rw c.in-12.is c.put_said-in-12.ensures
 
 pub returns-in_default : goal.returns-in_default
 unfolding row_table first_line row_meaning
-returns-in_default c = rw (ne_eqb _ _ c.in_default.rest.0.0.0.0.0.0.0.0.0.0.1, ne_eqb _ _ c.in_default.rest.0.0.0.0.0.0.0.0.0.1, ne_eqb _ _ c.in_default.rest.0.0.0.0.0.0.0.0.1, ne_eqb _ _ c.in_default.rest.0.0.0.0.0.0.0.1, ne_eqb _ _ c.in_default.rest.0.0.0.0.0.0.1, ne_eqb _ _ c.in_default.rest.0.0.0.0.0.1, ne_eqb _ _ c.in_default.rest.0.0.0.0.1, ne_eqb _ _ c.in_default.rest.0.0.0.1, ne_eqb _ _ c.in_default.rest.0.0.1, ne_eqb _ _ c.in_default.rest.0.1, ne_eqb _ _ c.in_default.rest.1) (nothing c.least.ensures)
+returns-in_default c =
+    rw (ne_eqb c.args.register 1 (omega arith), ne_eqb c.args.register 2 (omega arith), ne_eqb c.args.register 3 (omega arith), ne_eqb c.args.register 4 (omega arith), ne_eqb c.args.register 5 (omega arith), ne_eqb c.args.register 6 (omega arith), ne_eqb c.args.register 7 (omega arith), ne_eqb c.args.register 8 (omega arith), ne_eqb c.args.register 9 (omega arith), ne_eqb c.args.register 11 (omega arith), ne_eqb c.args.register 12 (omega arith))
+    (nothing c.least.ensures)

@@ -1,7 +1,7 @@
+use native.Mathlib.Omega.{arith}
 use borrow.Author.Tests.{ne_eqb}
 use Rattle.text.proofs.Ink.{nothing}
 use Rattle.events.specs.Meaning.{row_table, first_line, row_meaning}
-use borrow.Author.Rules.{rules}
 use Rattle.events.proofs.row.put_power.Goals as goal
 
 pub returns-in-3 : goal.returns-in-3
@@ -14,4 +14,6 @@ returns-in-0 c = rw c.in-0.is c.put_said-in-0.ensures
 
 pub returns-in_default : goal.returns-in_default
 unfolding row_table first_line row_meaning
-returns-in_default c = rw (ne_eqb _ _ c.in_default.rest.0.1, ne_eqb _ _ c.in_default.rest.1) (nothing c.least.ensures)
+returns-in_default c =
+    rw (ne_eqb c.args.value 3 (omega arith), ne_eqb c.args.value 0 (omega arith))
+    (nothing c.least.ensures)

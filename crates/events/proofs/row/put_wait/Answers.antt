@@ -1,6 +1,6 @@
+use native.Mathlib.Omega.{arith}
 use borrow.Author.Tests.{ne_eqb}
 use Rattle.text.proofs.Ink.{nothing}
-use borrow.Author.Rules.{rules}
 use Rattle.events.proofs.row.put_wait.Goals as goal
 
 pub returns-in-0 : goal.returns-in-0
@@ -13,4 +13,6 @@ pub returns-in-3 : goal.returns-in-3
 returns-in-3 c = rw c.in-3.is c.put-in-3.ensures
 
 pub returns-in_default : goal.returns-in_default
-returns-in_default c = rw (ne_eqb _ _ c.in_default.rest.0.0.1, ne_eqb _ _ c.in_default.rest.0.1, ne_eqb _ _ c.in_default.rest.1) (nothing c.least.ensures)
+returns-in_default c =
+    rw (ne_eqb c.args.kind 0 (omega arith), ne_eqb c.args.kind 1 (omega arith), ne_eqb c.args.kind 3 (omega arith))
+    (nothing c.least.ensures)

@@ -1,6 +1,5 @@
 use borrow.Author.Tests.{eq-eqb, ne_eqb}
 use Rattle.text.proofs.Ink.{nothing}
-use borrow.Author.Rules.{rules}
 use Rattle.events.proofs.said.put_plural.Goals as goal
 
 pub returns-then-n-eq1 : goal.returns-then-n-eq1

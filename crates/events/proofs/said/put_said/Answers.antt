@@ -1,5 +1,4 @@
 use Rattle.text.proofs.Ink.{and_then}
-use borrow.Author.Rules.{rules}
 use Rattle.events.proofs.said.put_said.Goals as goal
 
 pub returns : goal.returns

@@ -1,3 +1,4 @@
+-- The measure is the number: a tenth of it is less.
 use Rattle.text.proofs.pen.+put_decimal.Given as goal
 
 abbrev pub decreases-put_decimal : goal.decreases-put_decimal

@@ -1,3 +1,4 @@
+-- The measure is the number of digits.
 use Rattle.text.proofs.pen.+put_hex.Given as goal
 
 abbrev pub decreases-put_hex : goal.decreases-put_hex
