@@ -1,5 +1,4 @@
 use Rattle.underway.proofs.Beginning as B
-use borrow.Author.Rules.{rules}
 use Rattle.underway.proofs.begin.app.Goals as goal
 
 pub returns-in-On : goal.returns-in-On

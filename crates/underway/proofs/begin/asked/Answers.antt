@@ -1,6 +1,5 @@
 use mathlib.Core.Path.{refl}
 use Rattle.underway.specs.First.{asked_by}
-use borrow.Author.Rules.{rules}
 use Rattle.underway.proofs.begin.asked.Goals as goal
 
 pub returns-in-Refused : goal.returns-in-Refused

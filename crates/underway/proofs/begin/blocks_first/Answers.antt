@@ -3,7 +3,6 @@ use native.Mathlib.Omega.{arith}
 use Rattle.underway.specs.First.{first_plan}
 use Rattle.host.proofs.Ran.{judged-good}
 use Rattle.underway.proofs.Beginning as B
-use borrow.Author.Rules.{rules}
 use Rattle.underway.proofs.begin.blocks_first.Goals as goal
 
 pub overflow_cast-bytes : goal.overflow_cast-bytes
@@ -11,11 +10,9 @@ overflow_cast-bytes c = let place = judged-good _ _ _ _ _ (sym c.judged-answer.e
 
 pub returns-in-Address : goal.returns-in-Address
 returns-in-Address c = let asked = c.args in
-    let answer = c.answer-1 in
-    λ sent. c.moves.ensures _ sent ∙ B.moved_call asked.host asked.sends asked.index asked.bytes sent answer.given.0.0 (sym c.judged-answer.ensures ∙ answer.given.1)
+    λ sent. c.moves.ensures _ sent ∙ B.moved_call asked.host asked.sends asked.index asked.bytes sent _ (sym c.judged-answer.ensures ∙ c.in-Address.is)
 
 pub returns-in-Refused : goal.returns-in-Refused
 unfolding first_plan
 returns-in-Refused c = let asked = c.args in
-    let answer = c.answer-in-Refused-1 in
-    λ sent. B.refused-call asked.host asked.sends asked.index asked.bytes sent answer.given.0.0 (sym c.judged-answer.ensures ∙ answer.given.1)
+    λ sent. B.refused-call asked.host asked.sends asked.index asked.bytes sent _ (sym c.judged-answer.ensures ∙ c.in-Refused.is)

@@ -2,7 +2,6 @@ use mathlib.Core.Path.{refl, sym, ◌∙◌}
 use borrow.Author.Tests.{eq-eqb, ne_eqb, lt-ltb, le-ltb}
 use Rattle.underway.specs.First.{first_plan}
 use Rattle.underway.specs.Whole.{init_call, init_at}
-use borrow.Author.Rules.{rules}
 use Rattle.underway.proofs.begin.init_first.Goals as goal
 
 pub returns-then-frequency-eq0 : goal.returns-then-frequency-eq0

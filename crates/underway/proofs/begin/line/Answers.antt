@@ -1,6 +1,5 @@
 use mathlib.Core.Path.{refl}
 use Rattle.underway.specs.First.{line_by}
-use borrow.Author.Rules.{rules}
 use Rattle.underway.proofs.begin.line.Goals as goal
 
 pub returns-in-Refused : goal.returns-in-Refused

@@ -1,7 +1,6 @@
 use mathlib.Core.Path.{◌∙◌}
 use Rattle.underway.specs.First.{first_plan, asked_by, line_by}
 use Rattle.underway.proofs.Beginning as B
-use borrow.Author.Rules.{rules}
 use Rattle.underway.proofs.begin.stands.Goals as goal
 
 pub returns-in-Refused : goal.returns-in-Refused

@@ -1,7 +1,6 @@
 use mathlib.Core.Path.{refl, ◌∙◌}
 use Rattle.step.specs.Transfer.{taken_by, sends_of, transfer_of}
 use Rattle.stepping.specs.Ahead.{phase_by, phase_of, host_by}
-use borrow.Author.Rules.{rules}
 use Rattle.underway.proofs.ends.accepted.Goals as goal
 
 pub returns-in-Card : goal.returns-in-Card

@@ -1,5 +1,4 @@
 use mathlib.Core.Path.{refl}
-use borrow.Author.Rules.{rules}
 use Rattle.underway.proofs.ends.answer_for.Goals as goal
 
 pub returns-in-Failed : goal.returns-in-Failed

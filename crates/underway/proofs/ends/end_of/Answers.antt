@@ -1,6 +1,5 @@
 use mathlib.Core.Path.{refl}
 use Rattle.underway.specs.Under.{ends_at}
-use borrow.Author.Rules.{rules}
 use Rattle.underway.proofs.ends.end_of.Goals as goal
 
 pub returns-in-Command : goal.returns-in-Command

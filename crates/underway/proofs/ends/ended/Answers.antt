@@ -2,7 +2,6 @@ use mathlib.Core.Path.{refl, ◌∙◌}
 use Rattle.step.specs.Next.{next}
 use Rattle.stepping.specs.Ahead.{end_plan}
 use Rattle.stepping.specs.Closing.{accepting, finding, keeping, dropping}
-use borrow.Author.Rules.{rules}
 use Rattle.underway.proofs.ends.ended.Goals as goal
 
 pub returns-in-Accepted : goal.returns-in-Accepted

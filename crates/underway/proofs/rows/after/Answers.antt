@@ -1,6 +1,5 @@
 use mathlib.Core.Path.{refl}
 use Rattle.stepping.specs.Ahead.{line_set}
-use borrow.Author.Rules.{rules}
 use Rattle.underway.proofs.rows.after.Goals as goal
 
 pub returns-in-Reset : goal.returns-in-Reset

@@ -1,7 +1,5 @@
 use mathlib.Core.Path.{refl}
 use Rattle.stepping.specs.Ahead.{clock_on}
-use Rattle.underway.specs.Under.{written}
-use borrow.Author.Rules.{rules}
 use Rattle.underway.proofs.rows.clock_row.Goals as goal
 
 pub returns-in-Initial : goal.returns-in-Initial

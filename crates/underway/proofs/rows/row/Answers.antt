@@ -1,7 +1,5 @@
 use mathlib.Core.Path.{refl}
 use Rattle.stepping.specs.Ahead.{row_at}
-use Rattle.underway.specs.Under.{written}
-use borrow.Author.Rules.{rules}
 use Rattle.underway.proofs.rows.row.Goals as goal
 
 pub returns-in-Reset : goal.returns-in-Reset

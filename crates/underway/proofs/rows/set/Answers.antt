@@ -1,6 +1,5 @@
 use mathlib.Core.Path.{refl}
 use Rattle.stepping.specs.Ahead.{line_set}
-use borrow.Author.Rules.{rules}
 use Rattle.underway.proofs.rows.set.Goals as goal
 
 pub returns-in-Initial : goal.returns-in-Initial

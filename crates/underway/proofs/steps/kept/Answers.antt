@@ -2,7 +2,6 @@ use mathlib.Core.Path.{refl}
 use Rattle.underway.specs.Under.{kept_at, KeptAt}
 use Rattle.step.proofs.Words.{handed-sent}
 use Rattle.underway.proofs.Moving as M
-use borrow.Author.Rules.{rules}
 use Rattle.underway.proofs.steps.kept.Goals as goal
 
 pub returns-in-Command : goal.returns-in-Command

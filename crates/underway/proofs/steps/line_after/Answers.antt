@@ -1,6 +1,5 @@
 use mathlib.Core.Path.{refl}
 use Rattle.underway.specs.Under.{line_at}
-use borrow.Author.Rules.{rules}
 use Rattle.underway.proofs.steps.line_after.Goals as goal
 
 pub returns-in-Command : goal.returns-in-Command

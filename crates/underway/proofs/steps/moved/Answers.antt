@@ -5,7 +5,6 @@ use Rattle.stepping.specs.declared.call.Stand.{Stand}
 use Rattle.underway.specs.Under.{line_at}
 use Rattle.underway.proofs.Moving as M
 use Rattle.underway.proofs.Rowing as Ro
-use borrow.Author.Rules.{rules}
 use Rattle.underway.proofs.steps.moved.Goals as goal
 
 pub returns-in-Command : goal.returns-in-Command

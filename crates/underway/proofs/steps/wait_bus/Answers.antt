@@ -1,5 +1,4 @@
 use mathlib.Core.Path.{refl}
-use borrow.Author.Rules.{rules}
 use Rattle.underway.proofs.steps.wait_bus.Goals as goal
 
 pub returns : goal.returns

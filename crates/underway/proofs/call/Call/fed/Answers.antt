@@ -1,7 +1,6 @@
 use mathlib.Core.Path.{refl, ap}
 use Rattle.step.specs.Next.{Next}
 use Rattle.stepping.specs.Closing.{Closing}
-use borrow.Author.Rules.{rules}
 use Rattle.underway.proofs.call.Call.fed.Goals as goal
 
 pub returns : goal.returns

@@ -2,7 +2,6 @@ use mathlib.Core.Path.{ap, ◌∙◌}
 use Rattle.step.specs.Next.{next}
 use Rattle.stepping.specs.Closing.{Closing}
 use Rattle.tape.specs.Plan.{Plan}
-use borrow.Author.Rules.{rules}
 use Rattle.underway.proofs.call.Call.read_blocks.Goals as goal
 
 pub returns : goal.returns

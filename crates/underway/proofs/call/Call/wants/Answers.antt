@@ -4,7 +4,6 @@ use Rattle.stepping.specs.Ahead.{at_plan}
 use Rattle.underway.proofs.Moving as M
 use Rattle.underway.proofs.Rowing as Ro
 use Rattle.step.specs.declared.wants.Wants.TheVariants as Wa
-use borrow.Author.Rules.{rules}
 use Rattle.underway.proofs.call.Call.wants.Goals as goal
 
 pub returns-in-Command : goal.returns-in-Command

@@ -1,7 +1,6 @@
 use mathlib.Core.Path.{ap, sym, ◌∙◌}
 use Rattle.step.specs.Next.{filled_in}
 use Rattle.underway.proofs.Moving as Li
-use borrow.Author.Rules.{rules}
 use Rattle.underway.proofs.call.Call.went.Goals as goal
 
 pub returns-in-Read : goal.returns-in-Read
