@@ -23,7 +23,6 @@ use Rattle.tape.specs.declared.progress.Pace.{Pace}
 use Rattle.tape.specs.declared.progress.Pace.TheVariants.{Going, Stopped}
 use Rattle.tape.specs.declared.rows.Row.{Row}
 use Rattle.tape.specs.declared.script.Reading.{Reading}
-use Rattle.tape.specs.declared.script.Reading.TheVariants as Reading
 use Rattle.tape.specs.Plan.{Nothing, Plan, Cause, failed, ended, give, refuse, read, write, look, hold, handle, ◌then◌, refusing, ensure, until}
 use Rattle.tape.specs.Run.{State, After, after, noted, run, run_from, next_at}
 use Rattle.tape.specs.Steps.{word, row, wait_idle, reset_controller, stop_data, set_clken, data_from, data_words}

@@ -8,7 +8,6 @@ use Rattle.tape.specs.declared.progress.Pace.{Pace}
 use Rattle.tape.specs.declared.progress.Pace.TheVariants.{Going, Stopped}
 use Rattle.tape.specs.declared.rows.Row.{Row}
 use Rattle.tape.specs.declared.script.Reading.{Reading}
-use Rattle.tape.specs.declared.script.Reading.TheVariants as Reading
 use Rattle.tape.specs.Plan.{Plan, give, refuse, read, write, look, hold}
 use Rattle.tape.specs.Run.{State, After, after, halt_of, noted, run}
 use Rattle.host.specs.declared.host.Sdmmc.{Sdmmc}

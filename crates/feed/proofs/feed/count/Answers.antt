@@ -1,5 +1,4 @@
 use Rattle.feed.specs.Runs.{count_of}
-use borrow.Author.Rules.{rules}
 use Rattle.feed.proofs.feed.count.Goals as goal
 
 pub returns-in-Accepted : goal.returns-in-Accepted

@@ -1,4 +1,3 @@
-use borrow.Author.Rules.{rules}
 use Rattle.feed.proofs.feed.ended.Goals as goal
 
 pub returns : goal.returns

@@ -1,16 +1,9 @@
-use mathlib.Core.Path.{◌≡◌, ap, sym, ◌∙◌}
-use lib.ListN.{length}
 use mathlib.Core.List.{[]}
-use borrow.Author.Rules.{rules}
 use Rattle.types.specs.Words.{words_of}
 use Rattle.tape.specs.Layout.{rows_in}
-use Rattle.tape.proofs.Layouts.{rows_long}
-use Rattle.host.specs.Calls.{called_of}
 use Rattle.underway.specs.Under.{under}
 use Rattle.feed.specs.Runs.{next_span}
-use Rattle.feed.specs.Turns.{lent, way_of, fed_from, place_from}
-use Rattle.feed.specs.declared.feed.Fed.{Fed}
-use Rattle.feed.specs.declared.turn.Feeding.{Feeding}
+use Rattle.feed.specs.Turns.{lent, way_of}
 use Rattle.feed.proofs.Fed as F
 use Rattle.feed.proofs.feed.feed.Given as goal
 

@@ -4,7 +4,6 @@ use Rattle.feed.proofs.Whole.{init-call}
 use mathlib.Core.List.{[]}
 use Rattle.feed.specs.Turns.{lent}
 use Rattle.feed.proofs.Fed as F
-use borrow.Author.Rules.{rules}
 use Rattle.feed.proofs.feed.init_card.Goals as goal
 
 pub returns : goal.returns

@@ -11,7 +11,6 @@ use Rattle.feed.proofs.Whole.{blocks-call}
 use Rattle.feed.proofs.Order.{read-took}
 use Rattle.feed.specs.Turns.{lent}
 use Rattle.feed.proofs.Fed as F
-use borrow.Author.Rules.{rules}
 use Rattle.feed.proofs.feed.read_blocks.Goals as goal
 
 pub returns : goal.returns

@@ -5,7 +5,6 @@ use Rattle.feed.proofs.Whole.{status-call}
 use mathlib.Core.List.{[]}
 use Rattle.feed.specs.Turns.{lent}
 use Rattle.feed.proofs.Fed as F
-use borrow.Author.Rules.{rules}
 use Rattle.feed.proofs.feed.read_sd_status.Goals as goal
 
 pub returns : goal.returns

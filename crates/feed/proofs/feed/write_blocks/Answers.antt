@@ -6,7 +6,6 @@ use Rattle.host.specs.Calls.{Came, called_of}
 use Rattle.feed.specs.Turns.{lent}
 use Rattle.feed.proofs.Whole.{blocks-call}
 use Rattle.feed.proofs.Fed as F
-use borrow.Author.Rules.{rules}
 use Rattle.feed.proofs.feed.write_blocks.Goals as goal
 
 pub returns : goal.returns

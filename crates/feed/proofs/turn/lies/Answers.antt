@@ -1,6 +1,5 @@
 use borrow.Author.Tests.{eq-eqb, ne_eqb}
 use Rattle.feed.specs.Runs.{lies_at}
-use borrow.Author.Rules.{rules}
 use Rattle.feed.proofs.turn.lies.Goals as goal
 
 pub returns-in-Status : goal.returns-in-Status

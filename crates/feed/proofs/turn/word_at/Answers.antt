@@ -3,7 +3,6 @@ use native.Mathlib.Omega.{arith}
 use lib.ListN.{get_or-eq_default}
 use Rattle.types.specs.Words.{words_of}
 use Rattle.types.proofs.Back.{length-words, word-is}
-use borrow.Author.Rules.{rules}
 use Rattle.feed.proofs.turn.word_at.Goals as goal
 
 pub returns-then-data-k : goal.returns-then-data-k

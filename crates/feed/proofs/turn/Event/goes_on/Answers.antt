@@ -1,5 +1,4 @@
 use Rattle.feed.specs.Turns.{goes_on}
-use borrow.Author.Rules.{rules}
 use Rattle.feed.proofs.turn.Event.goes_on.Goals as goal
 
 pub returns-in-Read : goal.returns-in-Read

@@ -1,6 +1,5 @@
 use Rattle.feed.specs.Turns.{way_of}
 use Rattle.feed.proofs.Fed as F
-use borrow.Author.Rules.{rules}
 use Rattle.feed.proofs.turn.Feeding.called.Goals as goal
 
 pub returns-in-Over : goal.returns-in-Over

@@ -1,5 +1,4 @@
 use Rattle.feed.proofs.Fed as F
-use borrow.Author.Rules.{rules}
 use Rattle.feed.proofs.turn.Feeding.reads.Goals as goal
 
 pub returns-then-script-used : goal.returns-then-script-used

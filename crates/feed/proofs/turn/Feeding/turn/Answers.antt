@@ -7,7 +7,6 @@ use Rattle.feed.specs.Turns.{lent, way_of, turn_by, taken_at}
 use Rattle.feed.proofs.Fed as F
 use Rattle.step.specs.Next.{filled_in}
 use Rattle.step.specs.declared.wants.Wants.TheVariants as W
-use borrow.Author.Rules.{rules}
 use Rattle.feed.proofs.turn.Feeding.turn.Goals as goal
 
 pub returns-in-Read : goal.returns-in-Read

@@ -2,7 +2,6 @@ use borrow.Author.Tests.{le-ltb}
 use Rattle.tape.proofs.Layouts.{Fits, row-stored, rows_long}
 use Rattle.feed.specs.Turns.{turn_by, taken_at}
 use Rattle.feed.proofs.Fed as F
-use borrow.Author.Rules.{rules}
 use Rattle.feed.proofs.turn.Feeding.writes.Goals as goal
 
 pub returns-then-rows-n : goal.returns-then-rows-n
