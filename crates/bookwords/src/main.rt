@@ -9,7 +9,9 @@ ghost use Rattle.bookwords.specs.Said.{cause_text, refusal_text};
 
 use desk::input;
 use desk::input::Input;
-use libc::{STDERR_FILENO, STDOUT_FILENO};
+use std::io::Write;
+use streams::console::{Console, Standard};
+use streams::sink::Sink;
 use text::pen;
 use wordtext::book;
 use wordtext::book::Reading;
@@ -45,43 +47,43 @@ fn put_refusal(out: &mut [u8], cause: Cause, place: Place) -> usize
 }
 
 // Writes it on standard error, by way of a buffer.
-fn refuse(cause: Cause, place: Place, out: &mut [u8]) {
+fn refuse<W: Write>(cause: Cause, place: Place, out: &mut [u8], errors: &mut Sink<W>) {
     let n = put_refusal(out, cause, place);
-    io::write_all(STDERR_FILENO, &out[..n]);
+    errors.put(&out[..n]);
 }
 
 // Writes the book of a text, by way of bytes that have room for it.
-fn convert(text: &[u8], bytes: &mut [u8])
+fn convert(text: &[u8], bytes: &mut [u8], console: &mut Standard)
     requires { 16384 ≤ length bytes.old }
 {
     match book::read_book(text, bytes) {
         Reading::Words(n) => {
-            if !io::write_all(STDOUT_FILENO, &bytes[..4 * n]) {
-                os::fail(b"bookwords: standard output");
+            if !console.output.put(&bytes[..4 * n]) {
+                console.tell_unwritten(b"bookwords: standard output");
             }
         }
-        Reading::Refused(cause, place) => refuse(cause, place, bytes),
+        Reading::Refused(cause, place) => refuse(cause, place, bytes, &mut console.errors),
     }
 }
 
 // Reads the text into a buffer, which has one byte more than a text may have.
-fn run(buffer: &mut [u8], bytes: &mut [u8])
+fn run(buffer: &mut [u8], bytes: &mut [u8], console: &mut Standard)
     requires { 16384 ≤ length bytes.old }
 {
-    match input::read_all(buffer) {
-        Input::All(n) => convert(&buffer[..n], bytes),
+    match input::read_all(buffer, &mut console.input) {
+        Input::All(n) => convert(&buffer[..n], bytes, console),
         Input::Full => {
-            io::write_all(
-                STDERR_FILENO,
-                b"bookwords: the text is longer than 262144 bytes\n",
-            );
+            console
+                .errors
+                .put(b"bookwords: the text is longer than 262144 bytes\n");
         }
-        Input::Failed => os::fail(b"bookwords: standard input"),
+        Input::Failed => console.tell_unread(b"bookwords: standard input"),
     }
 }
 
-fn main() {
+fn main(rt: HostRuntime) {
+    let mut console = Console::new(rt.stdin(), rt.stdout(), rt.stderr());
     let mut buffer = [0u8; 262145];
     let mut bytes = [0u8; 16384];
-    run(&mut buffer, &mut bytes);
+    run(&mut buffer, &mut bytes, &mut console);
 }

@@ -8,7 +8,7 @@ ghost use Rattle.bench.specs.Bench.{printed};
 use bench::print;
 use desk::input;
 use desk::input::Input;
-use libc::STDOUT_FILENO;
+use streams::console::{Console, Standard};
 
 // Lays a book's lines in the buffer, all of them: no book has more than 4,096 bytes. Gives how many they are.
 fn lay(bytes: &[u8], out: &mut [u8]) -> usize
@@ -21,28 +21,29 @@ fn lay(bytes: &[u8], out: &mut [u8]) -> usize
 }
 
 // Prints a book by way of a buffer.
-fn show(bytes: &[u8], out: &mut [u8])
+fn show(bytes: &[u8], out: &mut [u8], console: &mut Standard)
     requires { 4096 ≤ length out.old }
 {
     let n = lay(bytes, out);
-    if !io::write_all(STDOUT_FILENO, &out[..n]) {
-        os::fail(b"cardbook: standard output");
+    if !console.output.put(&out[..n]) {
+        console.tell_unwritten(b"cardbook: standard output");
     }
 }
 
 // Reads the book. A buffer that was filled holds one word more than a book may have, so it is no book whatever follows.
-fn run(buffer: &mut [u8], out: &mut [u8])
+fn run(buffer: &mut [u8], out: &mut [u8], console: &mut Standard)
     requires { 4096 ≤ length out.old }
 {
-    match input::read_all(buffer) {
-        Input::All(n) => show(&buffer[..n], out),
-        Input::Full => show(buffer, out),
-        Input::Failed => os::fail(b"cardbook: standard input"),
+    match input::read_all(buffer, &mut console.input) {
+        Input::All(n) => show(&buffer[..n], out, console),
+        Input::Full => show(buffer, out, console),
+        Input::Failed => console.tell_unread(b"cardbook: standard input"),
     }
 }
 
-fn main() {
+fn main(rt: HostRuntime) {
+    let mut console = Console::new(rt.stdin(), rt.stdout(), rt.stderr());
     let mut buffer = [0u8; 16388];
     let mut out = [0u8; 4096];
-    run(&mut buffer, &mut out);
+    run(&mut buffer, &mut out, &mut console);
 }

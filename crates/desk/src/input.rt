@@ -3,7 +3,8 @@ ghost use Rattle.std.specs.Prelude.{◌≡◌, ◌≤◌, pos, length};
 ghost use Rattle.std.specs.Int.Signed.{lt_z};
 ghost use Rattle.desk.specs.Input.{filled_to, read_on, Goes, Within};
 
-use libc::STDIN_FILENO;
+use std::io::Read;
+use streams::source::Source;
 
 // What came: all of it, so many bytes; more than there was room for; or a reading failed.
 #[derive(Clone, Copy)]
@@ -60,23 +61,23 @@ fn read_on(got: isize, done: usize, buffer: &[u8]) -> Filling
 }
 
 // Reads once, where so many bytes had come.
-fn read_at(done: usize, buffer: &mut [u8]) -> Filling
+fn read_at<R: Read>(done: usize, buffer: &mut [u8], source: &mut Source<R>) -> Filling
     requires { done ≤ length buffer.old }
     ensures { Goes done (length buffer.old) result }
 {
-    let got = libc::read(STDIN_FILENO, &mut buffer[done..]);
+    let got = source.get(&mut buffer[done..]);
     read_on(got, done, buffer)
 }
 
 // Reads to the end of the input.
-pub fn read_all(buffer: &mut [u8]) -> Input
+pub fn read_all<R: Read>(buffer: &mut [u8], source: &mut Source<R>) -> Input
     ensures { Within result (length buffer.new) }
 {
     let mut filling = begun(buffer);
     loop {
         match filling {
             Filling::At(done) => {
-                filling = read_at(done, buffer);
+                filling = read_at(done, buffer, source);
             }
             Filling::Over(input) => return input,
         }

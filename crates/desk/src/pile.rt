@@ -5,6 +5,8 @@ ghost use Rattle.desk.specs.Pile.{word4, little_of, part_of, behind_of, book_of,
 
 use crate::input;
 use crate::input::Input;
+use std::io::Read;
+use streams::source::Source;
 
 // What comes next: a book, so many of its bytes in the buffer; the pile's end; a pile that is cut short; or a reading
 // failed.
@@ -122,54 +124,54 @@ fn part_read(part: Part, held: usize, left: usize) -> Stage
 }
 
 // Reads as many bytes as there is room for, and no fewer.
-fn fill(buffer: &mut [u8]) -> Part
+fn fill<R: Read>(buffer: &mut [u8], source: &mut Source<R>) -> Part
     ensures { Fills result (length buffer.old) }
 {
-    let input = input::read_all(buffer);
+    let input = input::read_all(buffer, source);
     part_of(input, buffer)
 }
 
-fn read_length(buffer: &[u8]) -> Stage
+fn read_length<R: Read>(buffer: &[u8], source: &mut Source<R>) -> Stage
     ensures { Follows Tasks.Length (length buffer.now) result }
 {
     let mut bytes = [0u8; 4];
-    let input = input::read_all(&mut bytes);
+    let input = input::read_all(&mut bytes, source);
     announced(input, little(bytes), buffer)
 }
 
 // Reads past so many bytes.
-fn skip(count: usize) -> Part
+fn skip<R: Read>(count: usize, source: &mut Source<R>) -> Part
     requires { count ≤ 4096 }
     ensures { Fills result count }
 {
     let mut chunk = [0u8; 4096];
-    fill(&mut chunk[..count])
+    fill(&mut chunk[..count], source)
 }
 
 // Reads what is to be read next.
-fn turn(task: Task, buffer: &mut [u8]) -> Stage
+fn turn<R: Read>(task: Task, buffer: &mut [u8], source: &mut Source<R>) -> Stage
     requires { Asks task (length buffer.old) }
     ensures { Follows task (length buffer.old) result }
 {
     match task {
-        Task::Length => read_length(buffer),
+        Task::Length => read_length(buffer, source),
         Task::Held(held, left) => {
-            let part = fill(&mut buffer[..held]);
+            let part = fill(&mut buffer[..held], source);
             part_read(part, held, left)
         }
-        Task::Behind(held, now, later) => part_read(skip(now), held, later),
+        Task::Behind(held, now, later) => part_read(skip(now, source), held, later),
     }
 }
 
 // The next book of the pile.
-pub fn next_book(buffer: &mut [u8]) -> Next
+pub fn next_book<R: Read>(buffer: &mut [u8], source: &mut Source<R>) -> Next
     ensures { Holds result (length buffer.new) }
 {
     let mut stage = Stage::Due(Task::Length);
     loop {
         match stage {
             Stage::Due(task) => {
-                stage = turn(task, buffer);
+                stage = turn(task, buffer, source);
             }
             Stage::Over(next) => return next,
         }

@@ -4,7 +4,10 @@ ghost use Rattle.text.specs.Ink.{Laid};
 ghost use Rattle.desk.specs.Room.{room_of, wish_of, Wishes, granted_of, Fits};
 ghost use Rattle.desk.specs.Refusal.{name_text, refusal_text};
 
-use libc::STDERR_FILENO;
+use std::env::Env;
+use std::io::Write;
+use streams::arguments;
+use streams::sink::Sink;
 use text::pen;
 
 // So many rows, or what is no such number.
@@ -85,11 +88,11 @@ fn judged(count: usize, word: &[u8]) -> Wish
 
 // What they ask for, by way of a buffer that holds any word that can be a room: a longer word counts as empty, which is no
 // number either.
-fn argument(count: usize, word: &mut [u8]) -> Wish
+fn argument(count: usize, word: &mut [u8], env: &impl Env) -> Wish
     requires { 4 ≤ length word.old }
     ensures { Wishes count result }
 {
-    let n = os::arg(1, word);
+    let n = arguments::word(env, 1, word);
     judged(count, &word[..n])
 }
 
@@ -139,13 +142,13 @@ fn put_refusal(out: &mut [u8], program: Program, wish: Wish) -> usize
 
 // The room that a program is asked for, all of it where it has no argument. Where the arguments are wrong, that was
 // said, in the program's name.
-pub fn asked(program: Program) -> Room
+pub fn asked<W: Write>(program: Program, env: &impl Env, errors: &mut Sink<W>) -> Room
     ensures { Fits result }
 {
     let mut word = [0u8; 8];
-    let wish = argument(os::arg_count(), &mut word);
+    let wish = argument(arguments::count(env), &mut word, env);
     let mut line = [0u8; 64];
     let n = put_refusal(&mut line, program, wish);
-    io::write_all(STDERR_FILENO, &line[..n]);
+    errors.put(&line[..n]);
     granted(wish)
 }

@@ -13,6 +13,8 @@ use events::event;
 use events::event::Event;
 use host::host::{Called, Sdmmc};
 use report::{rows, state};
+use std::io::Write;
+use streams::sink::Sink;
 use text::pen;
 
 // Number, kind, a and b: what a call begins with.
@@ -26,26 +28,44 @@ fn put_begins(out: &mut [u8], at: usize, number: u32, asked: Asked) -> usize
     pen::put_byte(out, b, b'\n')
 }
 
-pub fn tell_begins(sheet: Sheet, number: u32, asked: Asked, out: &mut [u8]) -> Sheet
+pub fn tell_begins<W: Write>(
+    sheet: Sheet,
+    number: u32,
+    asked: Asked,
+    out: &mut [u8],
+    output: &mut Sink<W>,
+) -> Sheet
     requires { Fits sheet out.old }
     ensures { Tells (begins_text number asked) sheet out.old result out.new }
 {
-    let turned = sheet.turned(out);
+    let turned = sheet.turned(out, output);
     let at = put_begins(out, turned.at, number, asked);
     turned.filled(at)
 }
 
-pub fn tell_event(sheet: Sheet, event: Event, out: &mut [u8]) -> Sheet
+pub fn tell_event<W: Write>(
+    sheet: Sheet,
+    event: Event,
+    out: &mut [u8],
+    output: &mut Sink<W>,
+) -> Sheet
     requires { Fits sheet out.old }
     ensures { Tells (event_text event) sheet out.old result out.new }
 {
-    let turned = sheet.turned(out);
+    let turned = sheet.turned(out, output);
     let at = event::put_event(out, turned.at, event);
     turned.filled(at)
 }
 
 // The line of a call of this kind that came to this.
-pub fn tell_called(sheet: Sheet, number: u32, kind: u32, called: Called, out: &mut [u8]) -> Sheet
+pub fn tell_called<W: Write>(
+    sheet: Sheet,
+    number: u32,
+    kind: u32,
+    called: Called,
+    out: &mut [u8],
+    output: &mut Sink<W>,
+) -> Sheet
     requires { Fits sheet out.old }
     ensures { Tells (call_line number kind called.answer called.words called.rows called.host.card.protection) sheet out.old result out.new }
 {
@@ -53,7 +73,7 @@ pub fn tell_called(sheet: Sheet, number: u32, kind: u32, called: Called, out: &m
     let next = called.host;
     let card = next.card;
     let protection = card.protection;
-    let turned = sheet.turned(out);
+    let turned = sheet.turned(out, output);
     let at = lines::put_call(
         out,
         turned.at,
@@ -67,11 +87,16 @@ pub fn tell_called(sheet: Sheet, number: u32, kind: u32, called: Called, out: &m
     turned.filled(at)
 }
 
-pub fn tell_state(sheet: Sheet, host: Sdmmc, out: &mut [u8]) -> Sheet
+pub fn tell_state<W: Write>(
+    sheet: Sheet,
+    host: Sdmmc,
+    out: &mut [u8],
+    output: &mut Sink<W>,
+) -> Sheet
     requires { Fits sheet out.old }
     ensures { Tells (state_text host) sheet out.old result out.new }
 {
-    let turned = sheet.turned(out);
+    let turned = sheet.turned(out, output);
     let at = state::put_state(out, turned.at, host);
     turned.filled(at)
 }

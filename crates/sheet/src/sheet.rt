@@ -2,7 +2,8 @@
 ghost use Rattle.std.specs.Prelude.{true, ◌≡◌, ◌≤◌, length};
 ghost use Rattle.sheet.specs.Sheet.{place_for};
 
-use libc::STDOUT_FILENO;
+use std::io::Write;
+use streams::sink::Sink;
 
 // So much of the buffer is filled; and whether all that was in it before was written.
 #[derive(Clone, Copy)]
@@ -16,7 +17,7 @@ impl Sheet {
     pub const LINE: usize = 512;
 
     // Writes what the buffer holds. Where something could not be written, nothing behind it is.
-    pub fn handed(self, out: &[u8]) -> Sheet
+    pub fn handed<W: Write>(self, out: &[u8], output: &mut Sink<W>) -> Sheet
         requires { self.at ≤ length out.now }
         ensures empty { result.at ≡ 0 }
         ensures kept { result.written ≡ true → self.written ≡ true }
@@ -30,12 +31,12 @@ impl Sheet {
         }
         Sheet {
             at: 0,
-            written: io::write_all(STDOUT_FILENO, &out[..at]),
+            written: output.put(&out[..at]),
         }
     }
 
     // With room for a line.
-    pub fn turned(self, out: &[u8]) -> Sheet
+    pub fn turned<W: Write>(self, out: &[u8], output: &mut Sink<W>) -> Sheet
         requires { self.at ≤ length out.now }
         ensures roomy { result.at ≡ place_for (length out.now) self.at }
         ensures kept { result.written ≡ true → self.written ≡ true }
@@ -43,7 +44,7 @@ impl Sheet {
         if Sheet::LINE <= out.len() - self.at {
             return self;
         }
-        self.handed(out)
+        self.handed(out, output)
     }
 
     // After a line that ends at a place.

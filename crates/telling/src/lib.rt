@@ -26,6 +26,8 @@ use host::blocks;
 use host::host::{Called, Sdmmc};
 use sheet::lines;
 use sheet::sheet::Sheet;
+use std::io::Write;
+use streams::sink::Sink;
 use text::pen;
 use types::clock::Hertz;
 use underway::call::Call;
@@ -64,7 +66,7 @@ fn begin(host: Sdmmc, asked: Asked, bytes: usize) -> Call
 }
 
 // What came about, where it has a line: a row that found no room was not written, and the end is no event.
-fn tell_event(sheet: Sheet, event: Event, out: &mut [u8]) -> Sheet
+fn tell_event<W: Write>(sheet: Sheet, event: Event, out: &mut [u8], output: &mut Sink<W>) -> Sheet
     requires { Fits sheet out.old }
     ensures fits { Fits result out.new }
     ensures told { leaf result.at out.new ≡ evented event (leaf sheet.at out.old) }
@@ -74,9 +76,15 @@ fn tell_event(sheet: Sheet, event: Event, out: &mut [u8]) -> Sheet
             sheet,
             event::Event::Read(reading, word),
             out,
+            output,
         ),
-        Event::Missed(reading) => lines::tell_event(sheet, event::Event::Missed(reading), out),
-        Event::Wrote(row) => lines::tell_event(sheet, event::Event::Wrote(row), out),
+        Event::Missed(reading) => lines::tell_event(
+            sheet,
+            event::Event::Missed(reading),
+            out,
+            output,
+        ),
+        Event::Wrote(row) => lines::tell_event(sheet, event::Event::Wrote(row), out, output),
         Event::Full(_) => sheet,
         Event::Over => sheet,
     }
@@ -95,13 +103,14 @@ fn ended(feeding: Feeding, sheet: Sheet) -> Told
 
 // Takes a call's turns until none follows, and tells each as it comes. The call goes its way whatever becomes of the text.
 // The data is what a write sends.
-fn take_turns(
+fn take_turns<W: Write>(
     call: Call,
     script: &[u32],
     data: &[u8],
     rows: &mut [u64],
     sheet: Sheet,
     out: &mut [u8],
+    output: &mut Sink<W>,
 ) -> Told
     requires { Fits sheet out.old }
     ensures answered { result.called ≡ called_of (fed_from script.now (starts (under (lent (words_of «data».now) []) call)) (rows_in rows.old)) }
@@ -114,7 +123,7 @@ fn take_turns(
         let turn = feeding.turn(script, data, rows);
         let event = turn.event;
         let next = turn.feeding;
-        page = tell_event(page, event, out);
+        page = tell_event(page, event, out, output);
         if !event.goes_on() {
             return ended(next, page);
         }
@@ -123,7 +132,7 @@ fn take_turns(
 }
 
 // A call's events, on the script that the book has for it. What a write sends is laid into the buffer.
-fn tell_events(
+fn tell_events<W: Write>(
     host: Sdmmc,
     words: &[u32],
     asked: Asked,
@@ -131,6 +140,7 @@ fn tell_events(
     rows: &mut [u64],
     sheet: Sheet,
     out: &mut [u8],
+    output: &mut Sink<W>,
 ) -> Told
     requires { Fits sheet out.old }
     ensures answered { result.called ≡ called_of (comes host (asking (rows_in rows.old) buffer.old words.now asked)) }
@@ -140,23 +150,37 @@ fn tell_events(
     let bytes = buffer.len();
     let script = serve::script_of(words, asked);
     blocks::fill_blocks(buffer, serve::data_of(words, asked));
-    take_turns(begin(host, asked, bytes), script, buffer, rows, sheet, out)
+    take_turns(
+        begin(host, asked, bytes),
+        script,
+        buffer,
+        rows,
+        sheet,
+        out,
+        output,
+    )
 }
 
 // The last two lines of a call; then the sheet is handed over.
-fn tell_end(told: Told, number: u32, kind: u32, out: &mut [u8]) -> Sheet
+fn tell_end<W: Write>(
+    told: Told,
+    number: u32,
+    kind: u32,
+    out: &mut [u8],
+    output: &mut Sink<W>,
+) -> Sheet
     requires { Fits told.sheet out.old }
     ensures { out.new ≡ (ends_on number kind told.called (leaf told.sheet.at out.old)).out }
 {
     let called = told.called;
     let next = called.host;
-    let line = lines::tell_called(told.sheet, number, kind, called, out);
-    let state = lines::tell_state(line, next, out);
-    state.handed(out)
+    let line = lines::tell_called(told.sheet, number, kind, called, out, output);
+    let state = lines::tell_state(line, next, out, output);
+    state.handed(out, output)
 }
 
 // All of a call, with a row list and a buffer of its blocks' bytes.
-fn tell_exact(
+fn tell_exact<W: Write>(
     host: Sdmmc,
     words: &[u32],
     asked: Asked,
@@ -164,6 +188,7 @@ fn tell_exact(
     buffer: &mut [u8],
     rows: &mut [u64],
     out: &mut [u8],
+    output: &mut Sink<W>,
 ) -> Place
     requires { 512 ≤ length out.old }
     ensures served { result.host ≡ (comes host (asking (rows_in rows.old) buffer.old words.now asked)).host }
@@ -174,11 +199,11 @@ fn tell_exact(
         at: 0,
         written: true,
     };
-    let begins = lines::tell_begins(blank, number, asked, out);
-    let told = tell_events(host, words, asked, buffer, rows, begins, out);
+    let begins = lines::tell_begins(blank, number, asked, out, output);
+    let told = tell_events(host, words, asked, buffer, rows, begins, out, output);
     let called = told.called;
     let next = called.host;
-    let sheet = tell_end(told, number, asked.kind, out);
+    let sheet = tell_end(told, number, asked.kind, out, output);
     Place {
         host: next,
         body_at: trace::behind(words, asked.body_at, asked.body_len),
@@ -187,7 +212,7 @@ fn tell_exact(
 }
 
 // Call k in the parts of a row list and of a buffer that it may take.
-fn tell_in(
+fn tell_in<W: Write>(
     host: Sdmmc,
     words: &[u32],
     k: u16,
@@ -196,6 +221,7 @@ fn tell_in(
     list: &mut [u64],
     buffer: &mut [u8],
     out: &mut [u8],
+    output: &mut Sink<W>,
 ) -> Place
     requires { (4096 ≤ length list.old) × (8192 ≤ length buffer.old) × (512 ≤ length out.old) }
     ensures served { result.host ≡ (comes host (asking (rows_in (take (min room 4096) list.old)) (take (bytes_at words.now k body_at) buffer.old) words.now (asked_at words.now k body_at))).host }
@@ -213,17 +239,19 @@ fn tell_in(
         &mut buffer[..bytes],
         &mut list[..rows],
         out,
+        output,
     )
 }
 
 // Takes call k, counted from 0, whose body starts at a place, with so many rows of room, and tells it.
-fn tell_call(
+fn tell_call<W: Write>(
     host: Sdmmc,
     words: &[u32],
     k: u16,
     body_at: usize,
     room: usize,
     out: &mut [u8],
+    output: &mut Sink<W>,
 ) -> Place
     requires { 512 ≤ length out.old }
     ensures served { result.host ≡ (comes host (call_at words.now k body_at room)).host }
@@ -232,17 +260,28 @@ fn tell_call(
 {
     let mut list = [0u64; 4096];
     let mut buffer = [0u8; 8192];
-    tell_in(host, words, k, body_at, room, &mut list, &mut buffer, out)
+    tell_in(
+        host,
+        words,
+        k,
+        body_at,
+        room,
+        &mut list,
+        &mut buffer,
+        out,
+        output,
+    )
 }
 
 // Takes a book's calls one after the other. Answers whether all was written; where it was not, no further call is taken.
-fn tell_calls(
+fn tell_calls<W: Write>(
     host: Sdmmc,
     words: &[u32],
     calls: u16,
     body_at: usize,
     room: usize,
     out: &mut [u8],
+    output: &mut Sink<W>,
 ) -> bool
     requires { 512 ≤ length out.old }
     ensures { Tellings words.now room (record { host = host; place = body_at; out = out.old }) calls result out.new }
@@ -255,7 +294,7 @@ fn tell_calls(
     let mut k = 0;
     while k < calls {
         let next = place.host;
-        place = tell_call(next, words, k, place.body_at, room, out);
+        place = tell_call(next, words, k, place.body_at, room, out, output);
         if !place.written {
             return false;
         }
@@ -265,7 +304,13 @@ fn tell_calls(
 }
 
 // All of a book, in a buffer that has room for a line.
-fn tell_all(bytes: &[u8], room: usize, words: &mut [u32], out: &mut [u8]) -> bool
+fn tell_all<W: Write>(
+    bytes: &[u8],
+    room: usize,
+    words: &mut [u32],
+    out: &mut [u8],
+    output: &mut Sink<W>,
+) -> bool
     requires { 512 ≤ length out.old }
     ensures loaded { words.new ≡ inked 0 (words_of bytes.now) words.old }
     ensures told { Tellings (words_of bytes.now) room (start_of (opened_of bytes.now (length words.old)) (words_of bytes.now) out.old) (calls_of (opened_of bytes.now (length words.old)) (words_of bytes.now)) result out.new }
@@ -276,18 +321,32 @@ fn tell_all(bytes: &[u8], room: usize, words: &mut [u32], out: &mut [u8]) -> boo
         at: at,
         written: true,
     };
-    let sheet = head.handed(out);
+    let sheet = head.handed(out, output);
     if !sheet.written {
         return false;
     }
     let host = opening.host;
     let n = opening.words;
-    tell_calls(host, &words[..n], opening.calls, opening.body_at, room, out)
+    tell_calls(
+        host,
+        &words[..n],
+        opening.calls,
+        opening.body_at,
+        room,
+        out,
+        output,
+    )
 }
 
 // Tells a file's bytes as a book, with so many rows of room for each call, by way of a list for its words and a buffer for
 // the lines. Answers whether all of it was written: of a buffer with no room for a line, nothing.
-pub fn tell_book(bytes: &[u8], room: usize, words: &mut [u32], out: &mut [u8]) -> bool
+pub fn tell_book<W: Write>(
+    bytes: &[u8],
+    room: usize,
+    words: &mut [u32],
+    out: &mut [u8],
+    output: &mut Sink<W>,
+) -> bool
     ensures loaded { 512 ≤ length out.old → words.new ≡ inked 0 (words_of bytes.now) words.old }
     ensures told { 512 ≤ length out.old → Tellings (words_of bytes.now) room (start_of (opened_of bytes.now (length words.old)) (words_of bytes.now) out.old) (calls_of (opened_of bytes.now (length words.old)) (words_of bytes.now)) result out.new }
     ensures short { length out.old < 512 → (result ≡ false) × (words.new ≡ words.old) × (out.new ≡ out.old) }
@@ -295,5 +354,5 @@ pub fn tell_book(bytes: &[u8], room: usize, words: &mut [u32], out: &mut [u8]) -
     if out.len() < 512 {
         return false;
     }
-    tell_all(bytes, room, words, out)
+    tell_all(bytes, room, words, out, output)
 }

@@ -16,13 +16,13 @@ use borrow.Author.Rules.{rules}
 use Rattle.telling.proofs.take_turns.Goals as goal
 
 pub loop-page-init : goal.loop-page-init
-loop-page-init c = (refl, refl, c.requires, starts-telling _ _ _ _ _)
+loop-page-init g c = (refl, refl, c.requires, starts-telling _ _ _ _ _)
 
 pub tell_event-page-requires : goal.tell_event-page-requires
-tell_event-page-requires c = c.loop-page.invariant.2
+tell_event-page-requires g c = c.loop-page.invariant.2
 
 pub returns-then-not-goes_on : goal.returns-then-not-goes_on
-returns-then-not-goes_on c = let begun = c.begin-feeding.ensures in
+returns-then-not-goes_on g c = let begun = c.begin-feeding.ensures in
     let ends = sym c.goes_on.ensures ∙ turned_false _ c.if-not-goes_on.true in
     let page = c.ended.ensures.sheet in record {
       answered = all-called _ begun c.loop-page.invariant.3 c.turn-turn.result _ c.turn-turn.ensures ends c.ended.ensures.called;
@@ -32,10 +32,10 @@ returns-then-not-goes_on c = let begun = c.begin-feeding.ensures in
     }
 
 pub loop-page-smaller : goal.loop-page-smaller
-loop-page-smaller c = omega (arith, goes-less _ c.loop-page.invariant.3 c.turn-turn.result _ c.turn-turn.ensures (sym c.goes_on.ensures ∙ turned_true _ c.if-not-goes_on.false))
+loop-page-smaller g c = omega (arith, goes-less _ c.loop-page.invariant.3 c.turn-turn.result _ c.turn-turn.ensures (sym c.goes_on.ensures ∙ turned_true _ c.if-not-goes_on.false))
 
 pub loop-page-preserved : goal.loop-page-preserved
-loop-page-preserved c = (
+loop-page-preserved g c = (
   search rules,
   search rules,
   c.tell_event-page.ensures.fits,

@@ -15,7 +15,7 @@ use borrow.Author.Rules.{rules}
 use Rattle.telling.proofs.tell_call.Goals as goal
 
 pub returns : goal.returns
-returns c = let a = c.args in
+returns g c = let a = c.args in
     let ws = a.words.now in
     let asked = asked_at ws a.k a.body_at in
     let rows = min a.room 4096 in

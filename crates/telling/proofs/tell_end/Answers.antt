@@ -3,10 +3,10 @@ use borrow.Author.Rules.{rules}
 use Rattle.telling.proofs.tell_end.Goals as goal
 
 pub tell_state-state-requires : goal.tell_state-state-requires
-tell_state-state-requires c = still-fits c.tell_called-line.ensures c.requires
+tell_state-state-requires g c = still-fits c.tell_called-line.ensures c.requires
 
 pub handed-requires : goal.handed-requires
-handed-requires c = (still-fits state.tell_state.ensures (still-fits line.tell_called.ensures c.requires)).0
+handed-requires g c = (still-fits state.tell_state.ensures (still-fits line.tell_called.ensures c.requires)).0
 
 pub returns : goal.returns
-returns c = ends-leaf line.tell_called.ensures state.tell_state.ensures
+returns g c = ends-leaf line.tell_called.ensures state.tell_state.ensures

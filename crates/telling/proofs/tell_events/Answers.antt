@@ -9,10 +9,10 @@ use borrow.Author.Rules.{rules}
 use Rattle.telling.proofs.tell_events.Goals as goal
 
 pub take_turns-requires : goal.take_turns-requires
-take_turns-requires c = c.requires
+take_turns-requires g c = c.requires
 
 pub returns : goal.returns
-returns c = let a = c.args in
+returns g c = let a = c.args in
     let said = rw (fills.fill_blocks.ensures, c.data_of.ensures) at c.take_turns.ensures in
     let script = c.script_of-script.ensures in
     let plan = begun.begin.ensures (lent (words_of (blocks_filled (call_asked a.words.now a.asked).data a.buffer.now)) []) in record { answered = as_called a.host a.words.now (rows_in a.rows.now) a.asked a.buffer.now script plan said.0; fits = said.1.0; told = as_told a.host a.words.now (rows_in a.rows.now) a.asked a.buffer.now script plan _ said.1.1 }

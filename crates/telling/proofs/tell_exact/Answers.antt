@@ -7,13 +7,13 @@ use borrow.Author.Rules.{rules}
 use Rattle.telling.proofs.tell_exact.Goals as goal
 
 pub tell_events-told-requires : goal.tell_events-told-requires
-tell_events-told-requires c = still-fits c.tell_begins-begins.ensures (search rules, c.requires)
+tell_events-told-requires g c = still-fits c.tell_begins-begins.ensures (search rules, c.requires)
 
 pub tell_end-sheet-requires : goal.tell_end-sheet-requires
-tell_end-sheet-requires c = c.tell_events-told.ensures.fits
+tell_end-sheet-requires g c = c.tell_events-told.ensures.fits
 
 pub returns : goal.returns
-returns c = let a = c.args in
+returns g c = let a = c.args in
     let said = c.tell_events-told.ensures in record {
       served = ap (λ (x : Called). x.host) said.0;
       passed = c.behind.ensures;

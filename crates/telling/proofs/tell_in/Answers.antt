@@ -7,13 +7,13 @@ use borrow.Author.Rules.{rules}
 use Rattle.telling.proofs.tell_in.Goals as goal
 
 pub slice_bounds-tell_exact-end-2 : goal.slice_bounds-tell_exact-end-2
-slice_bounds-tell_exact-end-2 c = sym (length-take-le _ _ (omega (arith, c.least-bytes.ensures, c.requires.1)))
+slice_bounds-tell_exact-end-2 g c = sym (length-take-le _ _ (omega (arith, c.least-bytes.ensures, c.requires.1)))
 
 pub slice_bounds-tell_exact-end-4 : goal.slice_bounds-tell_exact-end-4
-slice_bounds-tell_exact-end-4 c = sym (length-take-le _ _ (omega (arith, c.least-rows.ensures, c.requires.0)))
+slice_bounds-tell_exact-end-4 g c = sym (length-take-le _ _ (omega (arith, c.least-rows.ensures, c.requires.0)))
 
 pub returns : goal.returns
-returns c = let asked = c.call_at-asked.ensures in
+returns g c = let asked = c.call_at-asked.ensures in
     let rows = c.least-rows.ensures in
     let blocks = c.least-bytes.ensures ∙ ap (λ (x : Asked). min x.b 16) asked in
     let told = c.tell_exact.ensures in

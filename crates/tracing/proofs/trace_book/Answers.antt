@@ -6,26 +6,26 @@ use Rattle.tracing.proofs.Traces.{not-begun, book-traced}
 use borrow.Author.Rules.{rules}
 use Rattle.tracing.proofs.trace_book.Goals as goal
 
-pub slice_bounds-write_all-end : goal.slice_bounds-write_all-end
-slice_bounds-write_all-end c = stands-within c.open-opening.ensures.printed
+pub slice_bounds-put-end : goal.slice_bounds-put-end
+slice_bounds-put-end g c = stands-within c.open-opening.ensures.printed
 
-pub slice_bounds-write_all-end-2 : goal.slice_bounds-write_all-end-2
-slice_bounds-write_all-end-2 c = sym (length-take-le _ _ (stands-within c.open-opening.ensures.printed))
+pub slice_bounds-put-end-2 : goal.slice_bounds-put-end-2
+slice_bounds-put-end-2 g c = sym (length-take-le _ _ (stands-within c.open-opening.ensures.printed))
 
 pub slice_bounds-trace_calls-end : goal.slice_bounds-trace_calls-end
-slice_bounds-trace_calls-end c = let opened = c.open-opening in
+slice_bounds-trace_calls-end g c = let opened = c.open-opening in
     opening-fits _ _ _ opened.result opened.ensures.1.0 opened.ensures.0
 
 pub slice_bounds-trace_calls-end-2 : goal.slice_bounds-trace_calls-end-2
-slice_bounds-trace_calls-end-2 c = let opened = c.open-opening in
+slice_bounds-trace_calls-end-2 g c = let opened = c.open-opening in
     sym (length-take-le _ _ (opening-fits _ _ _ opened.result opened.ensures.1.0 opened.ensures.0))
 
-pub returns-then-not-write_all : goal.returns-then-not-write_all
-returns-then-not-write_all c = let opened = c.open-opening in
+pub returns-then-not-put : goal.returns-then-not-put
+returns-then-not-put g c = let opened = c.open-opening in
     let said = opened.ensures in
     record { loaded = said.0; traced = not-begun _ _ _ opened.result _ _ said.1.0 said.1.1 }
 
 pub returns : goal.returns
-returns c = let opened = c.open-opening in
+returns g c = let opened = c.open-opening in
     let said = opened.ensures in
     record { loaded = said.0; traced = book-traced _ _ _ _ opened.result _ _ _ _ said.0 said.1.0 said.1.1 c.trace_calls.ensures }

@@ -8,23 +8,23 @@ use borrow.Author.Rules.{rules}
 use Rattle.tracing.proofs.trace_calls.Goals as goal
 
 pub loop-k-init : goal.loop-k-init
-loop-k-init c = (search rules, search rules, first _ _ _)
+loop-k-init g c = (search rules, search rules, first _ _ _)
 
-pub slice_bounds-write_all-end : goal.slice_bounds-write_all-end
-slice_bounds-write_all-end c = stands-within c.trace_call-turn.ensures.traced
+pub slice_bounds-put-end : goal.slice_bounds-put-end
+slice_bounds-put-end g c = stands-within c.trace_call-turn.ensures.traced
 
-pub slice_bounds-write_all-end-in-loop-k : goal.slice_bounds-write_all-end-in-loop-k
-slice_bounds-write_all-end-in-loop-k c = sym (length-take-le _ _ (stands-within c.trace_call-turn.ensures.traced))
+pub slice_bounds-put-end-in-loop-k : goal.slice_bounds-put-end-in-loop-k
+slice_bounds-put-end-in-loop-k g c = sym (length-take-le _ _ (stands-within c.trace_call-turn.ensures.traced))
 
-pub returns-then-not-write_all : goal.returns-then-not-write_all
-returns-then-not-write_all c = let head = c.loop-k in
+pub returns-then-not-put : goal.returns-then-not-put
+returns-then-not-put g c = let head = c.loop-k in
     let said = called.trace_call.ensures in
     some-calls (head.k + 1) _ (one_more _ _ _ _ _ _ _ _ _ _ _ head.invariant.2 said.0 said.1.0 said.1.1) (search rules)
 
 pub loop-k-preserved : goal.loop-k-preserved
-loop-k-preserved c = let head = c.loop-k in
+loop-k-preserved g c = let head = c.loop-k in
     let said = called.trace_call.ensures in
     (search rules, search rules, one_more _ _ _ _ _ _ _ _ _ _ _ head.invariant.2 said.0 said.1.0 said.1.1)
 
 pub returns : goal.returns
-returns c = all-calls c.loop-k.k _ c.loop-k.invariant.2 (search rules)
+returns g c = all-calls c.loop-k.k _ c.loop-k.invariant.2 (search rules)

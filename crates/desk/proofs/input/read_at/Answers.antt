@@ -5,5 +5,5 @@ use borrow.Author.Rules.{rules}
 use Rattle.desk.proofs.input.read_at.Goals as goal
 
 pub returns : goal.returns
-returns c = let got = to_z w64 (of_z w64 c.read-got.result) in
+returns g c = let got = to_z w64 (of_z w64 c.get-got.result) in
     goes_in got c.args.done _ _ _ c.read_on.ensures (search rules)

@@ -5,7 +5,7 @@ use borrow.Author.Rules.{rules}
 use Rattle.desk.proofs.pile.next_book.Given as goal
 
 abbrev pub invariant-loop-stage : goal.invariant-loop-stage
-invariant-loop-stage l = Stands l.stage (length l.buffer) × (length l.buffer ≡ length l.initial.buffer)
+invariant-loop-stage g l = Stands l.stage (length l.buffer) × (length l.buffer ≡ length l.initial.buffer)
 
 abbrev pub decreases-loop-stage : goal.decreases-loop-stage
-decreases-loop-stage l = due l.stage
+decreases-loop-stage g l = due l.stage

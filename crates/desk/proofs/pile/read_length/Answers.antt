@@ -4,4 +4,4 @@ use Rattle.desk.proofs.pile.read_length.Goals as goal
 
 pub returns : goal.returns
 unfolding Follows
-returns c = (_, _, c.little.ensures.fits, c.announced.ensures)
+returns g c = (_, _, c.little.ensures.fits, c.announced.ensures)

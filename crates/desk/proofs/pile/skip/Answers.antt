@@ -6,7 +6,7 @@ use borrow.Author.Rules.{rules}
 use Rattle.desk.proofs.pile.skip.Goals as goal
 
 pub slice_bounds-fill-end : goal.slice_bounds-fill-end
-slice_bounds-fill-end c = sym (length-take-le _ _ (omega arith))
+slice_bounds-fill-end g c = sym (length-take-le _ _ (omega arith))
 
 pub returns : goal.returns
-returns c = fills_in c.fill.result _ _ (length-take-le _ _ (omega arith)) c.fill.ensures
+returns g c = fills_in c.fill.result _ _ (length-take-le _ _ (omega arith)) c.fill.ensures

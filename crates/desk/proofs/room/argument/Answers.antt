@@ -2,4 +2,4 @@ use borrow.Author.Rules.{rules}
 use Rattle.desk.proofs.room.argument.Goals as goal
 
 pub returns : goal.returns
-returns c = (_, c.judged.ensures)
+returns g c = (_, c.judged.ensures)

@@ -6,10 +6,10 @@ use borrow.Author.Rules.{rules}
 use Rattle.desk.proofs.room.asked.Goals as goal
 
 pub slice_bounds-line-end : goal.slice_bounds-line-end
-slice_bounds-line-end c = stands-within c.put_refusal-n.ensures.laid
+slice_bounds-line-end g c = stands-within c.put_refusal-n.ensures.laid
 
-pub slice_bounds-write_all-end : goal.slice_bounds-write_all-end
-slice_bounds-write_all-end c = sym (length-take-le _ _ (stands-within c.put_refusal-n.ensures.laid))
+pub slice_bounds-put-end : goal.slice_bounds-put-end
+slice_bounds-put-end g c = sym (length-take-le _ _ (stands-within c.put_refusal-n.ensures.laid))
 
 pub returns : goal.returns
-returns c = rw c.granted.ensures (granted_fits _ _ c.argument-wish.ensures)
+returns g c = rw c.granted.ensures (granted_fits _ _ c.argument-wish.ensures)

@@ -6,12 +6,12 @@ use Rattle.desk.proofs.room.put_refusal.Goals as goal
 
 pub returns-in-Rows : goal.returns-in-Rows
 unfolding refusal_text
-returns-in-Rows c = said c.args.program c.args.wish c.requires (rw c.in-Rows.is (nothing _))
+returns-in-Rows c = let both = said c.args.program c.args.wish c.requires (rw c.in-Rows.is (nothing _)) in record { whole = both.0; laid = both.1 }
 
 pub returns-in-TooMany : goal.returns-in-TooMany
 unfolding refusal_text
-returns-in-TooMany c = said c.args.program c.args.wish c.requires (rw c.in-TooMany.is (and_then c.put_name-named.ensures c.put.ensures))
+returns-in-TooMany c = let both = said c.args.program c.args.wish c.requires (rw c.in-TooMany.is (and_then c.put_name-named.ensures c.put.ensures)) in record { whole = both.0; laid = both.1 }
 
 pub returns-in-NoRoom : goal.returns-in-NoRoom
 unfolding refusal_text
-returns-in-NoRoom c = said c.args.program c.args.wish c.requires (rw c.in-NoRoom.is (and_then c.put_name-named-in-NoRoom.ensures c.put-in-NoRoom.ensures))
+returns-in-NoRoom c = let both = said c.args.program c.args.wish c.requires (rw c.in-NoRoom.is (and_then c.put_name-named-in-NoRoom.ensures c.put-in-NoRoom.ensures)) in record { whole = both.0; laid = both.1 }

@@ -3,4 +3,4 @@ use borrow.Author.Rules.{rules}
 use Rattle.sheet.proofs.lines.tell_state.Goals as goal
 
 pub returns : goal.returns
-returns c = told c.requires c.turned-turned.ensures.roomy c.turned-turned.ensures.kept c.put_state-at.ensures c.filled.ensures
+returns g c = told c.requires c.turned-turned.ensures.roomy c.turned-turned.ensures.kept c.put_state-at.ensures c.filled.ensures

@@ -4,7 +4,7 @@ use borrow.Author.Rules.{rules}
 use Rattle.sheet.proofs.sheet.Sheet.turned.Goals as goal
 
 pub returns-then-out-self-ge-LINE : goal.returns-then-out-self-ge-LINE
-returns-then-out-self-ge-LINE c = record { roomy = behind _ _ (search rules); kept = λ e. e }
+returns-then-out-self-ge-LINE g c = record { roomy = behind _ _ (search rules); kept = λ e. e }
 
 pub returns : goal.returns
-returns c = record { roomy = c.handed.ensures.empty ∙ anew _ _ (search rules); kept = c.handed.ensures.kept }
+returns g c = record { roomy = c.handed.ensures.empty ∙ anew _ _ (search rules); kept = c.handed.ensures.kept }
