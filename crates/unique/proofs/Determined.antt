@@ -24,15 +24,15 @@ part-determined d e = record { same = λ κs a x y p q. e κs a x p ∙ sym (e �
 -- one parameter's, before what follows
 abbrev With : {D : Type 0} → Exit D → D → Type 0 → Type 0
 With unchanged x R = R
-With (leaves L l S s) x R = L x × R
+With (leaves L l S s some) x R = L x × R
 
 abbrev with : {D R : Type 0} (e : Exit D) (x : D) → Last e x → R → With e x R
 with unchanged x w z = z
-with (leaves L l S s) x w z = (w, z)
+with (leaves L l S s some) x w z = (w, z)
 
 with-parts : {D R : Type 0} (e : Exit D) (x : D) (w w' : Last e x) (z z' : R) → with e x w z ≡ with e x w' z' → (w ≡ w') × (z ≡ z')
 with-parts unchanged x w w' z z' p = (refl, p)
-with-parts (leaves L l S s) x w w' z z' p = (λ i. (p i).0, λ i. (p i).1)
+with-parts (leaves L l S s some) x w w' z z' p = (λ i. (p i).0, λ i. (p i).1)
 
 module _ {n : ℕ} (κs : Lfts n) (R : Type 0) where
   abbrev pub Told : (ss : List (Slot n)) (ks : Kepts ss) → Denots (types_at ss κs) → Type 0
