@@ -5,10 +5,10 @@ usage: port_edits.py NAMES [--check]     at the top of the repository; NAMES: wh
 
 An edit's texts are of an older Rattle, the files that they change of today's. Texts of .antt files turn by rule: names as in
 NAMES, a projection tight, plain words of the library. What no rule turns stands in tools/port_edits.txt: an edit with its texts
-of today, whole. In the end each old text stands exactly once in its file as the earlier pairs left it, or this says where not.
+of today, whole, and its line 'input:' where that changed. In the end each old text stands exactly once in its file as the
+earlier pairs left it, or this says where not.
 --check writes nothing.
 """
-import os
 import re
 import sys
 from pathlib import Path
@@ -139,7 +139,9 @@ def main():
         was = edit.read_text().splitlines()
         lines, path = [], ""
         if name in hand:
-            lines = hand.pop(name) + [l for l in was if l.startswith("input")]
+            lines = hand.pop(name)
+            if not any(line.startswith("input") for line in lines):
+                lines = lines + [line for line in was if line.startswith("input")]
         else:
             for line in was:
                 key, colon, text = line.partition(": ")
