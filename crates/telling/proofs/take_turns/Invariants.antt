@@ -19,7 +19,7 @@ abbrev pub invariant-loop-page : goal.invariant-loop-page
 invariant-loop-page g l = (length l.rows ≡ length l.initial.rows)
     × (length l.out ≡ length l.initial.out)
     × Fits l.page l.out
-    × Telling l.script (words_of l.data) (way_of (lent (words_of l.data) []) l.initial.feeding) (rows_in l.initial.rows) (leaf l.initial.page.at l.initial.out) l.feeding (rows_in l.rows) (leaf l.page.at l.out)
+    × Telling l.script (words_of l.«data») (way_of (lent (words_of l.«data») []) l.initial.feeding) (rows_in l.initial.rows) (leaf l.initial.page.at l.initial.out) l.feeding (rows_in l.rows) (leaf l.page.at l.out)
 
 abbrev pub decreases-loop-page : goal.decreases-loop-page
-decreases-loop-page g l = next_span l.script (under (lent (words_of l.data) []) l.feeding.call).ahead l.feeding.used
+decreases-loop-page g l = next_span l.script (under (lent (words_of l.«data») []) l.feeding.call).ahead l.feeding.used

@@ -12,17 +12,17 @@ handed-sheet-requires g c = stands-within c.open-opening.ensures.printed
 pub returns-then-not-sheet : goal.returns-then-not-sheet
 returns-then-not-sheet g c = let opened = c.open-opening in
     let said = opened.ensures in
-    record { loaded = said.0; told = not-begun _ _ _ opened.result _ _ said.1.0 said.1.1 }
+    record { loaded = said.laid; told = not-begun _ _ _ opened.result _ _ said.opened said.printed }
 
 pub slice_bounds-tell_calls-end : goal.slice_bounds-tell_calls-end
 slice_bounds-tell_calls-end g c = let opened = c.open-opening in
-    opening-fits _ _ _ opened.result opened.ensures.1.0 opened.ensures.0
+    opening-fits _ _ _ opened.result opened.ensures.opened opened.ensures.laid
 
 pub slice_bounds-tell_calls-end-2 : goal.slice_bounds-tell_calls-end-2
 slice_bounds-tell_calls-end-2 g c = let opened = c.open-opening in
-    sym (length-take-le _ _ (opening-fits _ _ _ opened.result opened.ensures.1.0 opened.ensures.0))
+    sym (length-take-le _ _ (opening-fits _ _ _ opened.result opened.ensures.opened opened.ensures.laid))
 
 pub returns : goal.returns
 returns g c = let opened = c.open-opening in
     let said = opened.ensures in
-    record { loaded = said.0; told = book-told _ _ _ _ opened.result _ _ _ _ said.0 said.1.0 said.1.1 c.tell_calls.ensures }
+    record { loaded = said.laid; told = book-told _ _ _ _ opened.result _ _ _ _ said.laid said.opened said.printed c.tell_calls.ensures }

@@ -23,4 +23,4 @@ returns g c = let a = c.args in
     let list = ap rows_in (part-of-zeros rows 4096 (omega arith)) in
     let buffer = part-of-zeros bytes 8192 (omega arith) in
     let told = c.tell_in.ensures in
-    let out : List ℕ → List Row → List ℕ = λ b l. call_out (a.k + 1) a.host ws asked b l a.out.now in record { served = told.0 ∙ ap (λ (x : S.Call). (comes a.host x).host) (zeros-call ws asked rows bytes list buffer); passed = told.1.0; told = told.1.1 ∙ ap (out (take bytes (replicate 8192 0))) list ∙ ap (λ (b : List ℕ). out b (rows_in (replicate rows 0))) buffer }
+    let out : List ℕ → List Row → List ℕ = λ b l. call_out (a.k + 1) a.host ws asked b l a.out.now in record { served = told.served ∙ ap (λ (x : S.Call). (comes a.host x).host) (zeros-call ws asked rows bytes list buffer); passed = told.passed; told = told.told ∙ ap (out (take bytes (replicate 8192 0))) list ∙ ap (λ (b : List ℕ). out b (rows_in (replicate rows 0))) buffer }

@@ -6,7 +6,7 @@ pub tell_state-state-requires : goal.tell_state-state-requires
 tell_state-state-requires g c = still-fits c.tell_called-line.ensures c.requires
 
 pub handed-requires : goal.handed-requires
-handed-requires g c = (still-fits state.tell_state.ensures (still-fits line.tell_called.ensures c.requires)).0
+handed-requires g c = (still-fits c.tell_state-state.ensures (still-fits c.tell_called-line.ensures c.requires)).0
 
 pub returns : goal.returns
-returns g c = ends-leaf line.tell_called.ensures state.tell_state.ensures
+returns g c = ends-leaf c.tell_called-line.ensures c.tell_state-state.ensures

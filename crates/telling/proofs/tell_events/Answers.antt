@@ -13,6 +13,6 @@ take_turns-requires g c = c.requires
 
 pub returns : goal.returns
 returns g c = let a = c.args in
-    let said = rw (fills.fill_blocks.ensures, c.data_of.ensures) at c.take_turns.ensures in
+    let said = rw (c.fill_blocks.ensures, c.data_of.ensures) at c.take_turns.ensures in
     let script = c.script_of-script.ensures in
-    let plan = begun.begin.ensures (lent (words_of (blocks_filled (call_asked a.words.now a.asked).data a.buffer.now)) []) in record { answered = as_called a.host a.words.now (rows_in a.rows.now) a.asked a.buffer.now script plan said.0; fits = said.1.0; told = as_told a.host a.words.now (rows_in a.rows.now) a.asked a.buffer.now script plan _ said.1.1 }
+    let plan = c.begin.ensures (lent (words_of (blocks_filled (call_asked a.words.now a.asked).«data» a.buffer.now)) []) in record { answered = as_called a.host a.words.now (rows_in a.rows.now) a.asked a.buffer.now script plan said.answered; fits = said.fits; told = as_told a.host a.words.now (rows_in a.rows.now) a.asked a.buffer.now script plan _ said.told }

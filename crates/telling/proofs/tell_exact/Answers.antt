@@ -15,8 +15,8 @@ tell_end-sheet-requires g c = c.tell_events-told.ensures.fits
 pub returns : goal.returns
 returns g c = let a = c.args in
     let said = c.tell_events-told.ensures in record {
-      served = ap (λ (x : Called). x.host) said.0;
+      served = ap (λ (x : Called). x.host) said.answered;
       passed = c.behind.ensures;
-      told = call-out a.number a.host a.words.now a.asked a.buffer.now (rows_in a.rows.now) c.tell_begins-begins.ensures said.0 said.1.1
+      told = call-out a.number a.host a.words.now a.asked a.buffer.now (rows_in a.rows.now) c.tell_begins-begins.ensures said.answered said.told
           c.tell_end-sheet.ensures;
     }

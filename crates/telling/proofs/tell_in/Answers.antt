@@ -17,4 +17,4 @@ returns g c = let asked = c.call_at-asked.ensures in
     let rows = c.least-rows.ensures in
     let blocks = c.least-bytes.ensures ∙ ap (λ (x : Asked). min x.b 16) asked in
     let told = c.tell_exact.ensures in
-    record { served = rw (rows, blocks, asked) at told.0; passed = rw asked at told.1.0; told = rw (rows, blocks, asked) at told.1.1 }
+    record { served = rw (rows, blocks, asked) at told.served; passed = rw asked at told.passed; told = rw (rows, blocks, asked) at told.told }

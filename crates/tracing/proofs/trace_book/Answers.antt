@@ -14,18 +14,18 @@ slice_bounds-put-end-2 g c = sym (length-take-le _ _ (stands-within c.open-openi
 
 pub slice_bounds-trace_calls-end : goal.slice_bounds-trace_calls-end
 slice_bounds-trace_calls-end g c = let opened = c.open-opening in
-    opening-fits _ _ _ opened.result opened.ensures.1.0 opened.ensures.0
+    opening-fits _ _ _ opened.result opened.ensures.opened opened.ensures.laid
 
 pub slice_bounds-trace_calls-end-2 : goal.slice_bounds-trace_calls-end-2
 slice_bounds-trace_calls-end-2 g c = let opened = c.open-opening in
-    sym (length-take-le _ _ (opening-fits _ _ _ opened.result opened.ensures.1.0 opened.ensures.0))
+    sym (length-take-le _ _ (opening-fits _ _ _ opened.result opened.ensures.opened opened.ensures.laid))
 
 pub returns-then-not-put : goal.returns-then-not-put
 returns-then-not-put g c = let opened = c.open-opening in
     let said = opened.ensures in
-    record { loaded = said.0; traced = not-begun _ _ _ opened.result _ _ said.1.0 said.1.1 }
+    record { loaded = said.laid; traced = not-begun _ _ _ opened.result _ _ said.opened said.printed }
 
 pub returns : goal.returns
 returns g c = let opened = c.open-opening in
     let said = opened.ensures in
-    record { loaded = said.0; traced = book-traced _ _ _ _ opened.result _ _ _ _ said.0 said.1.0 said.1.1 c.trace_calls.ensures }
+    record { loaded = said.laid; traced = book-traced _ _ _ _ opened.result _ _ _ _ said.laid said.opened said.printed c.trace_calls.ensures }

@@ -18,13 +18,13 @@ slice_bounds-put-end-in-loop-k g c = sym (length-take-le _ _ (stands-within c.tr
 
 pub returns-then-not-put : goal.returns-then-not-put
 returns-then-not-put g c = let head = c.loop-k in
-    let said = called.trace_call.ensures in
-    some-calls (head.k + 1) _ (one_more _ _ _ _ _ _ _ _ _ _ _ head.invariant.2 said.0 said.1.0 said.1.1) (search rules)
+    let said = c.trace_call-turn.ensures in
+    some-calls (head.k + 1) _ (one_more _ _ _ _ _ _ _ _ _ _ _ head.invariant.2 said.served said.passed said.traced) (search rules)
 
 pub loop-k-preserved : goal.loop-k-preserved
 loop-k-preserved g c = let head = c.loop-k in
-    let said = called.trace_call.ensures in
-    (search rules, search rules, one_more _ _ _ _ _ _ _ _ _ _ _ head.invariant.2 said.0 said.1.0 said.1.1)
+    let said = c.trace_call-turn.ensures in
+    (search rules, search rules, one_more _ _ _ _ _ _ _ _ _ _ _ head.invariant.2 said.served said.passed said.traced)
 
 pub returns : goal.returns
 returns g c = all-calls c.loop-k.k _ c.loop-k.invariant.2 (search rules)
