@@ -3,5 +3,5 @@ use lib.Seq.{length-take-le}
 use borrow.Author.Rules.{rules}
 use Rattle.cardbook.proofs.show.Goals as goal
 
-pub slice_bounds-write_all-end-2 : goal.slice_bounds-write_all-end-2
-slice_bounds-write_all-end-2 c = sym (length-take-le _ _ c.lay-n.ensures.within)
+pub slice_bounds-put-end-2 : goal.slice_bounds-put-end-2
+slice_bounds-put-end-2 c = sym (length-take-le _ _ c.lay-n.ensures.within)

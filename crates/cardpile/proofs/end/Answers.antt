@@ -4,8 +4,8 @@ use Rattle.text.proofs.Ink.{stands-within}
 use borrow.Author.Rules.{rules}
 use Rattle.cardpile.proofs.end.Goals as goal
 
-pub slice_bounds-write_all-end : goal.slice_bounds-write_all-end
-slice_bounds-write_all-end c = stands-within c.lay_end-n.ensures
+pub slice_bounds-put-end : goal.slice_bounds-put-end
+slice_bounds-put-end c = stands-within c.lay_end-n.ensures
 
-pub slice_bounds-write_all-end-2 : goal.slice_bounds-write_all-end-2
-slice_bounds-write_all-end-2 c = sym (length-take-le _ _ (stands-within c.lay_end-n.ensures))
+pub slice_bounds-put-end-2 : goal.slice_bounds-put-end-2
+slice_bounds-put-end-2 c = sym (length-take-le _ _ (stands-within c.lay_end-n.ensures))

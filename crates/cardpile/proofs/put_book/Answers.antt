@@ -4,8 +4,8 @@ use Rattle.text.proofs.Ink.{stands-within}
 use borrow.Author.Rules.{rules}
 use Rattle.cardpile.proofs.put_book.Goals as goal
 
-pub slice_bounds-write_all-end : goal.slice_bounds-write_all-end
-slice_bounds-write_all-end c = stands-within c.lay_book-n.ensures
+pub slice_bounds-put-end : goal.slice_bounds-put-end
+slice_bounds-put-end g c = stands-within c.lay_book-n.ensures
 
-pub slice_bounds-write_all-end-2 : goal.slice_bounds-write_all-end-2
-slice_bounds-write_all-end-2 c = sym (length-take-le _ _ (stands-within c.lay_book-n.ensures))
+pub slice_bounds-put-end-2 : goal.slice_bounds-put-end-2
+slice_bounds-put-end-2 g c = sym (length-take-le _ _ (stands-within c.lay_book-n.ensures))

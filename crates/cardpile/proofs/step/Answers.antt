@@ -7,4 +7,4 @@ pub slice_bounds-show-end : goal.slice_bounds-show-end
 slice_bounds-show-end c = rw c.in-Book.is at c.next_book-next.ensures
 
 pub slice_bounds-show-end-2 : goal.slice_bounds-show-end-2
-slice_bounds-show-end-2 c = sym (length-take-le _ _ (rw next.next.given.1 at c.next_book-next.ensures))
+slice_bounds-show-end-2 c = sym (length-take-le _ _ (rw c.in-Book.is at c.next_book-next.ensures))
