@@ -1,4 +1,3 @@
-use borrow.Author.Rules.{rules}
 use Rattle.meter.proofs.ask.Goals as goal
 
 pub returns-then-stepped : goal.returns-then-stepped

@@ -1,4 +1,3 @@
-use borrow.Author.Rules.{rules}
 use Rattle.meter.proofs.boresacu_meter_calls.Goals as goal
 
 pub returns : goal.returns

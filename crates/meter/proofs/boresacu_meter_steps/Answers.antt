@@ -1,4 +1,3 @@
-use borrow.Author.Rules.{rules}
 use Rattle.meter.proofs.boresacu_meter_steps.Goals as goal
 
 pub returns : goal.returns

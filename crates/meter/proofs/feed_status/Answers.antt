@@ -1,7 +1,6 @@
 use mathlib.Core.Path.{ap}
 use Rattle.host.specs.declared.host.Called.{Called}
 use Rattle.host.specs.declared.host.StatusRead.{StatusRead}
-use borrow.Author.Rules.{rules}
 use Rattle.meter.proofs.feed_status.Goals as goal
 
 -- all that a status call comes to, but for its status

@@ -1,12 +1,11 @@
 use Rattle.tape.specs.Layout.{rows_in}
 use Rattle.meter.proofs.Served.{one-served}
-use borrow.Author.Rules.{rules}
 use Rattle.meter.proofs.serve_call.Goals as goal
 
 pub returns : goal.returns
 returns c = let asked = c.call_at-asked.ensures in
     let done = rw asked at c.ask-called.ensures in record {
       served = one-served c.args.words.now c.args.k c.args.place c.args.host (rows_in c.args.rows.now) c.args.buffer.now
-          done.0 done.1.0 done.1.1 (rw c.number.ensures at c.told.ensures);
+          done.answered done.listed done.filled (rw c.number.ensures at c.told.ensures);
       passed = rw asked at c.behind-end.ensures;
     }

@@ -1,12 +1,8 @@
-use Prim.Native.Nat.{◌-◌}
-use mathlib.Core.Path.{◌≡◌, refl, ap}
+use mathlib.Core.Path.{refl, ap}
 use native.Mathlib.Nat.{sub-zero}
 use native.Mathlib.Omega.{arith}
-use lib.ListN.{length}
-use Rattle.tape.specs.Layout.{rows_in}
-use Rattle.book.specs.Layout.{contents_of}
-use Rattle.meter.specs.Metered.{Served, served_from}
-use Rattle.meter.proofs.Served.{Serving, next-served, all-served}
+use Rattle.meter.specs.Metered.{Served}
+use Rattle.meter.proofs.Served.{next-served, all-served}
 use borrow.Author.Rules.{rules}
 use Rattle.meter.proofs.serve_calls.Goals as goal
 
@@ -15,8 +11,8 @@ loop-k-init c = (record { within = omega arith; rest = rw (c.contents.ensures, s
 
 pub loop-k-preserved : goal.loop-k-preserved
 loop-k-preserved c = let done = c.serve_call-turn.ensures in (
-  next-served c.loop-k.invariant.0 c.loop-k-test.true done.1 done.0,
-  (search (rules, c.rows-1.given), search (rules, c.buffer-1.given)),
+  next-served c.loop-k.invariant.0 c.loop-k-test.true done.passed done.served,
+  (search rules, search rules),
 )
 
 pub returns : goal.returns

@@ -8,7 +8,6 @@ use Rattle.book.specs.Readers.{heading_of}
 use Rattle.bench.specs.Bench.{settings_in}
 use Rattle.meter.specs.Metered.{Served}
 use Rattle.meter.proofs.Served.{no_book, on-host}
-use borrow.Author.Rules.{rules}
 use Rattle.meter.proofs.serve_list.Goals as goal
 
 pub returns-then-heading-gt65535 : goal.returns-then-heading-gt65535
@@ -26,4 +25,4 @@ returns c = let ws = c.args.words.now in
     let on = on-host ws (rows_in c.args.rows.now) c.args.buffer.now (omega (arith, attempts, c.if-heading-gt65535.false)) in
     let number = c.number.ensures in
     let done = rw (c.served.ensures, c.told-before.ensures, number, host, ap (λ (h : Heading). h.calls) heading) at c.serve_calls.ensures in
-    record { told = done.0 ∙ ap (λ (x : Served). x.told) on; listed = done.1.0 ∙ ap (λ (x : Served). x.list) on; filled = done.1.1 ∙ ap (λ (x : Served). x.buffer) on }
+    record { told = done.told ∙ ap (λ (x : Served). x.told) on; listed = done.listed ∙ ap (λ (x : Served). x.list) on; filled = done.filled ∙ ap (λ (x : Served). x.buffer) on }

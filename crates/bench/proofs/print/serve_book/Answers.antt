@@ -8,7 +8,6 @@ use Rattle.book.specs.Layout.{book_in}
 use Rattle.book.proofs.Causes.{good-words}
 use Rattle.bench.specs.Bench.{settings_in, where_accepted}
 use Rattle.bench.proofs.Hosts.{with-host, without_host}
-use borrow.Author.Rules.{rules}
 use Rattle.bench.proofs.print.serve_book.Goals as goal
 
 pub settings-requires : goal.settings-requires

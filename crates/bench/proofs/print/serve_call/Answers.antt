@@ -10,7 +10,6 @@ use Rattle.book.specs.Readers.{asked_at, call_asked}
 use Rattle.bench.specs.Bench.{came_of, line_of}
 use Rattle.bench.proofs.Gives.{its_line}
 use Rattle.bench.proofs.Zeros.{part-of-zeros}
-use borrow.Author.Rules.{rules}
 use Rattle.bench.proofs.print.serve_call.Goals as goal
 
 pub overflow_add-end : goal.overflow_add-end

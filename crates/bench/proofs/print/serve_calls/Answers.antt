@@ -1,11 +1,7 @@
-use Prim.Native.Nat.{◌-◌}
-use mathlib.Core.Path.{◌≡◌}
 use native.Mathlib.Omega.{arith}
-use Rattle.book.specs.Layout.{count_of}
 use Rattle.book.proofs.Causes.{good-words}
 use Rattle.book.proofs.Reached.{body_within}
-use Rattle.bench.proofs.Turns.{Serving, first-turn, next-turn, last_turn, blocks-of}
-use borrow.Author.Rules.{rules}
+use Rattle.bench.proofs.Turns.{first-turn, next-turn, last_turn, blocks-of}
 use Rattle.bench.proofs.print.serve_calls.Goals as goal
 
 pub loop-k-init : goal.loop-k-init
@@ -23,7 +19,7 @@ pub loop-k-preserved : goal.loop-k-preserved
 loop-k-preserved c = let done = c.serve_call-turn.ensures in
     let count = c.loop-k.invariant.1 in
     let more = c.loop-k-test.true in
-    (next-turn c.loop-k.invariant.0 (omega (arith, count, more)) done.0 done.1.0 done.1.1, count)
+    (next-turn c.loop-k.invariant.0 (omega (arith, count, more)) done.served done.passed done.printed, count)
 
 pub shape_of-out : goal.shape_of-out
 shape_of-out c = c.loop-k.invariant.0.long

@@ -1,11 +1,7 @@
 use Prim.Native.Nat.{◌-◌}
 use mathlib.Core.Path.{◌≡◌}
-use native.Mathlib.Omega.{arith}
 use Rattle.book.specs.Layout.{count_of}
-use Rattle.book.proofs.Causes.{good-words}
-use Rattle.book.proofs.Reached.{body_within}
-use Rattle.bench.proofs.Turns.{Serving, first-turn, next-turn, last_turn, blocks-of}
-use borrow.Author.Rules.{rules}
+use Rattle.bench.proofs.Turns.{Serving}
 use Rattle.bench.proofs.print.serve_calls.Given as goal
 
 abbrev pub invariant-loop-k : goal.invariant-loop-k

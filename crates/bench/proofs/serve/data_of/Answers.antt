@@ -1,6 +1,5 @@
 use mathlib.Core.Path.{◌≡◌}
 use lib.ListN.{take}
-use borrow.Author.Rules.{rules}
 use Rattle.bench.proofs.serve.data_of.Goals as goal
 
 pub returns : goal.returns

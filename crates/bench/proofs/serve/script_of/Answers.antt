@@ -3,7 +3,6 @@ use native.Mathlib.Omega.{arith}
 use lib.ListN.{length, take, drop, length-drop}
 use lib.Seq.{take_all}
 use Rattle.book.specs.Layout.{data_count}
-use borrow.Author.Rules.{rules}
 use Rattle.bench.proofs.serve.script_of.Goals as goal
 
 pub returns : goal.returns

@@ -3,7 +3,6 @@ use Rattle.types.specs.Answer.{answer_told}
 use Rattle.types.specs.Settings.{made_of}
 use Rattle.host.specs.declared.host.Made.{Made}
 use Rattle.host.specs.Calls.{judged_host, made}
-use borrow.Author.Rules.{rules}
 use Rattle.bench.proofs.trace.open_bad.Goals as goal
 
 pub returns : goal.returns

@@ -10,7 +10,6 @@ use Rattle.book.specs.Layout.{book_in}
 use Rattle.book.proofs.Causes.{good-words}
 use Rattle.bench.specs.Bench.{settings_of, settings_in}
 use Rattle.bench.specs.Trace.{calls_served}
-use borrow.Author.Rules.{rules}
 use Rattle.bench.proofs.trace.open_good.Goals as goal
 
 pub settings-requires : goal.settings-requires

@@ -1,6 +1,5 @@
 use Rattle.text.proofs.Ink.{nothing}
 use Rattle.bench.specs.Bench.{where_accepted}
-use borrow.Author.Rules.{rules}
 use Rattle.bench.proofs.trace.put_given.Goals as goal
 
 pub returns-in-Accepted : goal.returns-in-Accepted

@@ -1,7 +1,6 @@
 use Rattle.report.specs.Report.{state_text}
 use Rattle.bench.specs.Bench.{where_accepted}
 use Rattle.bench.proofs.Hosts.{and_accepted, and_refused}
-use borrow.Author.Rules.{rules}
 use Rattle.bench.proofs.trace.put_head.Goals as goal
 
 pub returns-in-Accepted : goal.returns-in-Accepted

@@ -1,6 +1,5 @@
 use borrow.Author.Tests.{eq-eqb, ne_eqb}
 use Rattle.text.proofs.Ink.{nothing}
-use borrow.Author.Rules.{rules}
 use Rattle.bench.proofs.trace.put_kind.Goals as goal
 
 pub returns-then-kind-eq1 : goal.returns-then-kind-eq1

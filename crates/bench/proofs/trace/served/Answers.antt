@@ -1,5 +1,4 @@
 use Rattle.bench.specs.Trace.{calls_served}
-use borrow.Author.Rules.{rules}
 use Rattle.bench.proofs.trace.served.Goals as goal
 
 pub returns-in-Accepted : goal.returns-in-Accepted

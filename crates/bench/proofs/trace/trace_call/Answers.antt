@@ -10,7 +10,6 @@ use Rattle.calls.specs.Serve.{comes}
 use Rattle.book.specs.Readers.{asked_at}
 use Rattle.bench.specs.Trace.{bytes_at}
 use Rattle.bench.proofs.Zeros.{part-of-zeros, zeros-call, zeros-text}
-use borrow.Author.Rules.{rules}
 use Rattle.bench.proofs.trace.trace_call.Goals as goal
 
 pub returns : goal.returns
@@ -22,4 +21,4 @@ returns c = let args = c.args in
     let bytes = bytes_at ws k place in
     let list = ap rows_in (part-of-zeros rows 4096 (omega arith)) in
     let buffer = part-of-zeros bytes 8192 (omega arith) in
-    let done = c.trace_in.ensures in record { served = done.0 ∙ ap (λ (x : S.Call). (comes args.host x).host) (zeros-call ws (asked_at ws k place) rows bytes list buffer); passed = done.1.0; traced = subst (λ (t : List ℕ). Laid 0 t args.out.now c.trace_in.result.at c.trace_in.new.out) (zeros-text ws (asked_at ws k place) rows bytes list buffer (k + 1) args.host) done.1.1 }
+    let done = c.trace_in.ensures in record { served = done.served ∙ ap (λ (x : S.Call). (comes args.host x).host) (zeros-call ws (asked_at ws k place) rows bytes list buffer); passed = done.passed; traced = subst (λ (t : List ℕ). Laid 0 t args.out.now c.trace_in.result.at c.trace_in.new.out) (zeros-text ws (asked_at ws k place) rows bytes list buffer (k + 1) args.host) done.traced }
