@@ -3,7 +3,6 @@ use lib.Seq.{length-take-le}
 use Rattle.text.proofs.Ink.{stands-within}
 use Rattle.bench.proofs.Opens.{opening-fits}
 use Rattle.tracing.proofs.Traces.{not-begun, book-traced}
-use borrow.Author.Rules.{rules}
 use Rattle.tracing.proofs.trace_book.Goals as goal
 
 pub slice_bounds-put-end : goal.slice_bounds-put-end

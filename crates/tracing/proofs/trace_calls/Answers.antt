@@ -1,9 +1,8 @@
-use Prim.Native.Nat.{◌+◌, ◌≤◌, ◌-◌}
-use mathlib.Core.Path.{◌≡◌, sym}
-use lib.ListN.{length}
+use Prim.Native.Nat.{◌+◌}
+use mathlib.Core.Path.{sym}
 use lib.Seq.{length-take-le}
 use Rattle.text.proofs.Ink.{stands-within}
-use Rattle.tracing.proofs.Traces.{Stands, first, one_more, all-calls, some-calls}
+use Rattle.tracing.proofs.Traces.{first, one_more, all-calls, some-calls}
 use borrow.Author.Rules.{rules}
 use Rattle.tracing.proofs.trace_calls.Goals as goal
 

@@ -1,10 +1,7 @@
-use Prim.Native.Nat.{◌+◌, ◌≤◌, ◌-◌}
-use mathlib.Core.Path.{◌≡◌, sym}
+use Prim.Native.Nat.{◌≤◌, ◌-◌}
+use mathlib.Core.Path.{◌≡◌}
 use lib.ListN.{length}
-use lib.Seq.{length-take-le}
-use Rattle.text.proofs.Ink.{stands-within}
-use Rattle.tracing.proofs.Traces.{Stands, first, one_more, all-calls, some-calls}
-use borrow.Author.Rules.{rules}
+use Rattle.tracing.proofs.Traces.{Stands}
 use Rattle.tracing.proofs.trace_calls.Given as goal
 
 abbrev pub invariant-loop-k : goal.invariant-loop-k

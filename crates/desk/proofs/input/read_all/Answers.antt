@@ -1,7 +1,6 @@
-use mathlib.Core.Path.{◌≡◌}
 use native.Mathlib.Omega.{arith}
 use lib.ListN.{length}
-use Rattle.desk.proofs.Inputs.{Standing, left, begins, goes-stands, goes-less, stands_in}
+use Rattle.desk.proofs.Inputs.{begins, goes-stands, goes-less, stands_in}
 use borrow.Author.Rules.{rules}
 use Rattle.desk.proofs.input.read_all.Goals as goal
 

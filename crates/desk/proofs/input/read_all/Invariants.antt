@@ -1,8 +1,6 @@
 use mathlib.Core.Path.{◌≡◌}
-use native.Mathlib.Omega.{arith}
 use lib.ListN.{length}
-use Rattle.desk.proofs.Inputs.{Standing, left, begins, goes-stands, goes-less, stands_in}
-use borrow.Author.Rules.{rules}
+use Rattle.desk.proofs.Inputs.{Standing, left}
 use Rattle.desk.proofs.input.read_all.Given as goal
 
 abbrev pub invariant-loop-filling : goal.invariant-loop-filling

@@ -2,7 +2,6 @@ use mathlib.Core.Path.{sym, ◌∙◌}
 use lib.ListN.{length}
 use mir.Facts.{to_z-of_z}
 use Rattle.desk.proofs.Inputs.{when_failed, when_not, ended, goes_on}
-use borrow.Author.Rules.{rules}
 use Rattle.desk.proofs.input.read_on.Goals as goal
 
 -- a signed argument is handed on as its bits

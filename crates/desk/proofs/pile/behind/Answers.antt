@@ -1,5 +1,4 @@
 use borrow.Author.Tests.{eq-eqb, ne_eqb}
-use borrow.Author.Rules.{rules}
 use Rattle.desk.specs.Pile.{behind_of}
 use Rattle.desk.proofs.pile.behind.Goals as goal
 

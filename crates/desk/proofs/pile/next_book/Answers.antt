@@ -1,6 +1,5 @@
-use mathlib.Core.Path.{◌≡◌}
 use lib.ListN.{length}
-use Rattle.desk.proofs.Piles.{due, Stands, onward, stands_in}
+use Rattle.desk.proofs.Piles.{onward, stands_in}
 use borrow.Author.Rules.{rules}
 use Rattle.desk.proofs.pile.next_book.Goals as goal
 

@@ -1,7 +1,6 @@
 use mathlib.Core.Path.{◌≡◌}
 use lib.ListN.{length}
-use Rattle.desk.proofs.Piles.{due, Stands, onward, stands_in}
-use borrow.Author.Rules.{rules}
+use Rattle.desk.proofs.Piles.{due, Stands}
 use Rattle.desk.proofs.pile.next_book.Given as goal
 
 abbrev pub invariant-loop-stage : goal.invariant-loop-stage

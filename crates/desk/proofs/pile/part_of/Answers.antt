@@ -1,4 +1,3 @@
-use borrow.Author.Rules.{rules}
 use Rattle.desk.proofs.pile.part_of.Goals as goal
 
 pub returns-in-Full : goal.returns-in-Full

@@ -1,4 +1,3 @@
-use borrow.Author.Rules.{rules}
 use Rattle.desk.specs.Pile.{part_read}
 use Rattle.desk.proofs.pile.part_read.Goals as goal
 

@@ -1,4 +1,3 @@
-use borrow.Author.Rules.{rules}
 use Rattle.desk.specs.Pile.{Follows}
 use Rattle.desk.proofs.pile.read_length.Goals as goal
 

@@ -2,7 +2,6 @@ use mathlib.Core.Path.{sym}
 use native.Mathlib.Omega.{arith}
 use lib.Seq.{length-take-le}
 use Rattle.desk.proofs.Piles.{fills_in}
-use borrow.Author.Rules.{rules}
 use Rattle.desk.proofs.pile.skip.Goals as goal
 
 pub slice_bounds-fill-end : goal.slice_bounds-fill-end

@@ -1,7 +1,6 @@
 use mathlib.Core.Path.{sym}
 use lib.Seq.{length-take-le}
 use Rattle.desk.proofs.Piles.{fills_in}
-use borrow.Author.Rules.{rules}
 use Rattle.desk.specs.Pile.{Follows}
 use Rattle.desk.proofs.pile.turn.Goals as goal
 

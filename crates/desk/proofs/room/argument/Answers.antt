@@ -1,4 +1,3 @@
-use borrow.Author.Rules.{rules}
 use Rattle.desk.proofs.room.argument.Goals as goal
 
 pub returns : goal.returns

@@ -2,7 +2,6 @@ use mathlib.Core.Path.{sym}
 use lib.Seq.{length-take-le}
 use Rattle.text.proofs.Ink.{stands-within}
 use Rattle.desk.proofs.Rooms.{granted_fits}
-use borrow.Author.Rules.{rules}
 use Rattle.desk.proofs.room.asked.Goals as goal
 
 pub slice_bounds-line-end : goal.slice_bounds-line-end

@@ -1,4 +1,3 @@
-use borrow.Author.Rules.{rules}
 use Rattle.desk.proofs.room.granted.Goals as goal
 
 pub returns-in-Rows : goal.returns-in-Rows

@@ -1,5 +1,4 @@
 use borrow.Author.Tests.{lt-ltb, le-ltb}
-use borrow.Author.Rules.{rules}
 use Rattle.desk.specs.Room.{wish_of}
 use Rattle.desk.proofs.room.judged.Goals as goal
 

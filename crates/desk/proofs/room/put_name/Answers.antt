@@ -1,4 +1,3 @@
-use borrow.Author.Rules.{rules}
 use Rattle.desk.proofs.room.put_name.Goals as goal
 
 pub returns-in-Cardtrace : goal.returns-in-Cardtrace

@@ -1,7 +1,6 @@
 use Rattle.text.proofs.Ink.{and_then}
 use Rattle.desk.specs.Refusal.{refusal_text}
 use Rattle.desk.proofs.Refusals.{said, nothing}
-use borrow.Author.Rules.{rules}
 use Rattle.desk.proofs.room.put_refusal.Goals as goal
 
 pub returns-in-Rows : goal.returns-in-Rows

@@ -1,9 +1,7 @@
 use Prim.Native.Nat.{◌≤◌, ◌-◌}
-use mathlib.Core.Path.{◌≡◌, refl, ap, sym, ◌∙◌}
-use native.Mathlib.Omega.{arith}
-use lib.ListN.{length, drop, drop_of_length-le}
+use mathlib.Core.Path.{◌≡◌}
+use lib.ListN.{length, drop}
 use Rattle.desk.specs.Room.{room_from}
-use Rattle.desk.proofs.Rooms.{too_large, all_read, below, above, digit, empty, long, short}
 use Rattle.desk.proofs.room.read_room.Given as goal
 
 abbrev pub invariant-loop-i : goal.invariant-loop-i

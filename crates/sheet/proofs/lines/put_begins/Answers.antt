@@ -1,5 +1,4 @@
 use Rattle.text.proofs.Ink.{and_then}
-use borrow.Author.Rules.{rules}
 use Rattle.sheet.proofs.lines.put_begins.Goals as goal
 
 pub returns : goal.returns

@@ -1,5 +1,4 @@
 use Rattle.sheet.proofs.Sheets.{told}
-use borrow.Author.Rules.{rules}
 use Rattle.sheet.proofs.lines.tell_state.Goals as goal
 
 pub returns : goal.returns
