@@ -1,6 +1,5 @@
 use mathlib.Core.Path.{◌∙◌}
 use Rattle.telling.proofs.ByKind.{stands, initialises, reads, writes, asks-status}
-use borrow.Author.Rules.{rules}
 use Rattle.telling.proofs.begin.Goals as goal
 
 pub returns-then-kind-eq1 : goal.returns-then-kind-eq1

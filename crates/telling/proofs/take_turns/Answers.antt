@@ -1,17 +1,7 @@
-use mathlib.Core.List.{[]}
-use mathlib.Core.Path.{◌≡◌, refl, sym, ◌∙◌}
+use mathlib.Core.Path.{refl, sym, ◌∙◌}
 use native.Mathlib.Omega.{arith}
-use lib.ListN.{length}
-use Rattle.types.specs.Words.{words_of}
-use Rattle.tape.specs.Layout.{rows_in}
-use Rattle.underway.specs.Under.{under}
-use Rattle.feed.specs.Runs.{next_span}
-use Rattle.feed.specs.Turns.{lent, way_of}
-use Rattle.feed.proofs.Fed.{turned_false, turned_true}
-use Rattle.sheet.specs.Sheet.{Fits}
-use Rattle.telling.specs.Told.{leaf}
 use Rattle.telling.proofs.Lines.{same_sheet}
-use Rattle.telling.proofs.Turning.{Telling, starts-telling, goes-telling, goes-less, all-called, all_told}
+use Rattle.telling.proofs.Turning.{starts-telling, goes-telling, goes-less, all-called, all_told}
 use borrow.Author.Rules.{rules}
 use Rattle.telling.proofs.take_turns.Goals as goal
 
@@ -23,7 +13,7 @@ tell_event-page-requires g c = c.loop-page.invariant.2
 
 pub returns-then-not-goes_on : goal.returns-then-not-goes_on
 returns-then-not-goes_on g c = let begun = c.begin-feeding.ensures in
-    let ends = sym c.goes_on.ensures ∙ turned_false _ c.if-not-goes_on.true in
+    let ends = sym c.goes_on.ensures ∙ c.if-not-goes_on.true in
     let page = c.ended.ensures.sheet in record {
       answered = all-called _ begun c.loop-page.invariant.3 c.turn-turn.result _ c.turn-turn.ensures ends c.ended.ensures.called;
       fits = rw page c.tell_event-page.ensures.fits;
@@ -32,7 +22,7 @@ returns-then-not-goes_on g c = let begun = c.begin-feeding.ensures in
     }
 
 pub loop-page-smaller : goal.loop-page-smaller
-loop-page-smaller g c = omega (arith, goes-less _ c.loop-page.invariant.3 c.turn-turn.result _ c.turn-turn.ensures (sym c.goes_on.ensures ∙ turned_true _ c.if-not-goes_on.false))
+loop-page-smaller g c = omega (arith, goes-less _ c.loop-page.invariant.3 c.turn-turn.result _ c.turn-turn.ensures (sym c.goes_on.ensures ∙ c.if-not-goes_on.false))
 
 pub loop-page-preserved : goal.loop-page-preserved
 loop-page-preserved g c = (
@@ -40,5 +30,5 @@ loop-page-preserved g c = (
   search rules,
   c.tell_event-page.ensures.fits,
   goes-telling _ c.loop-page.invariant.3 c.turn-turn.result _ c.turn-turn.ensures c.tell_event-page.ensures.told
-      (sym c.goes_on.ensures ∙ turned_true _ c.if-not-goes_on.false),
+      (sym c.goes_on.ensures ∙ c.if-not-goes_on.false),
 )

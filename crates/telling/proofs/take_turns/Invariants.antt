@@ -1,18 +1,14 @@
 use mathlib.Core.List.{[]}
-use mathlib.Core.Path.{◌≡◌, refl, sym, ◌∙◌}
-use native.Mathlib.Omega.{arith}
+use mathlib.Core.Path.{◌≡◌}
 use lib.ListN.{length}
 use Rattle.types.specs.Words.{words_of}
 use Rattle.tape.specs.Layout.{rows_in}
 use Rattle.underway.specs.Under.{under}
 use Rattle.feed.specs.Runs.{next_span}
 use Rattle.feed.specs.Turns.{lent, way_of}
-use Rattle.feed.proofs.Fed.{turned_false, turned_true}
 use Rattle.sheet.specs.Sheet.{Fits}
 use Rattle.telling.specs.Told.{leaf}
-use Rattle.telling.proofs.Lines.{same_sheet}
-use Rattle.telling.proofs.Turning.{Telling, starts-telling, goes-telling, goes-less, all-called, all_told}
-use borrow.Author.Rules.{rules}
+use Rattle.telling.proofs.Turning.{Telling}
 use Rattle.telling.proofs.take_turns.Given as goal
 
 abbrev pub invariant-loop-page : goal.invariant-loop-page

@@ -3,7 +3,6 @@ use lib.Seq.{length-take-le}
 use Rattle.text.proofs.Ink.{stands-within}
 use Rattle.bench.proofs.Opens.{opening-fits}
 use Rattle.telling.proofs.Books.{not-begun, book-told}
-use borrow.Author.Rules.{rules}
 use Rattle.telling.proofs.tell_all.Goals as goal
 
 pub handed-sheet-requires : goal.handed-sheet-requires

@@ -1,6 +1,5 @@
 use mathlib.Core.Path.{refl}
 use native.Mathlib.Omega.{arith}
-use borrow.Author.Rules.{rules}
 use Rattle.telling.proofs.tell_book.Goals as goal
 
 pub returns-then-out-lt512 : goal.returns-then-out-lt512

@@ -11,7 +11,6 @@ use Rattle.book.specs.Readers.{asked_at}
 use Rattle.bench.specs.Trace.{bytes_at}
 use Rattle.bench.proofs.Zeros.{part-of-zeros, zeros-call}
 use Rattle.telling.specs.Told.{call_out}
-use borrow.Author.Rules.{rules}
 use Rattle.telling.proofs.tell_call.Goals as goal
 
 pub returns : goal.returns

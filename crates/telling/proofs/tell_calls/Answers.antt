@@ -1,7 +1,5 @@
-use Prim.Native.Nat.{◌+◌, ◌-◌, ◌≤◌}
-use mathlib.Core.Path.{◌≡◌}
-use lib.ListN.{length}
-use Rattle.telling.proofs.Books.{Stands, first, one_more, all-calls, some-calls}
+use Prim.Native.Nat.{◌+◌}
+use Rattle.telling.proofs.Books.{first, one_more, all-calls, some-calls}
 use borrow.Author.Rules.{rules}
 use Rattle.telling.proofs.tell_calls.Goals as goal
 

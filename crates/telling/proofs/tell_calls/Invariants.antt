@@ -1,8 +1,7 @@
-use Prim.Native.Nat.{◌+◌, ◌-◌, ◌≤◌}
+use Prim.Native.Nat.{◌-◌, ◌≤◌}
 use mathlib.Core.Path.{◌≡◌}
 use lib.ListN.{length}
-use Rattle.telling.proofs.Books.{Stands, first, one_more, all-calls, some-calls}
-use borrow.Author.Rules.{rules}
+use Rattle.telling.proofs.Books.{Stands}
 use Rattle.telling.proofs.tell_calls.Given as goal
 
 abbrev pub invariant-loop-k : goal.invariant-loop-k

@@ -1,5 +1,4 @@
-use Rattle.telling.proofs.Lines.{as_leaf, still-fits, ends-leaf}
-use borrow.Author.Rules.{rules}
+use Rattle.telling.proofs.Lines.{still-fits, ends-leaf}
 use Rattle.telling.proofs.tell_end.Goals as goal
 
 pub tell_state-state-requires : goal.tell_state-state-requires

@@ -1,7 +1,6 @@
 use mathlib.Core.Path.{refl}
 use Rattle.telling.specs.Told.{evented}
 use Rattle.telling.proofs.Lines.{as_leaf, still-fits}
-use borrow.Author.Rules.{rules}
 use Rattle.telling.proofs.tell_event.Goals as goal
 
 pub returns-in-Read : goal.returns-in-Read

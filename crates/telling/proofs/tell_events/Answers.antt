@@ -5,7 +5,6 @@ use Rattle.host.specs.Calls.{blocks_filled}
 use Rattle.feed.specs.Turns.{lent}
 use Rattle.book.specs.Readers.{call_asked}
 use Rattle.telling.proofs.ByKind.{as_called, as_told}
-use borrow.Author.Rules.{rules}
 use Rattle.telling.proofs.tell_events.Goals as goal
 
 pub take_turns-requires : goal.take_turns-requires

@@ -3,7 +3,6 @@ use mathlib.Core.Path.{ap, sym, ◌∙◌}
 use native.Mathlib.Omega.{arith}
 use lib.Seq.{length-take-le}
 use Rattle.book.specs.declared.layout.Asked.{Asked}
-use borrow.Author.Rules.{rules}
 use Rattle.telling.proofs.tell_in.Goals as goal
 
 pub slice_bounds-tell_exact-end-2 : goal.slice_bounds-tell_exact-end-2
