@@ -1,4 +1,3 @@
-use borrow.Author.Rules.{rules}
 use Rattle.bookwords.proofs.put_cause.Goals as goal
 
 pub returns-in-NotANumber : goal.returns-in-NotANumber

@@ -2,7 +2,6 @@ use native.Mathlib.Omega.{arith}
 use Rattle.text.proofs.Ink.{stands-within}
 use Rattle.desk.proofs.Refusals.{whole}
 use Rattle.cardbook.proofs.Fits.{fits}
-use borrow.Author.Rules.{rules}
 use Rattle.cardbook.proofs.lay.Goals as goal
 
 pub returns : goal.returns
