@@ -1,5 +1,4 @@
 use Rattle.text.proofs.Ink.{and_then}
-use borrow.Author.Rules.{rules}
 use Rattle.cardpile.proofs.lay_book.Goals as goal
 
 pub returns : goal.returns

@@ -1,5 +1,4 @@
 use Rattle.desk.proofs.Refusals.{nothing}
-use borrow.Author.Rules.{rules}
 use Rattle.cardpile.specs.Said.{end_text}
 use Rattle.cardpile.proofs.lay_end.Goals as goal
 

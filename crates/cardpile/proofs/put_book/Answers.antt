@@ -1,7 +1,6 @@
 use mathlib.Core.Path.{sym}
 use lib.Seq.{length-take-le}
 use Rattle.text.proofs.Ink.{stands-within}
-use borrow.Author.Rules.{rules}
 use Rattle.cardpile.proofs.put_book.Goals as goal
 
 pub slice_bounds-put-end : goal.slice_bounds-put-end

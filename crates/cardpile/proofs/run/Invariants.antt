@@ -1,7 +1,6 @@
 use Prim.Native.Nat.{◌-◌, ◌^◌}
 use mathlib.Core.Path.{◌≡◌}
 use lib.ListN.{length}
-use borrow.Author.Rules.{rules}
 use Rattle.cardpile.proofs.run.Given as goal
 
 abbrev pub invariant-loop-k : goal.invariant-loop-k

@@ -1,6 +1,5 @@
 use mathlib.Core.Path.{sym}
 use lib.Seq.{length-take-le}
-use borrow.Author.Rules.{rules}
 use Rattle.cardpile.proofs.step.Goals as goal
 
 pub slice_bounds-show-end : goal.slice_bounds-show-end
