@@ -11,7 +11,7 @@ use Rattle.types.specs.declared.status.DataAnswer.TheVariants.{Clean, Failed}
 use Rattle.types.specs.Bits.{clear}
 use Rattle.types.specs.Leaf.{data_of}
 use Rattle.types.specs.Sd.{ready_of}
-use Rattle.tape.specs.declared.progress.Pace.TheVariants.{Going}
+use Rattle.tape.specs.Pace.{Going}
 use Rattle.tape.specs.Plan.{refusing}
 use Rattle.tape.specs.Run.{State, Gave}
 use Rattle.tape.specs.Steps.{wait_idle, reset_controller, stop_data, set_clken}

@@ -17,7 +17,7 @@ use Rattle.types.specs.Bits.{clear}
 use Rattle.types.specs.Words.{counted}
 use Rattle.tape.specs.declared.progress.Halt.TheVariants.{Refused}
 use Rattle.tape.specs.declared.progress.Line.{Line}
-use Rattle.tape.specs.declared.progress.Pace.TheVariants.{Stopped}
+use Rattle.tape.specs.Pace.{Stopped}
 use Rattle.tape.specs.declared.rows.Row.{Row}
 use Rattle.tape.specs.declared.script.Reading.{Reading}
 use Rattle.tape.specs.Layout.{row_of}

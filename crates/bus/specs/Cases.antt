@@ -6,7 +6,7 @@ use Rattle.types.specs.declared.error.Error.TheVariants as E
 use Rattle.types.specs.Leaf.{data_of, first_match}
 use Rattle.tape.specs.declared.progress.Halt.TheVariants.{Refused, ScriptEnded, TraceFull}
 use Rattle.tape.specs.declared.progress.Line.{Line}
-use Rattle.tape.specs.declared.progress.Pace.TheVariants.{Going, Stopped}
+use Rattle.tape.specs.Pace.{Going, Stopped}
 use Rattle.tape.specs.Layout.{row_of, rows_of_pairs}
 use Rattle.tape.specs.Plan.{Plan, handle, ensure, until}
 use Rattle.tape.specs.Run.{After, after, noted, run}

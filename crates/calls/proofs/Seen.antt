@@ -11,7 +11,7 @@ use Rattle.types.specs.declared.card.AddressAnswer.{AddressAnswer}
 use Rattle.types.specs.declared.card.AddressAnswer.TheVariants as Address
 use Rattle.types.specs.declared.error.Error.{Error}
 use Rattle.types.specs.Words.{words_of}
-use Rattle.tape.specs.declared.progress.Pace.TheVariants.{Going, Stopped}
+use Rattle.tape.specs.Pace.{Going, Stopped}
 use Rattle.tape.specs.declared.rows.Row.{Row}
 use Rattle.tape.specs.Layout.{row_of}
 use Rattle.tape.specs.Plan.{Cause}

@@ -19,8 +19,8 @@ use Rattle.types.specs.declared.error.Error.TheVariants as E
 use Rattle.types.specs.Sd.{ready_of}
 use Rattle.tape.specs.declared.progress.Halt.TheVariants.{Refused, ScriptEnded, TraceFull}
 use Rattle.tape.specs.declared.progress.Line.{Line}
-use Rattle.tape.specs.declared.progress.Pace.{Pace}
-use Rattle.tape.specs.declared.progress.Pace.TheVariants.{Going, Stopped}
+use Rattle.tape.specs.Pace.{Pace}
+use Rattle.tape.specs.Pace.{Going, Stopped}
 use Rattle.tape.specs.declared.rows.Row.{Row}
 use Rattle.tape.specs.declared.script.Reading.{Reading}
 use Rattle.tape.specs.Plan.{Nothing, Plan, Cause, failed, ended, give, refuse, read, write, look, hold, handle, ◌then◌, refusing, ensure, until}

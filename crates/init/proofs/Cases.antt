@@ -12,8 +12,8 @@ use Rattle.types.specs.Leaf.{count_of}
 use Rattle.types.specs.Words.{halves_of}
 use Rattle.tape.specs.declared.progress.Halt.TheVariants.{Refused, ScriptEnded}
 use Rattle.tape.specs.declared.progress.Line.{Line}
-use Rattle.tape.specs.declared.progress.Pace.{Pace}
-use Rattle.tape.specs.declared.progress.Pace.TheVariants.{Stopped}
+use Rattle.tape.specs.Pace.{Pace}
+use Rattle.tape.specs.Pace.{Stopped}
 use Rattle.tape.specs.Plan.{handle, ensure, until}
 use Rattle.tape.specs.Run.{run}
 use Rattle.tape.specs.Steps.{word, wait_idle}

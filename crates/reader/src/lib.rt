@@ -10,21 +10,14 @@ pub struct Reader<'a> {
     pub place: usize,
 }
 
-// What is found at a place of a script: a word, or the script's end.
-#[derive(Clone, Copy)]
-pub enum Found {
-    Word(u32),
-    End,
-}
-
 // The word at this place.
-fn word_at(script: &[u32], place: usize) -> Found
+fn word_at(script: &[u32], place: usize) -> Option<u32>
     ensures { result ≡ word_at script.now place }
 {
     if place < script.len() {
-        Found::Word(script[place])
+        Some(script[place])
     } else {
-        Found::End
+        None
     }
 }
 
@@ -58,7 +51,7 @@ impl<'a> Reader<'a> {
     }
 
     // The word at the reader's place.
-    pub fn here(self) -> Found
+    pub fn here(self) -> Option<u32>
         ensures { result ≡ word_at self.entry.script.now self.entry.place }
     {
         word_at(self.script, self.place)
@@ -73,7 +66,7 @@ impl<'a> Reader<'a> {
 }
 
 // What a reader of this script finds at this place. Whoever calls this function or the next holds no reader.
-pub fn word(script: &[u32], place: usize) -> Found
+pub fn word(script: &[u32], place: usize) -> Option<u32>
     ensures { result ≡ word_at script.now place }
 {
     Reader::new(script).moved(place).here()

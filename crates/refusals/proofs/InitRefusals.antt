@@ -14,7 +14,7 @@ use Rattle.types.specs.declared.clock.ClockAnswer.TheVariants as Clocked
 use Rattle.types.specs.declared.error.Answer.TheVariants as Answered
 use Rattle.types.specs.Leaf.{clock_of}
 use Rattle.types.specs.Sd.{sd_spec, tran_speed, wide_of}
-use Rattle.tape.specs.declared.progress.Pace.TheVariants.{Going, Stopped}
+use Rattle.tape.specs.Pace.{Going, Stopped}
 use Rattle.tape.specs.declared.rows.Row.{Row}
 use Rattle.tape.specs.Plan.{Nothing, Cause, Plan, guard}
 use Rattle.tape.specs.Run.{State, at, After, halt_of, run, run_from}

@@ -9,8 +9,8 @@ use Rattle.types.specs.declared.card.AddressAnswer.TheVariants as Address
 use Rattle.types.specs.declared.error.Error.TheVariants as E
 use Rattle.types.specs.declared.register.Protection.{Protection}
 use Rattle.tape.specs.declared.progress.Halt.TheVariants.{Refused, ScriptEnded, TraceFull}
-use Rattle.tape.specs.declared.progress.Pace.{Pace}
-use Rattle.tape.specs.declared.progress.Pace.TheVariants.{Going, Stopped}
+use Rattle.tape.specs.Pace.{Pace}
+use Rattle.tape.specs.Pace.{Going, Stopped}
 use Rattle.tape.specs.declared.rows.Row.{Row}
 use Rattle.tape.specs.Plan.{Nothing, Plan}
 use Rattle.tape.specs.Run.{State, run, run_from}

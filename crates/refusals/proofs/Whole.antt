@@ -27,8 +27,8 @@ use Rattle.types.specs.Leaf.{address_of, clock_of, stops_writes, units_of}
 use Rattle.types.specs.Words.{bytes_of}
 use Rattle.tape.specs.declared.progress.Halt.TheVariants.{Refused, ScriptEnded, TraceFull}
 use Rattle.tape.specs.declared.progress.Line.{Line}
-use Rattle.tape.specs.declared.progress.Pace.{Pace}
-use Rattle.tape.specs.declared.progress.Pace.TheVariants.{Going, Stopped}
+use Rattle.tape.specs.Pace.{Pace}
+use Rattle.tape.specs.Pace.{Going, Stopped}
 use Rattle.tape.specs.declared.rows.Row.{Row}
 use Rattle.tape.specs.Plan.{Nothing, Plan, refuse, fail, ◌then◌}
 use Rattle.tape.specs.Run.{State, After, run, run_from, next_at}

@@ -9,7 +9,7 @@ use lib.ListN.{length, get_or}
 use borrow.Author.Tests.{le-ltb, lt-ltb}
 use Rattle.tape.specs.declared.progress.Halt.TheVariants.{ScriptEnded}
 use Rattle.tape.specs.declared.progress.Line.{Line}
-use Rattle.tape.specs.declared.progress.Pace.TheVariants.{Stopped}
+use Rattle.tape.specs.Pace.{Stopped}
 use Rattle.tape.specs.Plan.{failed, ended, Plan, give, refuse, read, write, look, hold}
 use Rattle.tape.specs.Run.{noted}
 use Rattle.tape.proofs.Room.{Free, free}

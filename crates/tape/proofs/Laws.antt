@@ -11,9 +11,9 @@ use borrow.Author.Tests.{le-ltb}
 use Rattle.tape.specs.declared.progress.Halt.{Halt}
 use Rattle.tape.specs.declared.progress.Halt.TheVariants.{Refused, ScriptEnded, TraceFull}
 use Rattle.tape.specs.declared.progress.Line.{Line}
-use Rattle.tape.specs.declared.progress.Pace.{Pace}
-use Rattle.tape.specs.declared.progress.Pace.TheVariants.{Going, Stopped}
-use Rattle.tape.specs.declared.progress.Progress.{Progress}
+use Rattle.tape.specs.Pace.{Pace}
+use Rattle.tape.specs.Pace.{Going, Stopped}
+use Rattle.tape.specs.Pace.{Progress}
 use Rattle.tape.specs.declared.rows.Row.{Row}
 use Rattle.tape.specs.Plan.{Nothing, Cause, failed, ended, Plan, give, refuse, read, write, look, hold, handle, ◌then◌}
 use Rattle.tape.specs.Plan.{refusing, guard}

@@ -3,11 +3,11 @@ pub mod Ends
 pub mod Laws
 pub mod Layouts
 pub mod Loops
-pub mod Lying
 pub mod Converts
 pub mod Room
 pub mod Sending
 pub mod Stops
+pub mod Took
 pub mod Words
 pub mod Values
 pub mod Polls

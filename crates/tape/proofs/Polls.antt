@@ -1,17 +1,17 @@
 -- Polls that are no end of a wait are turns of its loop, and may be counted in one go.
 use Prim.Native.Nat.{ℕ, zero, suc, ◌+◌, ◌-◌, ◌≤◌, ◌<◌, min}
-use mathlib.Core.Path.{◌≡◌, refl, ap, ◌∙◌}
+use mathlib.Core.Path.{◌≡◌, refl, ap, sym, ◌∙◌}
 use mathlib.Core.Bool.{Bool, true, false, cond}
 use mathlib.Core.List.{List, [], ◌∷◌}
 use native.Mathlib.Nat.{sub-zero, zero-add, add-zero}
 use native.Mathlib.Omega.{arith}
-use lib.ListN.{length, get_or, drop, length-drop}
-use lib.Seq.{drop-cons}
+use lib.ListN.{length, get_or, take, drop, length-drop}
+use lib.Seq.{drop-cons, get_or-take, length-take-le}
 use lib.Dec.{ltb}
 use borrow.Author.Tests.{lt-ltb, ltb-true}
-use Rattle.tape.specs.declared.progress.Pace.{Pace}
-use Rattle.tape.specs.declared.progress.Pace.TheVariants.{Going, Stopped}
-use Rattle.tape.specs.declared.progress.Progress.{Progress}
+use Rattle.tape.specs.Pace.{Pace}
+use Rattle.tape.specs.Pace.{Going, Stopped}
+use Rattle.tape.specs.Pace.{Progress}
 use Rattle.tape.specs.declared.rows.Row.{Row}
 use Rattle.tape.specs.declared.script.Reading.{Reading}
 use Rattle.tape.specs.Plan.{Plan}
@@ -41,15 +41,15 @@ module _ {like : ℕ → Bool} {n : ℕ} {ws : List ℕ} where
           let next : suc i ≡ i + 1 = omega arith in
           drop-cons ws i 0 (omega (arith, more)) ∙ ap (λ (k : ℕ). get_or ws i 0 ∷ drop k ws) next
 
-      pub one_led : like (get_or ws i 0) ≡ true → Led like n ws (i + 1)
+      one_led : like (get_or ws i 0) ≡ true → Led like n ws (i + 1)
       unfolding leading
       one_led is = record { within = omega (arith, more); whole = omega (arith, rw (left, there, is) at t.whole) }
 
-      pub led_to : like (get_or ws i 0) ≡ false → i ≡ leading n like ws
+      led_to : like (get_or ws i 0) ≡ false → i ≡ leading n like ws
       unfolding leading
       led_to is = omega (arith, rw (left, there, is) at t.whole)
 
-    pub all_led : min n (length ws) ≤ i → i ≡ leading n like ws
+    all_led : min n (length ws) ≤ i → i ≡ leading n like ws
     unfolding leading
     all_led over = omega (arith, t.whole, none (n - i) (drop i ws) (omega (arith, over, length-drop i ws)))
       where
@@ -57,6 +57,28 @@ module _ {like : ℕ → Bool} {n : ℕ} {ws : List ℕ} where
         none zero vs h = refl
         none (suc m) [] h = refl
         none (suc m) (v ∷ vs) h = absurd (omega (arith, h))
+
+  -- by a loop over the words in front, of which there are m
+  module _ {m : ℕ} (most : m ≡ min (length ws) n) where
+    module _ {i : ℕ} (t : Led like n ws i) (here : i < length (take m ws)) where
+      below : i < m
+      below = let all = length-take-le m ws (omega (arith, most)) in rw all at here
+
+      same : like (get_or ws i 0) ≡ like (get_or (take m ws) i 0)
+      same = ap like (sym (get_or-take m ws i 0 below))
+
+      pub one-more-led : like (get_or (take m ws) i 0) ≡ true → Led like n ws (i + 1)
+      one-more-led is = one_led t (omega (arith, below, most)) (same ∙ is)
+
+      pub led-to-one : like (get_or (take m ws) i 0) ≡ false → i ≡ leading n like ws
+      led-to-one is = led_to t (omega (arith, below, most)) (same ∙ is)
+
+    pub led-to-the-end : {i : ℕ} → Led like n ws i → length (take m ws) ≤ i → m ≡ leading n like ws
+    led-to-the-end {i} t over =
+        let all = length-take-le m ws (omega (arith, most)) in
+        let past : m ≤ i = rw all at over in
+        let end : m ≡ i = omega (arith, t.within, past, most) in
+        end ∙ all_led t (omega (arith, past, most))
 
 -- What the words that lead are like, and the first that does not.
 

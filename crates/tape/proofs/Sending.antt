@@ -10,14 +10,17 @@ use lib.Seq.{get_or-take, get_or-drop, length-take-le}
 use borrow.Author.Tests.{le-ltb, lt-ltb}
 use Rattle.types.specs.Words.{word4, words_of}
 use Rattle.types.proofs.Back.{word-is}
+use Rattle.std.specs.Prelude.{Result}
+use Rattle.tape.specs.declared.progress.Halt.{Halt}
 use Rattle.tape.specs.declared.progress.Halt.TheVariants.{TraceFull}
+use Rattle.tape.specs.declared.progress.Head.{Head}
 use Rattle.tape.specs.declared.progress.Line.{Line}
-use Rattle.tape.specs.declared.progress.Pace.TheVariants.{Going, Stopped}
+use Rattle.tape.specs.Pace.{Going, Stopped}
 use Rattle.tape.specs.declared.rows.Row.{Row}
 use Rattle.tape.specs.Layout.{sent_over}
-use Rattle.tape.specs.Plan.{write, handle, ◌then◌}
+use Rattle.tape.specs.Plan.{Nothing, write, handle, ◌then◌}
 use Rattle.tape.specs.Rows.{FIFO}
-use Rattle.tape.specs.Run.{State, after, noted, run, Did}
+use Rattle.tape.specs.Run.{after, noted, run, Went}
 use Rattle.tape.specs.Steps.{row, send_from}
 
 abbrev pub fifo : ℕ → Row
@@ -119,8 +122,9 @@ module _ (bytes : List ℕ) (k m : ℕ) (whole : m ≡ 512) (there : 512 * k + 5
   block-sent = ap (λ (n : ℕ). send_from (words_of block) 0 (n / 4)) block-long ∙ part_of (words_of bytes) (words_of block) 0 (128 * k) 128 word_of
 
 -- so sending its bytes, lent as a part of the data, sends those
-pub block_did : (bytes : List ℕ) (k : ℕ) {part : List ℕ} {s : List ℕ} {w w' : State} → Did s (send_from (words_of part) 0 (length part / 4)) w w'
-    → part ≡ take 512 (drop (512 * k) bytes) → 512 * k + 512 ≤ length bytes → Did s (send_from (words_of bytes) (128 * k) 128) w w'
-block_did bytes k {part} {s} {w} {w'} did is there =
-    let lent : Did s (send_from (words_of (take 512 (drop (512 * k) bytes))) 0 (length (take 512 (drop (512 * k) bytes)) / 4)) w w' = rw is at did in
+pub block_went : (bytes : List ℕ) (k : ℕ) {part : List ℕ} {s : List ℕ} {h h' : Head} {l l' : List Row} {r : Result Nothing Halt}
+    → Went s (send_from (words_of part) 0 (length part / 4)) h l r h' l'
+    → part ≡ take 512 (drop (512 * k) bytes) → 512 * k + 512 ≤ length bytes → Went s (send_from (words_of bytes) (128 * k) 128) h l r h' l'
+block_went bytes k {part} {s} {h} {h'} {l} {l'} {r} went is there =
+    let lent : Went s (send_from (words_of (take 512 (drop (512 * k) bytes))) 0 (length (take 512 (drop (512 * k) bytes)) / 4)) h l r h' l' = rw is at went in
     rw (← block-sent bytes k 512 refl there) lent

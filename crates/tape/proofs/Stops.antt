@@ -4,9 +4,9 @@ use mathlib.Core.List.{List}
 use mathlib.Core.Path.{◌≡◌, refl, ap, ◌∙◌, sym}
 use Rattle.tape.specs.declared.progress.Halt.{Halt}
 use Rattle.tape.specs.declared.progress.Halt.TheVariants.{Refused, ScriptEnded, TraceFull}
-use Rattle.tape.specs.declared.progress.Pace.{Pace}
-use Rattle.tape.specs.declared.progress.Pace.TheVariants.{Going, Stopped}
-use Rattle.tape.specs.declared.progress.Progress.{Progress}
+use Rattle.tape.specs.Pace.{Pace}
+use Rattle.tape.specs.Pace.{Going, Stopped}
+use Rattle.tape.specs.Pace.{Progress}
 use Rattle.tape.specs.declared.rows.Row.{Row}
 use Rattle.tape.specs.Plan.{Cause, failed, ended, refuse}
 use Rattle.tape.specs.Run.{at, halt_of, stop_at, run, Did}

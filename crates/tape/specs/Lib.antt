@@ -1,5 +1,6 @@
 pub mod Cases
 pub mod Layout
+pub mod Pace
 pub mod Plan
 pub mod Polls
 pub mod Rows

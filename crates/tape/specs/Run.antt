@@ -1,14 +1,13 @@
--- What a plan does to a call under way, on a script. A step's contract says it by `Gave`, or by `Did` where it gives
+-- What a plan does to a call under way, on a script. A step's contract says it by `Took`, or by `Went` where it gives
 -- nothing.
-use Rattle.std.specs.Prelude.{ℕ, ◌+◌, ◌≡◌, Bool, true, cond, List, length, get_or, drop, set, ltb, eqb}
+use Rattle.std.specs.Prelude.{ℕ, ◌+◌, ◌≡◌, Bool, true, cond, List, length, get_or, drop, set, ltb, eqb, Result, Ok, Err}
+use Rattle.std.specs.Borrow.{Bor}
+use Rattle.tape.specs.declared.progress.Head.{Head}
 use Rattle.tape.specs.declared.progress.Halt.{Halt}
 use Rattle.tape.specs.declared.progress.Halt.TheVariants.{Refused, ScriptEnded, TraceFull}
 use Rattle.tape.specs.declared.progress.Line.{Line}
-use Rattle.tape.specs.declared.progress.Pace.{Pace}
-use Rattle.tape.specs.declared.progress.Pace.TheVariants.{Going, Stopped}
-use Rattle.tape.specs.declared.progress.Progress.{Progress}
+use Rattle.tape.specs.Pace.{Pace, Going, Stopped, Progress}
 use Rattle.tape.specs.declared.rows.Row.{Row}
-use Rattle.tape.specs.declared.script.Data.{Data}
 use Rattle.tape.specs.Plan.{Nothing, Cause, failed, ended, Plan, give, refuse, read, write, look, hold}
 use Rattle.tape.specs.Rows.{CLKCR}
 
@@ -61,11 +60,6 @@ unfoldable pub stop_at : Pace → Halt → Pace
 stop_at Going x = Stopped x
 stop_at (Stopped y) x = Stopped y
 
--- data words told by where they lie in a script: n of them from a place on, and (0, 0) where the call has stopped
-pub record Lies (from n : ℕ) (r : Data) : Type 0 where
-  pub place : r.place ≡ kept_at 0 from r.progress.pace
-  pub count : r.count ≡ kept_at 0 n r.progress.pace
-
 module _ (s : List ℕ) where
   -- a plan from a call that is going, with u words used and n rows written; it gives d where it stops. Where no word is left it
   -- goes on as it does then; where there is no room it stops as it is
@@ -115,3 +109,38 @@ Did s p w w' = Gave s Nothing tt p w tt w'
 -- on the script s, from v at w, f or g goes on to v' at w': guards, gates, rescues
 pub record Settled (s : List ℕ) (A B : Type 0) (d : B) (f : A → Plan B) (g : Cause → Plan B) (v : A) (w : State) (v' : B) (w' : State) : Type 0 where
   pub same : record { value = v'; state = w' } ≡ next s d f g v w
+
+-- A STEP has the head of the tape lent, and answers with a value, or with why the call stopped.
+
+-- where a call stands, at this pace
+abbrev pub stand : Pace → Head → Progress
+stand q h = record { pace = q; used = h.used; rows = h.rows; line = h.line }
+
+abbrev pub pace_of : {A : Type 0} → Result A Halt → Pace
+pace_of (Ok v) = Going
+pace_of (Err x) = Stopped x
+
+-- the value of an answer, and d where it is none
+abbrev pub value_of : {A : Type 0} → A → Result A Halt → A
+value_of d (Ok v) = v
+value_of d (Err x) = d
+
+-- a call at this head and list: on its way to a step, and as the step's answer leaves it
+abbrev pub going_at : Head → List Row → State
+going_at h l = at (stand Going h) l
+
+abbrev pub left_at : {A : Type 0} → Result A Halt → Head → List Row → State
+left_at r h l = at (stand (pace_of r) h) l
+
+-- on the script s, p makes of h and l the answer r, h' and l'
+pub record Took (s : List ℕ) (A : Type 0) (d : A) (p : Plan A) (h : Head) (l : List Row) (r : Result A Halt) (h' : Head) (l' : List Row) : Type 0 where
+  pub gave : Gave s A d p (going_at h l) (value_of d r) (left_at r h' l')
+
+-- the same, of a plan that gives nothing
+abbrev pub Went : List ℕ → Plan Nothing → Head → List Row → Result Nothing Halt → Head → List Row → Type 0
+Went s p h l r h' l' = Took s Nothing tt p h l r h' l'
+
+-- lent words, as the list that they are
+abbrev pub words_in : Result (Bor (List ℕ)) Halt → Result (List ℕ) Halt
+words_in (Ok lent) = Ok lent.now
+words_in (Err x) = Err x

@@ -2,10 +2,10 @@
 ghost use Rattle.std.specs.Prelude.{◌≡◌, List, cond, ℕ, ◌≤◌};
 ghost use Rattle.tape.specs.Layout.{word_of, row_of, rows_in};
 ghost use Rattle.tape.specs.Rows.{clken_of, clkcr_of, cmd_of, dctrl_of};
-ghost use Rattle.tape.specs.Run.{at, Did};
+ghost use Rattle.tape.specs.Run.{Went};
 ghost use Rattle.tape.specs.Steps.{row};
 
-use crate::progress::{Halt, Pace, Progress};
+use crate::progress::{Halt, Head};
 use types::clock::Clock;
 
 // A row: a register and the value written to it.
@@ -113,30 +113,17 @@ impl DataControl {
 }
 
 // Writes one row.
-pub fn write_row(p: Progress, rows: &mut [u64], register: u32, value: u32) -> Progress
-    ensures { (s : List ℕ) → Did s (row register value) (at p (rows_in rows.old)) (at result (rows_in rows.new)) }
+pub fn write_row(head: &mut Head, rows: &mut [u64], register: u32, value: u32) -> Result<(), Halt>
+    ensures { (s : List ℕ) → Went s (row register value) head.old (rows_in rows.old) result head.new (rows_in rows.new) }
 {
-    let pace = p.pace;
-    let line = p.line;
-    let Pace::Going = pace else {
-        return p;
-    };
-    let n = p.rows;
-    let row = Row {
-        register: register,
-        value: value,
-    };
-    if n < rows.len() {
-        rows[n] = row.word();
-        let held = line.noted(register, value);
-        Progress {
-            pace: Pace::Going,
-            used: p.used,
-            rows: n + 1,
-            line: held,
-        }
+    let row = Row { register, value };
+    if head.rows < rows.len() {
+        rows[head.rows] = row.word();
+        head.rows += 1;
+        head.line.note(row);
+        Ok(())
     } else {
-        p.stopped(Halt::TraceFull)
+        Err(Halt::TraceFull)
     }
 }
 

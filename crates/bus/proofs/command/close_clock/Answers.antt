@@ -1,5 +1,5 @@
 use mathlib.Core.Path.{ap, ◌∙◌}
-use Rattle.tape.specs.declared.progress.Pace.TheVariants.{Stopped}
+use Rattle.tape.specs.Pace.{Stopped}
 use Rattle.tape.proofs.Laws.{seq, refusal, settled-value, settled-refusal, settled-full}
 use Rattle.tape.proofs.Stops.{caused, stops}
 use Rattle.bus.proofs.command.close_clock.Goals as goal

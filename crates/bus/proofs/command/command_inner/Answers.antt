@@ -1,7 +1,7 @@
 use mathlib.Core.List.{[]}
 use mathlib.Core.Path.{ap}
 use native.Mathlib.Omega.{arith}
-use Rattle.tape.specs.declared.progress.Progress.{Progress}
+use Rattle.tape.specs.Pace.{Progress}
 use Rattle.bus.specs.Command.{command_inner}
 use Rattle.tape.proofs.Laws.{seq, dry, read-on, from-stopped, still-going}
 use Rattle.bus.proofs.command.command_inner.Goals as goal

@@ -9,9 +9,9 @@ use borrow.Author.Tests.{ltb-true}
 use Rattle.types.specs.declared.error.Error.TheVariants as E
 use Rattle.types.specs.Bits.{clear}
 use Rattle.tape.specs.declared.rows.Row.{Row}
-use Rattle.tape.specs.declared.progress.Pace.{Pace}
-use Rattle.tape.specs.declared.progress.Pace.TheVariants.{Going, Stopped}
-use Rattle.tape.specs.declared.progress.Progress.{Progress}
+use Rattle.tape.specs.Pace.{Pace}
+use Rattle.tape.specs.Pace.{Going, Stopped}
+use Rattle.tape.specs.Pace.{Progress}
 use Rattle.tape.specs.declared.script.Reading.TheVariants as Reading
 use Rattle.tape.specs.Plan.{give, fail, handle, ensure, until, ◌then◌}
 use Rattle.tape.specs.Polls.{leading}

@@ -3,7 +3,7 @@ use mathlib.Core.List.{List}
 use mathlib.Core.Path.{◌≡◌}
 use mathlib.Core.Bool.{Bool, false}
 use Prim.Native.Nat.{ℕ, ◌-◌}
-use Rattle.tape.specs.declared.progress.Progress.{Progress}
+use Rattle.tape.specs.Pace.{Progress}
 use Rattle.bus.specs.Ready.{try_ready}
 use Rattle.tape.specs.Run.{at}
 use Rattle.tape.proofs.Loops.{Turned}

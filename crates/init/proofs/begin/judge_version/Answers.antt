@@ -1,5 +1,5 @@
 use mathlib.Core.Path.{ap, sym, refl, ◌∙◌}
-use Rattle.tape.specs.declared.progress.Pace.TheVariants.{Stopped}
+use Rattle.tape.specs.Pace.{Stopped}
 use Rattle.init.specs.Initialise.{late}
 use Rattle.tape.proofs.Laws.{stay, from-going, on_true, on_false, settled-value, settled-refusal, settled-full}
 use Rattle.tape.specs.Plan.{failed, ended}

@@ -3,7 +3,7 @@ use mathlib.Core.List.{List}
 use mathlib.Core.Path.{◌≡◌}
 use mathlib.Core.Bool.{Bool}
 use Prim.Native.Nat.{ℕ, ◌-◌}
-use Rattle.tape.specs.declared.progress.Progress.{Progress}
+use Rattle.tape.specs.Pace.{Progress}
 use Rattle.init.specs.declared.settings.Settings.{Settings}
 use Rattle.tape.specs.Run.{at}
 use Rattle.init.specs.Initialise.{powered_up, try_power_up}

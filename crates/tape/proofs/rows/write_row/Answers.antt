@@ -4,21 +4,17 @@ use lib.ListN.{length}
 use Rattle.tape.specs.declared.rows.Row.{Row}
 use Rattle.tape.specs.Run.{run}
 use Rattle.tape.specs.Steps.{row}
-use Rattle.tape.proofs.Laws.{from-going, from-stopped}
 use Rattle.tape.proofs.Layouts.{Fits, row-stored, rows_long}
+use Rattle.tape.proofs.Took.{took}
 use Rattle.tape.proofs.rows.write_row.Goals as goal
 
-pub returns-in_default : goal.returns-in_default
-returns-in_default c = λ s. from-stopped c.in_default.is
-
-pub returns-then-n-rows : goal.returns-then-n-rows
+pub returns-then-head-rows : goal.returns-then-head-rows
 unfolding run row
-returns-then-n-rows c = let a = c.args in
+returns-then-head-rows c = let a = c.args in
     let written : Row = record { register = a.register; value = a.value } in
     let fits : Fits written = omega (arith, c.ranges.value) in
-    λ s. from-going c.in-Going.is
-    (rw (c.noted-held.ensures, c.word.ensures, row-stored a.rows.now a.p.rows written fits, rows_long a.rows.now, lt-ltb a.p.rows (length a.rows.now) c.if-n-rows.true))
+    λ s. took (rw (c.note.ensures, c.word.ensures, row-stored a.rows.now a.head.now.rows written fits, rows_long a.rows.now, lt-ltb a.head.now.rows (length a.rows.now) c.if-head-rows.true))
 
-pub returns-else-n-rows : goal.returns-else-n-rows
+pub returns-else-head-rows : goal.returns-else-head-rows
 unfolding run row
-returns-else-n-rows c = λ s. from-going c.in-Going.is (rw (rows_long _, le-ltb _ _ c.if-n-rows.false, c.stopped.ensures))
+returns-else-head-rows c = λ s. took (rw (rows_long _, le-ltb _ _ c.if-head-rows.false))

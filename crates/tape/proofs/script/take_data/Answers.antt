@@ -10,13 +10,14 @@ use native.Mathlib.Decide.{dec_lt}
 use borrow.Author.Tests.{le-ltb, lt-ltb}
 use Rattle.tape.specs.declared.progress.Halt.TheVariants.{ScriptEnded}
 use Rattle.tape.specs.declared.progress.Line.{Line}
-use Rattle.tape.specs.declared.progress.Pace.TheVariants.{Going, Stopped}
+use Rattle.tape.specs.Pace.{Going, Stopped}
 use Rattle.tape.specs.declared.rows.Row.{Row}
 use Rattle.tape.specs.Plan.{give, refuse, handle}
-use Rattle.tape.specs.Run.{After, after, kept_at, next, next_at, run}
+use Rattle.tape.specs.Run.{After, after, next, next_at, run}
 use Rattle.tape.specs.Steps.{word, data_from}
-use Rattle.tape.proofs.Behind.{left-used}
-use Rattle.tape.proofs.Laws.{run-handle, from-going, from-stopped}
+use Rattle.tape.proofs.Behind.{left-used, further}
+use Rattle.tape.proofs.Laws.{run-handle}
+use Rattle.tape.proofs.Took.{took}
 use Rattle.tape.proofs.script.take_data.Goals as goal
 
 -- n words one after the other, from a call that has taken u
@@ -56,27 +57,17 @@ module _ (s : List ℕ) where
           let all : u + (length s - u) ≡ u = omega arith in
           rw (le-ltb u (length s) (omega arith), all)
 
-pub returns-in_default : goal.returns-in_default
-unfolding kept_at
-returns-in_default c = let stopped = c.in_default.is in
-    record { took = λ s l part. from-stopped stopped; lie = record { place = rw stopped; count = rw stopped } }
-
 pub returns-then-more-count : goal.returns-then-more-count
-unfolding kept_at
 returns-then-more-count c = let a = c.args in
-    let more : c.left_from-more.result ≡ length a.rest.now - (a.p.used - a.start) = c.left_from-more.ensures in record {
-      took = λ s l part.
-          let left = more ∙ sym (left-used part c.requires.0) in
-          from-going c.in-Going.is (rw left (sym (ended s 0 _ _ _ _ l (omega (arith, left)))));
-      lie = record { place = refl; count = refl };
-    }
+    let more : c.left_from-more.result ≡ length a.rest.now - (a.head.now.used - a.start) = c.left_from-more.ensures in
+    λ s l part.
+        let left = more ∙ sym (left-used part c.requires.0) in
+        took (rw left (sym (ended s 0 _ _ _ _ l (omega (arith, left)))))
 
 pub returns : goal.returns
-unfolding kept_at
 returns c = let a = c.args in
-    let more : c.left_from-more.result ≡ length a.rest.now - (a.p.used - a.start) = c.left_from-more.ensures in record {
-      took = λ s l part.
-          let left = more ∙ sym (left-used part c.requires.0) in
-          from-going c.in-Going.is (sym (there s 0 _ _ _ _ l (omega (arith, left))));
-      lie = record { place = refl; count = refl };
-    }
+    let more : c.left_from-more.result ≡ length a.rest.now - (a.head.now.used - a.start) = c.left_from-more.ensures in
+    λ s l part.
+        let left = more ∙ sym (left-used part c.requires.0) in
+        let lent = (further part c.requires.0 c.rest-left.ensures.part).part in
+        took (rw lent (sym (there s 0 _ _ _ _ l (omega (arith, left)))))

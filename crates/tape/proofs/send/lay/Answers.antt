@@ -4,7 +4,7 @@ use mathlib.Core.List.{List}
 use native.Mathlib.Omega.{arith}
 use native.Mathlib.Numerals.{add-one}
 use native.Mathlib.Nat.{zero-add}
-use lib.ListN.{set, length-set}
+use lib.ListN.{set}
 use Rattle.types.specs.Words.{words_of}
 use Rattle.tape.specs.declared.rows.Row.{Row}
 use Rattle.tape.specs.Layout.{rows_in, sent_over}
@@ -15,27 +15,17 @@ use Rattle.tape.proofs.send.lay.Goals as goal
 
 pub loop-i-init : goal.loop-i-init
 unfolding sent_over
-loop-i-init c = (refl, omega arith, refl)
+loop-i-init c = refl
 
 pub loop-i-preserved : goal.loop-i-preserved
 loop-i-preserved c = let ws = words_of c.args.bytes.now in
     let l = rows_in c.args.rows.now in
     let place = c.args.place in
     let i = c.loop-i.i in
-    let value = word_made c.args.bytes.now i _ (omega (arith, c.requires)) c.little.ensures in
-    let fits : c.little.result < 2 ^ 32 = search rules in (
-      rw c.word.ensures
-          (row-stored c.loop-i.rows (place + i) (fifo c.little.result) fits
-          ∙ ap (λ (rs : List Row). set rs (place + i) (fifo c.little.result)) c.loop-i.invariant.0
-          ∙ ap (λ (w : ℕ). set (sent_over ws 0 i place l) (place + i) (fifo w)) value
-          ∙ rw (add-one i) (rw (zero-add i) at (sent-more ws 0 i place l))),
-      omega arith,
-      simp length-set c.loop-i.invariant.2,
-    )
-
-pub returns : goal.returns
-returns c = let done : c.loop-i.i ≡ c.args.count = omega arith in
-    rw done at c.loop-i.invariant.0
-
-pub shape_of-rows : goal.shape_of-rows
-shape_of-rows c = c.loop-i.invariant.2
+    let value = word_made c.args.bytes.now i _ (omega (arith, c.requires.count_in_bounds_2)) c.little.ensures in
+    let fits : c.little.result < 2 ^ 32 = search rules in
+    rw c.word.ensures
+        (row-stored c.loop-i.rows (place + i) (fifo c.little.result) fits
+        ∙ ap (λ (rs : List Row). set rs (place + i) (fifo c.little.result)) c.loop-i.invariant
+        ∙ ap (λ (w : ℕ). set (sent_over ws 0 i place l) (place + i) (fifo w)) value
+        ∙ rw (add-one i) (rw (zero-add i) at (sent-more ws 0 i place l)))

@@ -1,12 +1,7 @@
-use Prim.Native.Nat.{◌-◌, ◌≤◌}
 use mathlib.Core.Path.{◌≡◌}
-use lib.ListN.{length}
 use Rattle.types.specs.Words.{words_of}
 use Rattle.tape.specs.Layout.{rows_in, sent_over}
 use Rattle.tape.proofs.send.lay.Given as goal
 
 abbrev pub invariant-loop-i : goal.invariant-loop-i
-invariant-loop-i l = (rows_in l.rows ≡ sent_over (words_of l.bytes) 0 l.i l.place (rows_in l.initial.rows)) × (l.i ≤ l.count) × (length l.rows ≡ length l.initial.rows)
-
-abbrev pub decreases-loop-i : goal.decreases-loop-i
-decreases-loop-i l = l.count - l.i
+invariant-loop-i l = rows_in l.rows ≡ sent_over (words_of l.bytes) 0 l.i l.place (rows_in l.initial.rows)

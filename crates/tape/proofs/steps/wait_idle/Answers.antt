@@ -6,8 +6,8 @@ use native.Mathlib.Omega.{arith}
 use lib.ListN.{length, get_or}
 use Rattle.types.specs.Bits.{clear}
 use Rattle.types.specs.declared.error.Error.TheVariants.{SoftwareTimeout}
-use Rattle.tape.specs.declared.progress.Pace.TheVariants.{Going}
-use Rattle.tape.specs.declared.progress.Progress.{Progress}
+use Rattle.tape.specs.Pace.{Going}
+use Rattle.tape.specs.Pace.{Progress}
 use Rattle.tape.specs.declared.rows.Row.{Row}
 use Rattle.tape.specs.declared.script.Reading.TheVariants.{Status}
 use Rattle.tape.specs.Plan.{fail}
@@ -15,7 +15,8 @@ use Rattle.tape.specs.Run.{at, Behind, Did, Gave}
 use Rattle.tape.specs.Polls.{leading}
 use Rattle.tape.specs.Steps.{word, idle_mask, wait_idle}
 use Rattle.tape.proofs.Behind.{at_place, out-of-place}
-use Rattle.tape.proofs.Laws.{refusal, forget, from-stopped}
+use Rattle.tape.proofs.Laws.{refusal, forget}
+use Rattle.tape.proofs.Took.{passed, refuses}
 use Rattle.tape.proofs.Loops.{Turned, last_turn, out-of-turns}
 use Rattle.tape.proofs.Polls.{on, counted-within, leads-to, read-turns, read-over}
 use Rattle.tape.proofs.steps.wait_idle.Goals as goal
@@ -52,23 +53,20 @@ module _ («data» : Bool) (limit : ℕ) {rest s : List ℕ} {p q : Progress} {n
   unfolding wait_idle
   spent out e = forget (out-of-turns turns out (refusal e))
 
-pub returns-in_default : goal.returns-in_default
-unfolding wait_idle
-returns-in_default c = λ s l part. from-stopped c.in_default.is
+pub overflow_add-head : goal.overflow_add-head
+overflow_add-head c = omega (arith, counted-within _ c.args.limit c.args.rest.now c.busy-busy.ensures, c.requires)
 
-pub moved-polled-requires : goal.moved-polled-requires
-moved-polled-requires c = omega (arith, counted-within _ c.args.limit c.args.rest.now c.busy-busy.ensures, c.requires)
-
-pub read_word-status-requires : goal.read_word-status-requires
-read_word-status-requires c = let used = ap (λ (x : Progress). x.used) c.moved-polled.ensures in
-    (omega (arith, used), c.requires)
+pub returns-in_err-read_word : goal.returns-in_err-read_word
+returns-in_err-read_word c = λ s l part. passed c.from_residual.ensures.1 (record {
+    gave = found c.args.data c.args.limit refl part (rw c.idle_mask.ensures at c.busy-busy.ensures) refl c.if-busy-limit.true (c.in_err-read_word.ensures Status s l part).gave
+  })
 
 pub returns-then-busy-limit : goal.returns-then-busy-limit
-returns-then-busy-limit c = λ s l part.
-    found c.args.data c.args.limit c.in-Going.is part
-    (rw c.idle_mask.ensures at c.busy-busy.ensures) c.moved-polled.ensures c.if-busy-limit.true (c.read_word-status.ensures Status s l part)
+returns-then-busy-limit c = λ s l part. record {
+    gave = found c.args.data c.args.limit refl part (rw c.idle_mask.ensures at c.busy-busy.ensures) refl c.if-busy-limit.true (c.in_ok-read_word.ensures Status s l part).gave
+  }
 
 pub returns : goal.returns
-returns c = λ s l part.
-    spent c.args.data c.args.limit c.in-Going.is part
-    (rw c.idle_mask.ensures at c.busy-busy.ensures) c.moved-polled.ensures c.if-busy-limit.false (c.refuse.ensures s l)
+returns c = λ s l part. record {
+    gave = spent c.args.data c.args.limit refl part (rw c.idle_mask.ensures at c.busy-busy.ensures) refl c.if-busy-limit.false refuses.gave
+  }

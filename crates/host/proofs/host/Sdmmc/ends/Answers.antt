@@ -1,7 +1,7 @@
 use mathlib.Core.Path.{◌≡◌, refl, ap, ◌∙◌}
 use Prim.Native.Nat.{ℕ}
 use Rattle.types.specs.declared.error.Answer.{Answer}
-use Rattle.tape.specs.declared.progress.Pace.TheVariants.{Stopped}
+use Rattle.tape.specs.Pace.{Stopped}
 use Rattle.host.specs.declared.host.Called.{Called}
 use Rattle.host.specs.declared.host.Sdmmc.{Sdmmc}
 use Rattle.host.specs.Calls.{ends}
