@@ -1,2 +1,1 @@
 pub mod Decoded
-pub mod Told

@@ -1,20 +1,13 @@
 -- An answer as one 64-bit number, for C: the answer's number (document 01) in the top byte, its value in the seven below:
 -- where it was refused the field at 13, and 0 elsewhere. proofs/Decoded.antt shows that both can be read off again.
-use Rattle.std.specs.Prelude.{ℕ, ◌+◌, ◌*◌, ◌^◌, cond, eqb, ltb}
-use Rattle.types.specs.declared.card.AddressAnswer.{AddressAnswer}
-use Rattle.types.specs.declared.card.AddressAnswer.TheVariants as Address
+use Rattle.std.specs.Prelude.{ℕ, ◌+◌, ◌*◌, ◌^◌, cond, eqb, ltb, Result, Ok, Err}
+use Rattle.types.specs.declared.register.BlockCount.{BlockCount}
 use Rattle.types.specs.declared.card.CardCapacity.{CardCapacity}
 use Rattle.types.specs.declared.card.CardCapacity.TheVariants.{SDSC, SDHC}
 use Rattle.types.specs.declared.clock.Clock.{Clock}
-use Rattle.types.specs.declared.clock.ClockAnswer.{ClockAnswer}
-use Rattle.types.specs.declared.clock.ClockAnswer.TheVariants as Set
 use Rattle.types.specs.declared.error.Error.{Error}
 use Rattle.types.specs.declared.error.Error.TheVariants.{UnsupportedCardType}
 use Rattle.types.specs.declared.error.Field.TheVariants.{RateReservedBit}
-use Rattle.types.specs.declared.register.CountAnswer.{CountAnswer}
-use Rattle.types.specs.declared.register.CountAnswer.TheVariants as Count
-use Rattle.types.specs.declared.register.RateAnswer.{RateAnswer}
-use Rattle.types.specs.declared.register.RateAnswer.TheVariants as Rate
 use Rattle.types.specs.Answer.{flag, error_told, carried}
 use Rattle.types.specs.Leaf.{rate_of}
 
@@ -29,28 +22,28 @@ refused_word e = packed (error_told e).number (carried (error_told e))
 abbrev pub clock_value : Clock → ℕ
 clock_value c = flag c.bypass * 2 ^ 40 + (c.divisor * 2 ^ 32 + c.frequency.0)
 
-unfoldable pub clock_word : ClockAnswer → ℕ
-clock_word (Set.Set c) = packed 0 (clock_value c)
-clock_word (Set.Refused e) = refused_word e
+unfoldable pub clock_word : Result Clock Error → ℕ
+clock_word (Ok c) = packed 0 (clock_value c)
+clock_word (Err e) = refused_word e
 
 -- blocks of 512 bytes
-unfoldable pub count_word : CountAnswer → ℕ
-count_word (Count.Blocks n) = packed 0 n.0
-count_word (Count.Refused e) = refused_word e
+unfoldable pub count_word : Result BlockCount Error → ℕ
+count_word (Ok n) = packed 0 n.0
+count_word (Err e) = refused_word e
 
 -- bits a second
-unfoldable pub rate_word : RateAnswer → ℕ
-rate_word (Rate.Rate n) = packed 0 n
-rate_word (Rate.Refused e) = refused_word e
+unfoldable pub rate_word : Result ℕ Error → ℕ
+rate_word (Ok n) = packed 0 n
+rate_word (Err e) = refused_word e
 
 -- what is no byte is refused like a byte with its reserved bit set
-unfoldable pub rate_at : ℕ → RateAnswer
-rate_at encoded = cond (ltb 255 encoded) (Rate.Refused (UnsupportedCardType RateReservedBit)) (rate_of encoded)
+unfoldable pub rate_at : ℕ → Result ℕ Error
+rate_at encoded = cond (ltb 255 encoded) (Err (UnsupportedCardType RateReservedBit)) (rate_of encoded)
 
 -- the argument of the read command
-unfoldable pub address_word : AddressAnswer → ℕ
-address_word (Address.Address a) = packed 0 a
-address_word (Address.Refused e) = refused_word e
+unfoldable pub address_word : Result ℕ Error → ℕ
+address_word (Ok a) = packed 0 a
+address_word (Err e) = refused_word e
 
 -- 0 is standard capacity, anything else is high capacity
 abbrev pub class_of : ℕ → CardCapacity

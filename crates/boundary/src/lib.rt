@@ -7,10 +7,10 @@ ghost use Rattle.std.specs.Prelude.{◌≡◌, not, ◌+◌, ◌*◌, ◌^◌, e
 ghost use Rattle.types.specs.Leaf.{clock_of, count_of, address_of};
 ghost use Rattle.boundary.specs.Packed.{refused_word, clock_word, clock_value, count_word, rate_word, rate_at, address_word, class_of};
 
-use types::card::{AddressAnswer, CardCapacity, block_address};
-use types::clock::{Clock, ClockAnswer, Hertz, clock_setting};
+use types::card::{CardCapacity, block_address};
+use types::clock::{Clock, Hertz, clock_setting};
 use types::error::{Error, Field};
-use types::register::{BlockCount, CountAnswer, RateAnswer, Wide, block_count, transfer_rate};
+use types::register::{BlockCount, Wide, block_count, transfer_rate};
 
 fn refused(error: Error) -> u64
     ensures { result ≡ refused_word error }
@@ -18,6 +18,7 @@ fn refused(error: Error) -> u64
     error.number() as u64 * 0x100_0000_0000_0000 + error.word() as u64
 }
 
+#[tactic(auto, using(std::proofs::lemmas::Bool::Decides::nat_tests))]
 fn clock_value(clock: Clock) -> u64
     ensures { result ≡ clock_value clock }
 {
@@ -29,6 +30,7 @@ fn clock_value(clock: Clock) -> u64
     }
 }
 
+#[tactic(auto, using(std::proofs::lemmas::Bool::Decides::nat_tests))]
 fn class(high_capacity: u32) -> CardCapacity
     ensures { result ≡ class_of high_capacity }
 {
@@ -39,17 +41,19 @@ fn class(high_capacity: u32) -> CardCapacity
     }
 }
 
+#[tactic(auto, unfolding(crate::specs::Packed::clock_word))]
 #[unsafe(no_mangle)]
 pub extern "C" fn boresacu_clock_setting(source: u32, requested: u32, allow_bypass: u32) -> u64
     ensures { result ≡ clock_word (clock_of source requested (not (eqb allow_bypass 0))) }
 {
     let answer = clock_setting(Hertz(source), Hertz(requested), allow_bypass != 0);
     match answer {
-        ClockAnswer::Set(clock) => clock_value(clock),
-        ClockAnswer::Refused(error) => refused(error),
+        Ok(clock) => clock_value(clock),
+        Err(error) => refused(error),
     }
 }
 
+#[tactic(auto, unfolding(crate::specs::Packed::count_word))]
 #[unsafe(no_mangle)]
 pub extern "C" fn boresacu_block_count(csd_high: u64, csd_low: u64) -> u64
     ensures { result ≡ count_word (count_of (csd_high * 2 ^ 64 + csd_low)) }
@@ -59,12 +63,13 @@ pub extern "C" fn boresacu_block_count(csd_high: u64, csd_low: u64) -> u64
         low: csd_low,
     });
     match answer {
-        CountAnswer::Blocks(count) => count.0,
-        CountAnswer::Refused(error) => refused(error),
+        Ok(count) => count.0,
+        Err(error) => refused(error),
     }
 }
 
 // A number over 255 is no byte: it is refused like the byte's reserved bit.
+#[tactic(auto, using(std::proofs::lemmas::Bool::Decides::nat_tests), unfolding(crate::specs::Packed::rate_word, crate::specs::Packed::rate_at))]
 #[unsafe(no_mangle)]
 pub extern "C" fn boresacu_transfer_rate(encoded: u32) -> u64
     ensures { result ≡ rate_word (rate_at encoded) }
@@ -74,11 +79,12 @@ pub extern "C" fn boresacu_transfer_rate(encoded: u32) -> u64
     }
     let answer = transfer_rate(encoded as u8);
     match answer {
-        RateAnswer::Rate(rate) => rate as u64,
-        RateAnswer::Refused(error) => refused(error),
+        Ok(rate) => rate as u64,
+        Err(error) => refused(error),
     }
 }
 
+#[tactic(auto, unfolding(crate::specs::Packed::address_word))]
 #[unsafe(no_mangle)]
 pub extern "C" fn boresacu_block_address(
     high_capacity: u32,
@@ -95,7 +101,7 @@ pub extern "C" fn boresacu_block_address(
         count as usize,
     );
     match answer {
-        AddressAnswer::Address(address) => address as u64,
-        AddressAnswer::Refused(error) => refused(error),
+        Ok(address) => address as u64,
+        Err(error) => refused(error),
     }
 }

@@ -10,28 +10,6 @@ pub struct Reader<'a> {
     pub place: usize,
 }
 
-// The word at this place.
-fn word_at(script: &[u32], place: usize) -> Option<u32>
-    ensures { result ≡ word_at script.now place }
-{
-    if place < script.len() {
-        Some(script[place])
-    } else {
-        None
-    }
-}
-
-// How many words are left from this place on, none past the end.
-fn left_at(script: &[u32], place: usize) -> usize
-    ensures { result ≡ left_at script.now place }
-{
-    if place < script.len() {
-        script.len() - place
-    } else {
-        0
-    }
-}
-
 impl<'a> Reader<'a> {
     // At the script's start.
     pub fn new(script: &'a [u32]) -> Reader<'a>
@@ -54,27 +32,28 @@ impl<'a> Reader<'a> {
     pub fn here(self) -> Option<u32>
         ensures { result ≡ word_at self.entry.script.now self.entry.place }
     {
-        word_at(self.script, self.place)
+        word(self.script, self.place)
     }
 
     // How many words are left from its place on.
     pub fn left(self) -> usize
         ensures { result ≡ left_at self.entry.script.now self.entry.place }
     {
-        left_at(self.script, self.place)
+        left_from(self.script, self.place)
     }
 }
 
-// What a reader of this script finds at this place. Whoever calls this function or the next holds no reader.
+// What a reader of this script finds at this place: none at the script's end. Whoever calls this function or the next holds
+// no reader.
 pub fn word(script: &[u32], place: usize) -> Option<u32>
     ensures { result ≡ word_at script.now place }
 {
-    Reader::new(script).moved(place).here()
+    script.get(place).copied()
 }
 
-// How many words a reader of this script has left from this place on.
+// How many words a reader of this script has left from this place on, none past the end.
 pub fn left_from(script: &[u32], place: usize) -> usize
     ensures { result ≡ left_at script.now place }
 {
-    Reader::new(script).moved(place).left()
+    script.len().saturating_sub(place)
 }

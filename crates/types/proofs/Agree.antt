@@ -1,4 +1,6 @@
 -- Document 01's arithmetic agrees with SD's fields: capacity, rate, address and write protection follow the SD specification.
+use Rattle.std.specs.Prelude.{Result, Ok, Err}
+use Rattle.types.specs.declared.register.BlockCount.{BlockCount}
 use Prim.Native.Nat.{ℕ, zero, suc, ◌+◌, ◌*◌, ◌-◌, ◌/◌, ◌^◌, ◌<◌, ◌≤◌}
 use mathlib.Core.Bool.{Bool, true, false, cond, ◌||◌}
 use mathlib.Core.List.{List, [], ◌∷◌, map}
@@ -11,10 +13,6 @@ use lib.Pow.{pow-add, shr-shr}
 use borrow.Author.Tests.{eqb-false, ltb-true, ltb-false, lt-ltb, le-ltb, ne_eqb}
 use Rattle.types.specs.declared.card.CardCapacity.{CardCapacity}
 use Rattle.types.specs.declared.card.CardCapacity.TheVariants.{SDSC, SDHC}
-use Rattle.types.specs.declared.card.AddressAnswer.TheVariants as Address
-use Rattle.types.specs.declared.register.CountAnswer.{CountAnswer}
-use Rattle.types.specs.declared.register.CountAnswer.TheVariants as Count
-use Rattle.types.specs.declared.register.RateAnswer.TheVariants as Rate
 use Rattle.types.specs.declared.error.Error.{Error}
 use Rattle.types.specs.declared.error.Error.TheVariants.{UnsupportedCardType, InvalidBufferLength, AddressOutOfRange}
 use Rattle.types.specs.declared.error.Field.{Field}
@@ -61,14 +59,14 @@ whole-blocks n m l h =
 half_megabytes : (n : ℕ) → n * (512 * 1024) ≡ n * 1024 * 512
 half_megabytes n = omega arith
 
-abbrev blocks : ℕ → CountAnswer
-blocks n = Count.Blocks (record { 0 = n })
+abbrev blocks : ℕ → Result BlockCount Error
+blocks n = Ok (record { 0 = n })
 
-abbrev refused : Field → CountAnswer
-refused field = Count.Refused (UnsupportedCardType field)
+abbrev refused : Field → Result BlockCount Error
+refused field = Err (UnsupportedCardType field)
 
 -- an answer, and SD's capacity: so many blocks where SD has so many times 512 bytes; refused, with this field, where SD has none
-pub data AsSd (field : Field) : CountAnswer → Code ℕ → Type 0 where
+pub data AsSd (field : Field) : Result BlockCount Error → Code ℕ → Type 0 where
   has : (n : ℕ) → AsSd field (blocks n) (means (n * 512))
   has-none : AsSd field (refused field) reserved
 
@@ -82,10 +80,10 @@ module _ (csd : ℕ) where
   length-is : (version : Version) → length_code version ≡ by_length version (read_bl_len csd)
   length-is version = listed (block_lengths version) (by_length version) 16 (length-codes version) (read_bl_len csd) (omega arith)
 
-  abbrev count1 : CountAnswer
+  abbrev count1 : Result BlockCount Error
   count1 = blocks ((c_size1 csd + 1) * 2 ^ (c_size_mult csd + 2 + (read_bl_len csd - 9)))
 
-  abbrev count2 : CountAnswer
+  abbrev count2 : Result BlockCount Error
   count2 = blocks ((c_size2 csd + 1) * 1024)
 
   version_1 : AsSd BlockLength (cond (ltb (read_bl_len csd) 9 || ltb 11 (read_bl_len csd)) (refused BlockLength) count1) (bytes_by csd version1 (length_code version1))
@@ -167,16 +165,16 @@ rate byte =
     tenths = get_or rate_tenths (bits byte 6 3) 0
 
     by : (top over none : Bool)
-        → cond top (Rate.Refused (UnsupportedCardType RateReservedBit))
-        (cond over (Rate.Refused (UnsupportedCardType RateUnit))
-        (cond none (Rate.Refused (UnsupportedCardType RateValue)) (Rate.Rate (unit / 10 * tenths))))
-        ≡ cond top (Rate.Refused (UnsupportedCardType RateReservedBit))
+        → cond top (Err (UnsupportedCardType RateReservedBit))
+        (cond over (Err (UnsupportedCardType RateUnit))
+        (cond none (Err (UnsupportedCardType RateValue)) (Ok (unit / 10 * tenths))))
+        ≡ cond top (Err (UnsupportedCardType RateReservedBit))
         (rate_by (cond over reserved (means (unit / 1_000))) (cond none reserved (means tenths)))
     by true over none = refl
     by false true none = refl
     by false false true = refl
     by false false false =
-        ap Rate.Rate (ap (λ (x : ℕ). x * tenths) (tens (bits byte 2 0)) ∙ scaled (unit / 1_000) tenths)
+        ap Ok (ap (λ (x : ℕ). x * tenths) (tens (bits byte 2 0)) ∙ scaled (unit / 1_000) tenths)
 
 -- Fields: a capacity is refused for its version or its block length, a rate for one of its three fields, and for nothing else;
 -- and what it is refused for is at fault by SD's codes.
@@ -186,12 +184,12 @@ pub data CountFault (csd : ℕ) : Error → Type 0 where
   of_length : at_fault BlockLength csd ≡ true → CountFault csd (UnsupportedCardType BlockLength)
 
 -- refused, then SD has none, and the field is that one
-refused_as : {field : Field} {a : CountAnswer} {c : Code ℕ} {e : Error} → AsSd field a c → a ≡ Count.Refused e
+refused_as : {field : Field} {a : Result BlockCount Error} {c : Code ℕ} {e : Error} → AsSd field a c → a ≡ Err e
     → (UnsupportedCardType field ≡ e) × (c ≡ reserved)
 refused_as (has n) r = let z : ◌≡◌ {A = ℕ} 0 1 = cc in absurd (omega arith)
 refused_as has-none r = (cc, refl)
 
-pub count_fault : (csd : ℕ) (e : Error) → count_of csd ≡ Count.Refused e → CountFault csd e
+pub count_fault : (csd : ℕ) (e : Error) → count_of csd ≡ Err e → CountFault csd e
 unfolding sd_capacity capacity_by bytes_by at_fault length_fault is_reserved
 count_fault csd e r =
     let f = refused_as (capacity csd) r in
@@ -212,20 +210,20 @@ pub data RateFault (csd : ℕ) : Error → Type 0 where
   of-unit : at_fault RateUnit csd ≡ true → RateFault csd (UnsupportedCardType RateUnit)
   of-value : at_fault RateValue csd ≡ true → RateFault csd (UnsupportedCardType RateValue)
 
-pub rate_fault : (csd : ℕ) (e : Error) → rate_of (tran_speed csd) ≡ Rate.Refused e → RateFault csd e
+pub rate_fault : (csd : ℕ) (e : Error) → rate_of (tran_speed csd) ≡ Err e → RateFault csd e
 unfolding sd_rate rate_by at_fault is_reserved
 rate_fault csd e r = by (bit (tran_speed csd) 7) refl (sym (rate (tran_speed csd)) ∙ r)
   where
     codes : (unit value : Code ℕ) → code_in transfer_units (bits (tran_speed csd) 2 0) ≡ unit → code_in time_values (bits (tran_speed csd) 6 3) ≡ value
-        → rate_by unit value ≡ Rate.Refused e → RateFault csd e
+        → rate_by unit value ≡ Err e → RateFault csd e
     codes reserved value u v r = let same : UnsupportedCardType RateUnit ≡ e = cc in rw (← same) (of-unit (rw u))
     codes (means k) reserved u v r = let same : UnsupportedCardType RateValue ≡ e = cc in rw (← same) (of-value (rw v))
     codes (means k) (means t) u v r = let z : ◌≡◌ {A = ℕ} 0 1 = cc in absurd (omega arith)
 
     by : (top : Bool) → bit (tran_speed csd) 7 ≡ top
-        → cond top (Rate.Refused (UnsupportedCardType RateReservedBit))
+        → cond top (Err (UnsupportedCardType RateReservedBit))
         (rate_by (code_in transfer_units (bits (tran_speed csd) 2 0)) (code_in time_values (bits (tran_speed csd) 6 3)))
-        ≡ Rate.Refused e → RateFault csd e
+        ≡ Err e → RateFault csd e
     by true t r = let same : UnsupportedCardType RateReservedBit ≡ e = cc in rw (← same) (of-reserved-bit t)
     by false t r = codes (code_in transfer_units (bits (tran_speed csd) 2 0)) (code_in time_values (bits (tran_speed csd) 6 3)) refl refl r
 
@@ -243,24 +241,24 @@ positive : {n : ℕ} → (n ≡ 0 → ⊥) → 1 ≤ n
 positive {n = zero} h = absurd (h refl)
 positive {n = suc n} h = omega arith
 
-units : (class : CardCapacity) (index a : ℕ) → units_of class index ≡ Address.Address a
+units : (class : CardCapacity) (index a : ℕ) → units_of class index ≡ Ok a
     → (a * unit_bytes class ≡ 512 * index) × (index < 2 ^ 32 → a < 2 ^ 32)
 unfolding units_of
 units SDSC index a e = by (ltb (512 * index) (2 ^ 32)) refl e
   where
-    by : (b : Bool) → ltb (512 * index) (2 ^ 32) ≡ b → cond b (Address.Address (512 * index)) (Address.Refused AddressOutOfRange) ≡ Address.Address a
+    by : (b : Bool) → ltb (512 * index) (2 ^ 32) ≡ b → cond b (Ok (512 * index)) (Err AddressOutOfRange) ≡ Ok a
         → (a * 1 ≡ 512 * index) × (index < 2 ^ 32 → a < 2 ^ 32)
     by true t e = let same : 512 * index ≡ a = cc in let small = ltb-true (512 * index) (2 ^ 32) t in (omega arith, λ word. omega arith)
     by false t e = let z : ◌≡◌ {A = ℕ} 0 1 = cc in absurd (omega arith)
 units SDHC index a e = let same : index ≡ a = cc in (omega arith, λ word. omega arith)
 
-pub address : (class : CardCapacity) (blocks index count a : ℕ) → address_of class blocks index count ≡ Address.Address a
+pub address : (class : CardCapacity) (blocks index count a : ℕ) → address_of class blocks index count ≡ Ok a
     → Follows class blocks index count a
 unfolding address_of
 address class blocks index count a e = by (eqb count 0) (ltb 511 count) (ltb blocks (index + count)) refl refl refl e
   where
     by : (none many past : Bool) → eqb count 0 ≡ none → ltb 511 count ≡ many → ltb blocks (index + count) ≡ past
-        → cond (none || many) (Address.Refused InvalidBufferLength) (cond past (Address.Refused AddressOutOfRange) (units_of class index)) ≡ Address.Address a
+        → cond (none || many) (Err InvalidBufferLength) (cond past (Err AddressOutOfRange) (units_of class index)) ≡ Ok a
         → Follows class blocks index count a
     by true many past n m p e = let z : ◌≡◌ {A = ℕ} 0 1 = cc in absurd (omega arith)
     by false true past n m p e = let z : ◌≡◌ {A = ℕ} 0 1 = cc in absurd (omega arith)
@@ -276,13 +274,13 @@ address class blocks index count a e = by (eqb count 0) (ltb 511 count) (ltb blo
         }
 
 -- and the other way, for an index of 32 bits
-in_units : (class : CardCapacity) (index a : ℕ) → a * unit_bytes class ≡ 512 * index → a < 2 ^ 32 → units_of class index ≡ Address.Address a
+in_units : (class : CardCapacity) (index a : ℕ) → a * unit_bytes class ≡ 512 * index → a < 2 ^ 32 → units_of class index ≡ Ok a
 unfolding units_of
 in_units SDSC index a e small = let same : 512 * index ≡ a = omega arith in rw (same, lt-ltb a (2 ^ 32) small)
-in_units SDHC index a e small = let same : index ≡ a = omega arith in ap Address.Address same
+in_units SDHC index a e small = let same : index ≡ a = omega arith in ap Ok same
 
 pub address-accepted : (class : CardCapacity) (blocks index count a : ℕ) → index < 2 ^ 32 → Follows class blocks index count a
-    → address_of class blocks index count ≡ Address.Address a
+    → address_of class blocks index count ≡ Ok a
 unfolding address_of
 address-accepted class blocks index count a word f =
     rw (

@@ -1,4 +1,5 @@
 -- How large the answers can be: an SDSC card has at most 8,388,608 blocks, any card at most 4,294,967,296; a field is 1 to 8.
+use Rattle.std.specs.Prelude.{Ok, Err}
 use Prim.Native.Nat.{ℕ, ◌+◌, ◌*◌, ◌-◌, ◌^◌, ◌<◌, ◌≤◌}
 use mathlib.Core.Bool.{Bool, true, false, cond, ◌||◌}
 use mathlib.Core.Path.{◌≡◌, refl}
@@ -8,7 +9,6 @@ use lib.Dec.{eqb, ltb}
 use lib.Pow.{pow_mono}
 use borrow.Author.Tests.{ltb-false}
 use Rattle.types.specs.declared.register.BlockCount.{BlockCount}
-use Rattle.types.specs.declared.register.CountAnswer.TheVariants.{Blocks, Refused}
 use Rattle.types.specs.declared.error.Error.TheVariants.{UnsupportedCardType}
 use Rattle.types.specs.declared.error.Field.{Field}
 use Rattle.types.specs.declared.error.Field.TheVariants as F
@@ -29,7 +29,7 @@ abbrev pub most : Bool → ℕ
 most true = 8_388_608
 most false = 4_294_967_296
 
-pub count_most : (csd : ℕ) (n : BlockCount) → count_of csd ≡ Blocks n → n.0 ≤ most (eqb (bits csd 127 126) 0)
+pub count_most : (csd : ℕ) (n : BlockCount) → count_of csd ≡ Ok n → n.0 ≤ most (eqb (bits csd 127 126) 0)
 unfolding count_of
 count_most csd n e = by (eqb (bits csd 127 126) 0) (ltb (bits csd 83 80) 9) (ltb 11 (bits csd 83 80)) (eqb (bits csd 127 126) 1) (eqb (bits csd 83 80) 9) refl e
   where
@@ -40,8 +40,8 @@ count_most csd n e = by (eqb (bits csd 127 126) 0) (ltb (bits csd 83 80) 9) (ltb
     two = (bits csd 69 48 + 1) * 1024
 
     by : (v short long w nine : Bool) → ltb 11 (bits csd 83 80) ≡ long
-        → cond v (cond (short || long) (Refused (UnsupportedCardType F.BlockLength)) (Blocks (record { 0 = one })))
-        (cond w (cond nine (Blocks (record { 0 = two })) (Refused (UnsupportedCardType F.BlockLength))) (Refused (UnsupportedCardType F.CsdVersion))) ≡ Blocks n
+        → cond v (cond (short || long) (Err (UnsupportedCardType F.BlockLength)) (Ok (record { 0 = one })))
+        (cond w (cond nine (Ok (record { 0 = two })) (Err (UnsupportedCardType F.BlockLength))) (Err (UnsupportedCardType F.CsdVersion))) ≡ Ok n
         → n.0 ≤ most v
     by true true long w nine h e = let z : ◌≡◌ {A = ℕ} 0 1 = cc in absurd (omega arith)
     by true false true w nine h e = let z : ◌≡◌ {A = ℕ} 0 1 = cc in absurd (omega arith)

@@ -1,5 +1,6 @@
 -- Demand 2: without bypass, for a nonzero source and a request of 1 to 80,000,000 Hz, the answer's divisor is the least
 -- from 2 to 257 with source at most divisor times request, and it is refused exactly if there is none.
+use Rattle.std.specs.Prelude.{Ok, Err}
 use Prim.Native.Nat.{ℕ, ◌+◌, ◌*◌, ◌-◌, ◌/◌, ◌<◌, ◌≤◌}
 use mathlib.Core.Bool.{Bool, true, false, cond}
 use mathlib.Core.Path.{◌≡◌, refl}
@@ -8,7 +9,6 @@ use native.Mathlib.Omega.{arith, not-le}
 use lib.Dec.{ltb}
 use borrow.Author.Tests.{ne_eqb, le-ltb, ltb-true, ltb-false}
 use Rattle.types.specs.declared.clock.Clock.{Clock}
-use Rattle.types.specs.declared.clock.ClockAnswer.TheVariants.{Set, Refused}
 use Rattle.types.specs.declared.error.Error.{Error}
 use Rattle.types.specs.declared.error.Error.TheVariants.{BadClock}
 use Rattle.types.specs.Least.{Enough, Least}
@@ -49,13 +49,13 @@ module _ (source requested : ℕ) (nonzero : 1 ≤ source) (low : 1 ≤ requeste
 
   -- what the definition comes to on this domain
   comes-to : clock_of source requested false
-      ≡ cond (ltb 257 (divisor_of source requested)) (Refused BadClock)
-      (Set (record { divisor = divisor_of source requested - 2; bypass = false; frequency = record { 0 = source / divisor_of source requested } }))
+      ≡ cond (ltb 257 (divisor_of source requested)) (Err BadClock)
+      (Ok (record { divisor = divisor_of source requested - 2; bypass = false; frequency = record { 0 = source / divisor_of source requested } }))
   unfolding clock_of
   comes-to = rw (ne_eqb source 0 (λ e. omega arith), ne_eqb requested 0 (λ e. omega arith), le-ltb 80_000_000 requested high)
 
   -- an answer's divisor is the least
-  pub set-least : (c : Clock) → clock_of source requested false ≡ Set c → Least source requested (c.divisor + 2)
+  pub set-least : (c : Clock) → clock_of source requested false ≡ Ok c → Least source requested (c.divisor + 2)
   set-least c e = by (ltb 257 (divisor_of source requested)) refl
     where
       by : (b : Bool) → ltb 257 (divisor_of source requested) ≡ b → Least source requested (c.divisor + 2)
@@ -74,7 +74,7 @@ module _ (source requested : ℕ) (nonzero : 1 ≤ source) (low : 1 ≤ requeste
           })
 
   -- it is refused only if there is none
-  pub refused_none : (x : Error) → clock_of source requested false ≡ Refused x → (d : ℕ) → Enough source requested d → ⊥
+  pub refused_none : (x : Error) → clock_of source requested false ≡ Err x → (d : ℕ) → Enough source requested d → ⊥
   refused_none x e d h = by (ltb 257 (divisor_of source requested)) refl
     where
       by : (b : Bool) → ltb 257 (divisor_of source requested) ≡ b → ⊥
@@ -85,10 +85,10 @@ module _ (source requested : ℕ) (nonzero : 1 ≤ source) (low : 1 ≤ requeste
           omega arith
 
   -- and always if there is none
-  pub none-refused : ((d : ℕ) → Enough source requested d → ⊥) → clock_of source requested false ≡ Refused BadClock
+  pub none-refused : ((d : ℕ) → Enough source requested d → ⊥) → clock_of source requested false ≡ Err BadClock
   none-refused none = by (ltb 257 (divisor_of source requested)) refl
     where
-      by : (b : Bool) → ltb 257 (divisor_of source requested) ≡ b → clock_of source requested false ≡ Refused BadClock
+      by : (b : Bool) → ltb 257 (divisor_of source requested) ≡ b → clock_of source requested false ≡ Err BadClock
       by true t = rw (comes-to, t)
       by false t =
           absurd (none (divisor_of source requested) (record { from2 = at_least_2; to257 = ltb-false _ _ t; slow = slow-enough }))

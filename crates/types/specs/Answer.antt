@@ -1,25 +1,13 @@
 -- Document 01, 'Numbers of the answers', with P4 and P8 of document 02: each answer's number, and the values that it carries.
-use Rattle.std.specs.Prelude.{ℕ, Bool, true, false, List, [], ◌∷◌, get_or}
+use Rattle.std.specs.Prelude.{ℕ, Bool, true, false, List, [], ◌∷◌, get_or, Result, Ok, Err}
+use Rattle.types.specs.declared.clock.Clock.{Clock}
+use Rattle.types.specs.declared.register.BlockCount.{BlockCount}
 use Rattle.types.specs.declared.error.Error.{Error}
 use Rattle.types.specs.declared.error.Error.TheVariants as E
 use Rattle.types.specs.declared.error.Field.{Field}
 use Rattle.types.specs.declared.error.Field.TheVariants as F
-use Rattle.types.specs.declared.card.AddressAnswer.{AddressAnswer}
-use Rattle.types.specs.declared.card.AddressAnswer.TheVariants as Address
-use Rattle.types.specs.declared.clock.ClockAnswer.{ClockAnswer}
-use Rattle.types.specs.declared.clock.ClockAnswer.TheVariants as Clock
-use Rattle.types.specs.declared.config.ConfigAnswer.{ConfigAnswer}
-use Rattle.types.specs.declared.config.ConfigAnswer.TheVariants as Config
 use Rattle.types.specs.declared.error.Answer.{Answer}
 use Rattle.types.specs.declared.error.Answer.TheVariants.{Accepted, Refused, ScriptEnded, TraceFull, BadBook}
-use Rattle.types.specs.declared.register.CountAnswer.{CountAnswer}
-use Rattle.types.specs.declared.register.CountAnswer.TheVariants as Count
-use Rattle.types.specs.declared.register.RateAnswer.{RateAnswer}
-use Rattle.types.specs.declared.register.RateAnswer.TheVariants as Rate
-use Rattle.types.specs.declared.register.SizeAnswer.{SizeAnswer}
-use Rattle.types.specs.declared.register.SizeAnswer.TheVariants as Size
-use Rattle.types.specs.declared.status.DataAnswer.{DataAnswer}
-use Rattle.types.specs.declared.status.DataAnswer.TheVariants as Data
 
 -- an answer as document 01 tells it
 pub record Told : Type 0 where
@@ -82,34 +70,34 @@ flag true = 1
 flag false = 0
 
 -- divisor field, bypass, frequency in hertz
-unfoldable pub clock_told : ClockAnswer → Told
-clock_told (Clock.Set c) = told 0 (c.divisor ∷ flag c.bypass ∷ c.frequency.0 ∷ [])
-clock_told (Clock.Refused e) = error_told e
+unfoldable pub clock_told : Result Clock Error → Told
+clock_told (Ok c) = told 0 (c.divisor ∷ flag c.bypass ∷ c.frequency.0 ∷ [])
+clock_told (Err e) = error_told e
 
 -- blocks of 512 bytes
-unfoldable pub count_told : CountAnswer → Told
-count_told (Count.Blocks n) = told 0 (n.0 ∷ [])
-count_told (Count.Refused e) = error_told e
+unfoldable pub count_told : Result BlockCount Error → Told
+count_told (Ok n) = told 0 (n.0 ∷ [])
+count_told (Err e) = error_told e
 
 -- bytes
-unfoldable pub size_told : SizeAnswer → Told
-size_told (Size.Bytes n) = told 0 (n ∷ [])
-size_told (Size.Refused e) = error_told e
+unfoldable pub size_told : Result ℕ Error → Told
+size_told (Ok n) = told 0 (n ∷ [])
+size_told (Err e) = error_told e
 
 -- bits a second
-unfoldable pub rate_told : RateAnswer → Told
-rate_told (Rate.Rate n) = told 0 (n ∷ [])
-rate_told (Rate.Refused e) = error_told e
+unfoldable pub rate_told : Result ℕ Error → Told
+rate_told (Ok n) = told 0 (n ∷ [])
+rate_told (Err e) = error_told e
 
 -- the argument of the read command
-unfoldable pub address_told : AddressAnswer → Told
-address_told (Address.Address a) = told 0 (a ∷ [])
-address_told (Address.Refused e) = error_told e
+unfoldable pub address_told : Result ℕ Error → Told
+address_told (Ok a) = told 0 (a ∷ [])
+address_told (Err e) = error_told e
 
-unfoldable pub config_told : ConfigAnswer → Told
-config_told Config.Sound = told 0 []
-config_told (Config.Refused e) = error_told e
+unfoldable pub config_told : Result (Unit {0}) Error → Told
+config_told (Ok tt) = told 0 []
+config_told (Err e) = error_told e
 
-unfoldable pub data_told : DataAnswer → Told
-data_told Data.Clean = told 0 []
-data_told (Data.Failed e) = error_told e
+unfoldable pub data_told : Result (Unit {0}) Error → Told
+data_told (Ok tt) = told 0 []
+data_told (Err e) = error_told e

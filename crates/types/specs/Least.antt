@@ -1,8 +1,6 @@
 -- The order's second demand, of the clock without bypass: the least divisor from 2 to 257 with source at most divisor times
 -- request, or none.
-use Rattle.std.specs.Prelude.{ℕ, ◌*◌, ◌≤◌}
-use Rattle.types.specs.declared.clock.Divisor.{Divisor}
-use Rattle.types.specs.declared.clock.Divisor.TheVariants as D
+use Rattle.std.specs.Prelude.{ℕ, ◌*◌, ◌≤◌, Option, Some, None}
 
 -- d brings the source down to the request
 pub record Enough (source requested d : ℕ) : Type 0 where
@@ -16,6 +14,6 @@ pub record Least (source requested d : ℕ) : Type 0 where
   pub least : (e : ℕ) → Enough source requested e → d ≤ e
 
 -- what a search comes to
-unfoldable pub Searched : ℕ → ℕ → Divisor → Type 0
-Searched source requested (D.Least d) = Least source requested d
-Searched source requested D.None = (d : ℕ) → Enough source requested d → ⊥
+unfoldable pub Searched : ℕ → ℕ → Option ℕ → Type 0
+Searched source requested (Some d) = Least source requested d
+Searched source requested None = (d : ℕ) → Enough source requested d → ⊥

@@ -1,14 +1,13 @@
 -- The SD Physical Layer Simplified Specification: the fields of its registers by bit position, and what they mean. That
 -- document 01's arithmetic agrees with these is proved in proofs/Agree.antt.
-use Rattle.std.specs.Prelude.{ℕ, ◌+◌, ◌*◌, ◌/◌, ◌^◌, Bool, true, false, cond, ◌&&◌, List, [], ◌∷◌, ◌≡◌, eqb, get_or}
+use Rattle.std.specs.Prelude.{ℕ, ◌+◌, ◌*◌, ◌/◌, ◌^◌, Bool, true, false, cond, ◌&&◌, List, [], ◌∷◌, ◌≡◌, eqb, get_or, Result, Ok, Err}
+use Rattle.types.specs.declared.error.Error.{Error}
 use Rattle.types.specs.declared.card.Card.{Card}
 use Rattle.types.specs.declared.card.CardCapacity.{CardCapacity}
 use Rattle.types.specs.declared.card.CardCapacity.TheVariants.{SDSC, SDHC}
 use Rattle.types.specs.declared.error.Error.TheVariants.{UnsupportedCardType}
 use Rattle.types.specs.declared.error.Field.{Field}
 use Rattle.types.specs.declared.error.Field.TheVariants.{CsdVersion, BlockLength, RateUnit, RateValue, RateReservedBit, CsdAndOcr, Voltage, AppCommand}
-use Rattle.types.specs.declared.register.RateAnswer.{RateAnswer}
-use Rattle.types.specs.declared.register.RateAnswer.TheVariants as Rate
 use Rattle.types.specs.declared.register.Wide.{Wide}
 use Rattle.types.specs.Bits.{bits, bit}
 
@@ -114,14 +113,14 @@ time_values =
 
 -- the rate in bits a second: unit times time value, 1,000 bits a kilobit; of several fields at fault the first is told:
 -- reserved bit, unit, time value
-unfoldable pub rate_by : Code ℕ → Code ℕ → RateAnswer
-rate_by reserved value = Rate.Refused (UnsupportedCardType RateUnit)
-rate_by (means kilobits) reserved = Rate.Refused (UnsupportedCardType RateValue)
-rate_by (means kilobits) (means tenths) = Rate.Rate (kilobits * 1_000 * tenths / 10)
+unfoldable pub rate_by : Code ℕ → Code ℕ → Result ℕ Error
+rate_by reserved value = Err (UnsupportedCardType RateUnit)
+rate_by (means kilobits) reserved = Err (UnsupportedCardType RateValue)
+rate_by (means kilobits) (means tenths) = Ok (kilobits * 1_000 * tenths / 10)
 
-unfoldable pub sd_rate : ℕ → RateAnswer
+unfoldable pub sd_rate : ℕ → Result ℕ Error
 sd_rate byte =
-    cond (bit byte 7) (Rate.Refused (UnsupportedCardType RateReservedBit))
+    cond (bit byte 7) (Err (UnsupportedCardType RateReservedBit))
     (rate_by (code_in transfer_units (bits byte 2 0)) (code_in time_values (bits byte 6 3)))
 
 -- Which fields of a CSD are at fault: the code of one is reserved, or the reserved bit is set. READ_BL_LEN is that of its version;

@@ -4,7 +4,7 @@ ghost use Rattle.types.specs.Leaf.{address_of, units_of, size_of};
 ghost use Rattle.types.specs.declared.card.CardCapacity.TheVariants.{SDSC};
 
 use crate::error::Error;
-use crate::register::{BlockCount, Protection, SizeAnswer, Wide};
+use crate::register::{BlockCount, Protection, Wide};
 use crate::status::Scr;
 
 // SDSC cards are addressed by byte, all later ones (SDHC, SDXC) by block.
@@ -33,57 +33,49 @@ pub struct Card {
     pub protection: Protection,
 }
 
-#[derive(Clone, Copy)]
-pub enum AddressAnswer {
-    Address(u32),
-    Refused(Error),
-}
-
 impl Card {
     // The most blocks that one read may ask for.
     pub const MOST_BLOCKS: usize = 511;
 
-    pub fn size(self) -> SizeAnswer
+    pub fn size(self) -> Result<u64, Error>
         ensures { result ≡ size_of self.block_count.0 }
     {
-        let count = self.block_count;
-        count.bytes()
+        self.block_count.bytes()
     }
 }
 
 // The address of a block in bytes, for a card that counts so.
-fn byte_address(index: u32) -> AddressAnswer
+#[tactic(auto, using(std::proofs::lemmas::Bool::Decides::nat_tests), unfolding(crate::specs::Leaf::units_of))]
+fn byte_address(index: u32) -> Result<u32, Error>
     ensures { result ≡ units_of SDSC index }
 {
     let address = BlockCount::BLOCK * index as u64;
     if address < 0x1_0000_0000 {
-        AddressAnswer::Address(address as u32)
+        Ok(address as u32)
     } else {
-        AddressAnswer::Refused(Error::AddressOutOfRange)
+        Err(Error::AddressOutOfRange)
     }
 }
 
 // The argument of a read of `count` blocks from `index` on. It takes what it reads of a card: its class and its blocks.
+#[tactic(auto, using(std::proofs::lemmas::Bool::Decides::nat_tests), unfolding(crate::specs::Leaf::address_of, crate::specs::Leaf::units_of))]
 pub fn block_address(
     card_type: CardCapacity,
     block_count: BlockCount,
     index: u32,
     count: usize,
-) -> AddressAnswer
+) -> Result<u32, Error>
     ensures { result ≡ address_of card_type block_count.0 index count }
 {
     let blocks = block_count.0;
-    if count == 0 {
-        return AddressAnswer::Refused(Error::InvalidBufferLength);
-    }
-    if count > Card::MOST_BLOCKS {
-        return AddressAnswer::Refused(Error::InvalidBufferLength);
+    if count == 0 || count > Card::MOST_BLOCKS {
+        return Err(Error::InvalidBufferLength);
     }
     if blocks < index as u64 + count as u64 {
-        return AddressAnswer::Refused(Error::AddressOutOfRange);
+        return Err(Error::AddressOutOfRange);
     }
     match card_type {
         CardCapacity::SDSC => byte_address(index),
-        CardCapacity::SDHC => AddressAnswer::Address(index),
+        CardCapacity::SDHC => Ok(index),
     }
 }

@@ -17,19 +17,6 @@ pub struct Clock {
     pub frequency: Hertz,
 }
 
-#[derive(Clone, Copy)]
-pub enum ClockAnswer {
-    Set(Clock),
-    Refused(Error),
-}
-
-// The least divisor that brings a source down to a request, or none that the register has room for.
-#[derive(Clone, Copy)]
-enum Divisor {
-    Least(u32),
-    None,
-}
-
 impl Clock {
     // The highest frequency that may be asked for.
     pub const MOST: u32 = 80_000_000;
@@ -37,8 +24,9 @@ impl Clock {
     pub const LARGEST_DIVISOR: u32 = 257;
 }
 
+// The least divisor that brings a source down to a request, or none that the register has room for.
 // The request is added up until it reaches the source, at most 256 times: the boot stage links no division routine.
-fn divisor_for(source: Hertz, requested: Hertz) -> Divisor
+fn divisor_for(source: Hertz, requested: Hertz) -> Option<u32>
     ensures { Searched source.0 requested.0 result }
 {
     let s = source.0;
@@ -49,15 +37,15 @@ fn divisor_for(source: Hertz, requested: Hertz) -> Divisor
         let next = sum as u64 + q as u64;
         // what is over 32 bits is over every source
         if next > 0xffff_ffff {
-            return Divisor::Least(divisor);
+            return Some(divisor);
         }
         sum = next as u32;
         if s <= sum {
-            return Divisor::Least(divisor);
+            return Some(divisor);
         }
         divisor += 1;
     }
-    Divisor::None
+    None
 }
 
 // A whole quotient in 32 steps, as by hand in base 2: the number is doubled into the upper half, the divisor is taken away
@@ -85,38 +73,30 @@ fn quotient(number: u32, divisor: u32) -> u32
 fn may_bypass(source: Hertz, requested: Hertz, allowed: bool) -> bool
     ensures { result ≡ (allowed && leb source.0 requested.0) }
 {
-    let s = source.0;
-    let q = requested.0;
-    if allowed { s <= q } else { false }
+    allowed && source.0 <= requested.0
 }
 
 // The least divisor from 2 to 257 that brings the source down to the requested frequency.
-pub fn clock_setting(source: Hertz, requested: Hertz, allow_bypass: bool) -> ClockAnswer
+#[tactic(auto, using(std::proofs::lemmas::Bool::Decides::nat_tests), unfolding(crate::specs::Leaf::clock_of, crate::specs::Least::Searched))]
+pub fn clock_setting(source: Hertz, requested: Hertz, allow_bypass: bool) -> Result<Clock, Error>
     ensures { result ≡ clock_of source.0 requested.0 allow_bypass }
 {
     let s = source.0;
-    let q = requested.0;
-    if s == 0 {
-        return ClockAnswer::Refused(Error::BadClock);
-    }
     // a request of 0 is refused by the search: no multiple of it reaches a source
-    if q > Clock::MOST {
-        return ClockAnswer::Refused(Error::BadClock);
+    if s == 0 || requested.0 > Clock::MOST {
+        return Err(Error::BadClock);
     }
     if may_bypass(source, requested, allow_bypass) {
-        return ClockAnswer::Set(Clock {
+        return Ok(Clock {
             divisor: 0,
             bypass: true,
             frequency: source,
         });
     }
-    let found = divisor_for(source, requested);
-    match found {
-        Divisor::Least(divisor) => ClockAnswer::Set(Clock {
-            divisor: (divisor - 2) as u8,
-            bypass: false,
-            frequency: Hertz(quotient(s, divisor)),
-        }),
-        Divisor::None => ClockAnswer::Refused(Error::BadClock),
-    }
+    let divisor = divisor_for(source, requested).ok_or(Error::BadClock)?;
+    Ok(Clock {
+        divisor: (divisor - 2) as u8,
+        bypass: false,
+        frequency: Hertz(quotient(s, divisor)),
+    })
 }

@@ -15,13 +15,6 @@ pub struct Config {
     pub allow_clock_bypass: bool,
 }
 
-// What the settings come to: a host can be made of them, or it is refused.
-#[derive(Clone, Copy)]
-pub enum ConfigAnswer {
-    Sound,
-    Refused(Error),
-}
-
 impl Config {
     pub const DATA_TRANSFER_TIMEOUT: u32 = 5_000_000;
 
@@ -47,29 +40,22 @@ impl Config {
         }
     }
 
-    // What making a host of this source and these settings answers.
-    pub fn judge(self, source: Hertz) -> ConfigAnswer
+    // Whether a host can be made of this source and these settings, or why not.
+    #[tactic(auto, using(std::proofs::lemmas::Bool::Decides::nat_tests), unfolding(crate::specs::Settings::made_of))]
+    pub fn judge(self, source: Hertz) -> Result<(), Error>
         ensures { result ≡ made_of source.0 self }
     {
         let hertz = source.0;
-        if self.poll_limit == 0 {
-            return ConfigAnswer::Refused(Error::InvalidConfig);
+        if self.poll_limit == 0
+            || self.card_ready_attempts == 0
+            || self.data_transfer_timeout == 0
+            || self.software_timeout_ms == 0
+        {
+            return Err(Error::InvalidConfig);
         }
-        if self.card_ready_attempts == 0 {
-            return ConfigAnswer::Refused(Error::InvalidConfig);
+        if hertz < Config::LEAST_SOURCE || hertz > Config::MOST_SOURCE {
+            return Err(Error::BadClock);
         }
-        if self.data_transfer_timeout == 0 {
-            return ConfigAnswer::Refused(Error::InvalidConfig);
-        }
-        if self.software_timeout_ms == 0 {
-            return ConfigAnswer::Refused(Error::InvalidConfig);
-        }
-        if hertz < Config::LEAST_SOURCE {
-            return ConfigAnswer::Refused(Error::BadClock);
-        }
-        if hertz > Config::MOST_SOURCE {
-            return ConfigAnswer::Refused(Error::BadClock);
-        }
-        ConfigAnswer::Sound
+        Ok(())
     }
 }

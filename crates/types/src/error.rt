@@ -5,7 +5,7 @@ ghost use Rattle.types.specs.Answer.{field_number, error_told, answer_told, carr
 // What made a card unsupported: a field of its CSD, its CSD and OCR, its voltages, or that it takes no application command.
 #[derive(Clone, Copy)]
 pub enum Field {
-    CsdVersion,
+    CsdVersion = 1,
     BlockLength,
     RateUnit,
     RateValue,
@@ -52,26 +52,19 @@ pub enum Answer {
     BadBook,
 }
 
+#[tactic(auto, unfolding(crate::specs::Answer::field_number))]
 impl Field {
     pub fn number(self) -> u8
         ensures { result ≡ field_number self }
     {
-        match self {
-            Field::CsdVersion => 1,
-            Field::BlockLength => 2,
-            Field::RateUnit => 3,
-            Field::RateValue => 4,
-            Field::RateReservedBit => 5,
-            Field::CsdAndOcr => 6,
-            Field::Voltage => 7,
-            Field::AppCommand => 8,
-        }
+        self as u8
     }
 }
 
 impl Error {
     // The number of each of the driver's errors is its place among them, so a compiler needs no table. What the driver does
     // not have has a number of its own, and here a place behind them.
+    #[tactic(auto, unfolding(crate::specs::Answer::error_told))]
     fn place(self) -> u8
         ensures { ((error_told self).number ≡ 26 → ⊥) → result ≡ (error_told self).number }
     {
@@ -121,6 +114,7 @@ impl Error {
     }
 }
 
+#[tactic(auto, unfolding(crate::specs::Answer::answer_told))]
 impl Answer {
     pub fn number(self) -> u8
         ensures { result ≡ (answer_told self).number }

@@ -25,24 +25,6 @@ pub struct Protection {
     pub temporary: bool,
 }
 
-#[derive(Clone, Copy)]
-pub enum CountAnswer {
-    Blocks(BlockCount),
-    Refused(Error),
-}
-
-#[derive(Clone, Copy)]
-pub enum RateAnswer {
-    Rate(u32),
-    Refused(Error),
-}
-
-#[derive(Clone, Copy)]
-pub enum SizeAnswer {
-    Bytes(u64),
-    Refused(Error),
-}
-
 // A tenth of what each unit of TRAN_SPEED stands for, in bits a second: so nothing is divided.
 const UNIT_TENTHS: [u32; 4] = [10_000, 100_000, 1_000_000, 10_000_000];
 
@@ -102,19 +84,21 @@ impl BlockCount {
     pub const MOST: u64 = 4_294_967_296;
 
     // The bytes of so many blocks.
-    pub fn bytes(self) -> SizeAnswer
+    #[tactic(auto, using(std::proofs::lemmas::Bool::Decides::nat_tests), unfolding(crate::specs::Leaf::size_of))]
+    pub fn bytes(self) -> Result<u64, Error>
         ensures { result ≡ size_of self.0 }
     {
         let count = self.0;
         if count > BlockCount::MOST {
-            return SizeAnswer::Refused(Error::AddressOutOfRange);
+            return Err(Error::AddressOutOfRange);
         }
-        SizeAnswer::Bytes(BlockCount::BLOCK * count)
+        Ok(BlockCount::BLOCK * count)
     }
 }
 
 impl Protection {
     // Bit 13 of a CSD, PERM_WRITE_PROTECT, and bit 12, TMP_WRITE_PROTECT.
+    #[tactic(auto, using(std::proofs::lemmas::Bool::Decides::nat_tests), unfolding(crate::specs::Leaf::protection_of))]
     pub fn of(csd: Wide) -> Protection
         ensures { result ≡ protection_of (wide_of csd) }
     {
@@ -129,66 +113,61 @@ impl Protection {
     pub fn stops_writes(self) -> bool
         ensures { result ≡ stops_writes self }
     {
-        if self.permanent {
-            return true;
-        }
-        self.temporary
+        self.permanent || self.temporary
     }
 
     // 2 if permanent, plus 1 if temporary.
     pub fn number(self) -> u8
         ensures { result ≡ protect_number self }
     {
-        if self.permanent {
-            if self.temporary { 3 } else { 2 }
-        } else {
-            if self.temporary { 1 } else { 0 }
-        }
+        2 * self.permanent as u8 + self.temporary as u8
     }
 }
 
 // The blocks of 512 bytes that a CSD tells.
-pub fn block_count(csd: Wide) -> CountAnswer
+#[tactic(auto, using(std::proofs::lemmas::Bool::Decides::nat_tests), unfolding(crate::specs::Leaf::count_of))]
+pub fn block_count(csd: Wide) -> Result<BlockCount, Error>
     ensures { result ≡ count_of (wide_of csd) }
 {
     let version = csd.structure();
     if version == 0 {
         let length = csd.block_length();
         if length < 9 {
-            return CountAnswer::Refused(Error::UnsupportedCardType(Field::BlockLength));
+            return Err(Error::UnsupportedCardType(Field::BlockLength));
         }
         if 11 < length {
-            return CountAnswer::Refused(Error::UnsupportedCardType(Field::BlockLength));
+            return Err(Error::UnsupportedCardType(Field::BlockLength));
         }
         let size = csd.size_1() + 1;
         let shift = csd.multiplier() + 2 + (length - 9);
-        return CountAnswer::Blocks(BlockCount(size << shift));
+        return Ok(BlockCount(size << shift));
     }
     if version == 1 {
         // SD fixes it there; the Rust does not look.
         if csd.block_length() != 9 {
-            return CountAnswer::Refused(Error::UnsupportedCardType(Field::BlockLength));
+            return Err(Error::UnsupportedCardType(Field::BlockLength));
         }
         let size = csd.size_2() + 1;
-        return CountAnswer::Blocks(BlockCount(size * 1024));
+        return Ok(BlockCount(size * 1024));
     }
-    CountAnswer::Refused(Error::UnsupportedCardType(Field::CsdVersion))
+    Err(Error::UnsupportedCardType(Field::CsdVersion))
 }
 
 // The rate in bits a second that a TRAN_SPEED byte encodes.
-pub fn transfer_rate(encoded: u8) -> RateAnswer
+#[tactic(auto, using(std::proofs::lemmas::Bool::Decides::nat_tests), unfolding(crate::specs::Leaf::rate_of))]
+pub fn transfer_rate(encoded: u8) -> Result<u32, Error>
     ensures { result ≡ rate_of encoded }
 {
     if encoded / 128 % 2 == 1 {
-        return RateAnswer::Refused(Error::UnsupportedCardType(Field::RateReservedBit));
+        return Err(Error::UnsupportedCardType(Field::RateReservedBit));
     }
     let unit = encoded % 8;
     if unit > 3 {
-        return RateAnswer::Refused(Error::UnsupportedCardType(Field::RateUnit));
+        return Err(Error::UnsupportedCardType(Field::RateUnit));
     }
     let value = encoded / 8 % 16;
     if value == 0 {
-        return RateAnswer::Refused(Error::UnsupportedCardType(Field::RateValue));
+        return Err(Error::UnsupportedCardType(Field::RateValue));
     }
-    RateAnswer::Rate(UNIT_TENTHS[unit as usize] * TENTHS[value as usize])
+    Ok(UNIT_TENTHS[unit as usize] * TENTHS[value as usize])
 }

@@ -6,12 +6,9 @@ ghost use Rattle.types.specs.Sd.{ready_of};
 
 use crate::error::Error;
 
-// What a status word says of a data transfer.
+// Bits of the controller's status that say that a data transfer failed, in the order in which they are looked at.
 #[derive(Clone, Copy)]
-pub enum DataAnswer {
-    Clean,
-    Failed(Error),
-}
+pub struct DataFault {}
 
 // The card's own status, as it answers commands with it.
 #[derive(Clone, Copy)]
@@ -21,8 +18,7 @@ pub struct CardStatus(pub u32);
 #[derive(Clone, Copy)]
 pub struct Scr(pub u64);
 
-impl DataAnswer {
-    // The bits of a status word that say that its transfer failed, in the order in which they are looked at.
+impl DataFault {
     pub const TIMEOUT: u32 = 0x8;
 
     pub const CRC: u32 = 0x2;
@@ -34,25 +30,27 @@ impl DataAnswer {
     pub const START_BIT: u32 = 0x200;
 }
 
-pub fn data_error(status: u32) -> DataAnswer
+// Whether a status word says that its data transfer failed, and with what.
+#[tactic(auto, using(std::proofs::lemmas::Bool::Decides::nat_tests), unfolding(crate::specs::Leaf::data_of, crate::specs::Leaf::first_match))]
+pub fn data_error(status: u32) -> Result<(), Error>
     ensures { result ≡ data_of status }
 {
-    if status & DataAnswer::TIMEOUT != 0 {
-        return DataAnswer::Failed(Error::Timeout);
+    if status & DataFault::TIMEOUT != 0 {
+        return Err(Error::Timeout);
     }
-    if status & DataAnswer::CRC != 0 {
-        return DataAnswer::Failed(Error::Crc);
+    if status & DataFault::CRC != 0 {
+        return Err(Error::Crc);
     }
-    if status & DataAnswer::OVERRUN != 0 {
-        return DataAnswer::Failed(Error::Overrun);
+    if status & DataFault::OVERRUN != 0 {
+        return Err(Error::Overrun);
     }
-    if status & DataAnswer::UNDERRUN != 0 {
-        return DataAnswer::Failed(Error::Underrun);
+    if status & DataFault::UNDERRUN != 0 {
+        return Err(Error::Underrun);
     }
-    if status & DataAnswer::START_BIT != 0 {
-        return DataAnswer::Failed(Error::StBitErr);
+    if status & DataFault::START_BIT != 0 {
+        return Err(Error::StBitErr);
     }
-    DataAnswer::Clean
+    Ok(())
 }
 
 impl CardStatus {
@@ -70,11 +68,7 @@ impl CardStatus {
         ensures { result ≡ ready_of self.0 }
     {
         let status = self.0;
-        if status / 256 % 2 == 1 {
-            status / 512 % 16 == 4
-        } else {
-            false
-        }
+        status / 256 % 2 == 1 && status / 512 % 16 == 4
     }
 }
 

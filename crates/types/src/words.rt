@@ -74,6 +74,7 @@ pub fn joined(first: u32, second: u32) -> u64
 }
 
 // The four words of a long response as one register.
+#[tactic(auto, unfolding(crate::specs::Words::halves_of))]
 pub fn response_value(words: [u32; 4]) -> Wide
     ensures { result ≡ halves_of words }
 {
@@ -84,6 +85,7 @@ pub fn response_value(words: [u32; 4]) -> Wide
 }
 
 // The SCR of the two words of its data transfer.
+#[tactic(auto, unfolding(crate::specs::Words::scr_of))]
 pub fn scr_value(first: u32, second: u32) -> Scr
     ensures { result.0 ≡ scr_of first second }
 {

@@ -1,6 +1,0 @@
-use mathlib.Core.Path.{sym}
-use Rattle.types.proofs.Halves.{upper}
-use Rattle.types.proofs.register.Wide.block_length.Goals as goal
-
-pub returns : goal.returns
-returns c = sym (upper _ 64 16 4 c.struct_known-1.given.1.0.fits)
