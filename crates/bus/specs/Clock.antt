@@ -1,13 +1,12 @@
 -- The clock change and the delay by the card clock, as plans.
-use Rattle.std.specs.Prelude.{ℕ, ◌*◌, ◌^◌, Bool, true, cond, eqb, ltb}
+use Rattle.std.specs.Prelude.{ℕ, ◌*◌, ◌^◌, Bool, true, cond, eqb, ltb, Result, Ok, Err}
 use Rattle.types.specs.declared.clock.Clock.{Clock}
+use Rattle.types.specs.declared.error.Error.{Error}
 use Rattle.types.specs.declared.error.Error.TheVariants.{BadClock}
 use Rattle.types.specs.Leaf.{rounded_up}
 use Rattle.tape.specs.Plan.{Nothing, Plan, ◌then◌, fail}
 use Rattle.tape.specs.Rows.{CLKCR, DELAY, clkcr_of}
 use Rattle.tape.specs.Steps.{row, wait_idle}
-use Rattle.bus.specs.declared.clock.DelayAnswer.{DelayAnswer}
-use Rattle.bus.specs.declared.clock.DelayAnswer.TheVariants as Delay
 
 unfoldable pub configure_clock : ℕ → Clock → Bool → Bool → Plan Nothing
 configure_clock limit clock wide on = wait_idle limit true then λ _. row CLKCR (clkcr_of clock wide on)
@@ -24,6 +23,6 @@ clock_delay source clock cycles =
     (cond (ltb (spins_of source clock cycles) (2 ^ 32)) (row DELAY (spins_of source clock cycles)) (fail BadClock))
 
 -- the row of a delay, or its refusal
-unfoldable pub delayed : DelayAnswer → Plan Nothing
-delayed (Delay.Spins n) = row DELAY n
-delayed (Delay.Refused e) = fail e
+unfoldable pub delayed : Result ℕ Error → Plan Nothing
+delayed (Ok n) = row DELAY n
+delayed (Err e) = fail e

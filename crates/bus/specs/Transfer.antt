@@ -135,13 +135,6 @@ transfer_data source config buffer transfer rca =
     then λ ws. end_data source config transfer.index rca
     then λ _. give ws
 
--- where a read's data words lie: behind the words used up to the poll that completes
-abbrev pub place_after : List ℕ → Plan Nothing → State → ℕ
-place_after s p w = (does s (tt {0}) p w).state.progress.used
-
-abbrev pub data_place : List ℕ → Config → Transfer → State → ℕ
-data_place s config transfer w = place_after s (start_data config incoming transfer then λ _. wait_data config.poll_limit) w
-
 -- a refusal in a data phase: reset rows
 unfoldable pub blocking_data : ℕ → Config → Buffer → Transfer → ℕ → Plan (List ℕ)
 blocking_data source config buffer transfer rca = guard reset_controller (transfer_data source config buffer transfer rca)

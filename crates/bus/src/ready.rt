@@ -2,14 +2,14 @@
 ghost use Rattle.std.specs.Prelude.{◌≡◌, List, Bool, false, ℕ};
 ghost use Rattle.types.specs.Leaf.{rounded_up};
 ghost use Rattle.tape.specs.Layout.{rows_in};
-ghost use Rattle.tape.specs.Run.{at, Did, Gave};
+ghost use Rattle.tape.specs.Run.{Took, Went};
 ghost use Rattle.bus.specs.Ready.{retry_delay, read_status, try_ready, wait_ready};
 
 use crate::command;
 use crate::response::Response;
-use tape::progress::{Flag, Progress, Word};
+use tape::progress::{Halt, Head};
 use tape::rows::Row;
-use tape::{progress, rows};
+use tape::rows;
 use types::clock::Hertz;
 use types::config::Config;
 use types::error::Error;
@@ -23,79 +23,56 @@ pub fn millisecond(source: Hertz) -> u32
 }
 
 // The delay before the next attempt.
-pub fn retry_delay(p: Progress, rows: &mut [u64], source: Hertz) -> Progress
-    ensures { (s : List ℕ) → Did s (retry_delay source.0) (at p (rows_in rows.old)) (at result (rows_in rows.new)) }
+pub fn retry_delay(head: &mut Head, rows: &mut [u64], source: Hertz) -> Result<(), Halt>
+    ensures { (s : List ℕ) → Went s (retry_delay source.0) head.old (rows_in rows.old) result head.new (rows_in rows.new) }
 {
     let spins = millisecond(source);
-    rows::write_row(p, rows, Row::DELAY, spins)
+    rows::write_row(head, rows, Row::DELAY, spins)
 }
 
 // The card's status.
-pub fn read_status(p: Progress, script: &[u32], rows: &mut [u64], limit: u32, rca: u16) -> Word
-    ensures { Gave script.now ℕ 0 (read_status limit rca) (at p (rows_in rows.old)) result.word (at result.progress (rows_in rows.new)) }
+pub fn read_status(head: &mut Head, script: &[u32], rows: &mut [u64], limit: u32, rca: u16) -> Result<u32, Halt>
+    ensures { Took script.now ℕ 0 (read_status limit rca) head.old (rows_in rows.old) result head.new (rows_in rows.new) }
 {
-    let answer = command::send(
-        p,
-        script,
-        rows,
-        limit,
-        13,
-        rca as u32 * 0x1_0000,
-        Response::R1,
-    );
-    let progress = answer.progress;
-    Word {
-        progress: progress,
-        word: answer.words[0],
-    }
+    let argument = rca as u32 * 0x1_0000;
+    let answer = command::send(head, script, rows, limit, 13, argument, Response::R1)?;
+    Ok(answer[0])
 }
 
 // One attempt: the card's status, and a delay if it is not ready.
 fn try_ready(
-    p: Progress,
+    head: &mut Head,
     script: &[u32],
     rows: &mut [u64],
     source: Hertz,
     limit: u32,
     rca: u16,
-) -> Flag
-    ensures { Gave script.now Bool false (try_ready source.0 limit rca) (at p (rows_in rows.old)) result.flag (at result.progress (rows_in rows.new)) }
+) -> Result<bool, Halt>
+    ensures { Took script.now Bool false (try_ready source.0 limit rca) head.old (rows_in rows.old) result head.new (rows_in rows.new) }
 {
-    let answer = read_status(p, script, rows, limit, rca);
-    let status = CardStatus(answer.word);
-    if status.ready() {
-        progress::give_flag(answer.progress, true)
-    } else {
-        Flag {
-            progress: retry_delay(answer.progress, rows, source),
-            flag: false,
-        }
+    let status = read_status(head, script, rows, limit, rca)?;
+    if CardStatus(status).ready() {
+        return Ok(true);
     }
+    retry_delay(head, rows, source)?;
+    Ok(false)
 }
 
 // Tries until the card is ready.
 pub fn wait_ready(
-    p: Progress,
+    head: &mut Head,
     script: &[u32],
     rows: &mut [u64],
     source: Hertz,
     config: Config,
     rca: u16,
-) -> Progress
-    ensures { Did script.now (wait_ready source.0 config rca) (at p (rows_in rows.old)) (at result (rows_in rows.new)) }
+) -> Result<(), Halt>
+    ensures { Went script.now (wait_ready source.0 config rca) head.old (rows_in rows.old) result head.new (rows_in rows.new) }
 {
-    let attempts = config.card_ready_attempts;
-    let limit = config.poll_limit;
-    let mut q = p;
-    let mut i: u16 = 0;
-    while i < attempts {
-        let tried = try_ready(q, script, rows, source, limit, rca);
-        let next = tried.progress;
-        if next.over(tried.flag) {
-            return next;
+    for _ in 0..config.card_ready_attempts {
+        if try_ready(head, script, rows, source, config.poll_limit, rca)? {
+            return Ok(());
         }
-        q = next.resumed(); // as it was: it is going
-        i = i + 1;
     }
-    progress::refuse(q, Error::SoftwareTimeout)
+    Err(Halt::Refused(Error::SoftwareTimeout))
 }

@@ -1,11 +1,7 @@
 // The kinds of response, and what each asks of its command.
-ghost use Rattle.std.specs.Prelude.{◌≡◌, List, true, false, ℕ};
-ghost use Rattle.tape.specs.Plan.{give};
-ghost use Rattle.tape.specs.Run.{at, Gave};
-ghost use Rattle.bus.specs.Command.{form_of, zeros};
+ghost use Rattle.std.specs.Prelude.{◌≡◌, true, false};
+ghost use Rattle.bus.specs.Command.{form_of};
 
-use tape::progress::{Pace, Progress};
-use tape::rows::Row;
 use tape::script::Sta;
 use types::status::CardStatus;
 
@@ -30,13 +26,6 @@ pub struct Form {
     pub echoes: bool,
     pub errors: u32,
     pub locked: u32,
-}
-
-// The four words of a response, zeros where the call has stopped.
-#[derive(Clone, Copy)]
-pub struct Words {
-    pub progress: Progress,
-    pub words: [u32; 4],
 }
 
 impl Form {
@@ -99,22 +88,5 @@ impl Response {
             Response::R6 => Form::short(CardStatus::R6_ERRORS, 0),
             Response::R7 => Form::short(0, 0),
         }
-    }
-}
-
-// Gives the words, unless the call has stopped.
-pub fn give_words(p: Progress, words: [u32; 4]) -> Words
-    ensures { (s : List ℕ) (l : List Row) → Gave s (List ℕ) zeros (give words) (at p l) result.words (at result.progress l) }
-{
-    let pace = p.pace;
-    match pace {
-        Pace::Going => Words {
-            progress: p,
-            words: words,
-        },
-        Pace::Stopped(_) => Words {
-            progress: p,
-            words: [0; 4],
-        },
     }
 }
