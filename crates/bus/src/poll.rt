@@ -11,7 +11,6 @@ use tape::script::{Dma, Sta};
 use tape::{progress, script};
 use types::error::Error;
 use types::status;
-use types::status::DataAnswer;
 
 // A status word and a DMA word, zeros where the call has stopped.
 #[derive(Clone, Copy)]
@@ -27,8 +26,8 @@ fn clean(p: Progress, word: u32) -> Progress
 {
     let answer = status::data_error(word);
     match answer {
-        DataAnswer::Clean => p,
-        DataAnswer::Failed(e) => progress::refuse(p, e),
+        Ok(()) => p,
+        Err(e) => progress::refuse(p, e),
     }
 }
 

@@ -8,7 +8,6 @@ ghost use Rattle.tape.specs.Steps.{word, data_words};
 
 use crate::progress::{Halt, Pace, Progress, Word};
 use crate::rows::Row;
-use reader::Found;
 
 // What a reading asks for: the controller's status, the index of the command that was answered, a response word, the
 // state of the DMA, the count of bytes left, or a data word.
@@ -92,7 +91,7 @@ pub fn read_word(p: Progress, rest: &[u32], start: usize) -> Word
     };
     let used = p.used;
     let found = reader::word(rest, used - start);
-    let Found::Word(word) = found else {
+    let Some(word) = found else {
         return Word {
             progress: p.stopped(Halt::ScriptEnded),
             word: 0,

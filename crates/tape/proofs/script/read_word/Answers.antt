@@ -20,12 +20,12 @@ returns-in_default-found c = let after = c.requires.0 in
 
 -- a word was found, so it lies inside the script, and one word more can be counted
 pub overflow_add-result : goal.overflow_add-result
-overflow_add-result c = let here = inside _ _ _ (sym c.in-Word.is ∙ c.word-found.ensures) in
+overflow_add-result c = let here = inside _ _ _ (sym c.in-Some.is ∙ c.word-found.ensures) in
     omega (arith, here, c.requires.0, c.requires.1)
 
 pub returns : goal.returns
 unfolding run word
 returns c = let after = c.requires.0 in
-    let same = sym c.in-Word.is ∙ c.word-found.ensures in
+    let same = sym c.in-Some.is ∙ c.word-found.ensures in
     λ kind s l part. from-going c.in-Going.is
     (rw (lt-ltb _ _ (in_used part after (inside _ _ _ same)), at-used part after, is_word _ _ _ same))
