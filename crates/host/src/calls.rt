@@ -322,13 +322,7 @@ impl Sdmmc {
         let bytes = buffer.len();
         let answer = self.judged(false, index, bytes);
         match answer {
-            Ok(address) => self.read_from(
-                script,
-                rows,
-                buffer,
-                address,
-                (bytes / 512) as u16,
-            ),
+            Ok(address) => self.read_from(script, rows, buffer, address, (bytes / 512) as u16),
             Err(error) => self.untouched(error),
         }
     }
@@ -400,13 +394,7 @@ impl Sdmmc {
         let bytes = data.len();
         let answer = self.judged(true, index, bytes);
         match answer {
-            Ok(address) => self.write_from(
-                script,
-                rows,
-                data,
-                address,
-                (bytes / 512) as u16,
-            ),
+            Ok(address) => self.write_from(script, rows, data, address, (bytes / 512) as u16),
             Err(error) => self.untouched(error),
         }
     }
