@@ -1,4 +1,6 @@
 -- How many words the steps take at most, one command 2 * poll_limit + 5; and how many words a data phase gives.
+use Rattle.std.specs.Prelude.{Result, Ok, Err}
+use Rattle.types.specs.declared.error.Error.{Error}
 use Prim.Native.Nat.{ℕ, zero, suc, ◌+◌, ◌*◌, ◌-◌, ◌≤◌}
 use mathlib.Core.Path.{◌≡◌, refl, ap, sym, ◌∙◌}
 use mathlib.Core.Bool.{Bool, true, false, not, ◌||◌}
@@ -6,8 +8,6 @@ use mathlib.Core.List.{List, [], ◌∷◌}
 use native.Mathlib.Omega.{arith}
 use lib.ListN.{length, take, drop, length-take, length-drop}
 use Rattle.types.specs.declared.config.Config.{Config}
-use Rattle.types.specs.declared.status.DataAnswer.{DataAnswer}
-use Rattle.types.specs.declared.status.DataAnswer.TheVariants.{Clean, Failed}
 use Rattle.types.specs.Bits.{clear}
 use Rattle.types.specs.Leaf.{data_of}
 use Rattle.types.specs.Sd.{ready_of}
@@ -148,9 +148,9 @@ start-words config buffer transfer =
     (omega arith)))
     (omega arith)
 
-heeded-words : (a : DataAnswer) → AtMost 0 (heeded a)
-heeded-words Clean = at-most-give
-heeded-words (Failed e) = at-most-fail
+heeded-words : (a : Result (Unit {0}) Error) → AtMost 0 (heeded a)
+heeded-words (Ok tt) = at-most-give
+heeded-words (Err e) = at-most-fail
 
 both_words : AtMost 2 poll_transfer
 unfolding poll_transfer clean

@@ -1,5 +1,6 @@
 -- A delay by a clock that `clock_setting` gave for a source of 2 Hz or more is one row: the clock is above 0, and the count
 -- small.
+use Rattle.std.specs.Prelude.{Result, Ok, Err}
 use Prim.Native.Nat.{ℕ, ◌+◌, ◌*◌, ◌-◌, ◌/◌, ◌^◌, ◌<◌, ◌≤◌}
 use mathlib.Core.Path.{◌≡◌, refl, ap}
 use mathlib.Core.Bool.{Bool, true, false, cond, ◌&&◌}
@@ -9,8 +10,6 @@ use native.Mathlib.Decide.{dec_le}
 use lib.Dec.{eqb, ltb, leb}
 use borrow.Author.Tests.{ltb-false, eqb-false, lt-ltb, ne_eqb}
 use Rattle.types.specs.declared.clock.Clock.{Clock}
-use Rattle.types.specs.declared.clock.ClockAnswer.{ClockAnswer}
-use Rattle.types.specs.declared.clock.ClockAnswer.TheVariants as C
 use Rattle.types.specs.declared.error.Error.{Error}
 use Rattle.types.specs.declared.error.Error.TheVariants.{BadClock}
 use Rattle.types.specs.Leaf.{rounded_up, divisor_of, clock_of}
@@ -55,15 +54,15 @@ pub record Fair (source clock : ℕ) : Type 0 where
   pub near : rounded_up source clock ≤ 514
 
 -- an answer that is no refusal
-unrefused : (b : Bool) (e : Error) (x : ClockAnswer) (k : Clock) → cond b (C.Refused e) x ≡ C.Set k → (b ≡ false) × (x ≡ C.Set k)
+unrefused : (b : Bool) (e : Error) (x : Result Clock Error) (k : Clock) → cond b (Err e) x ≡ Ok k → (b ≡ false) × (x ≡ Ok k)
 unrefused true e x k h = absurd (let z : ◌≡◌ {A = ℕ} 0 1 = cc in omega arith)
 unrefused false e x k h = (refl, h)
 
-frequency_of : ClockAnswer → ℕ
-frequency_of (C.Set k) = k.frequency.0
-frequency_of (C.Refused e) = 0
+frequency_of : Result Clock Error → ℕ
+frequency_of (Ok k) = k.frequency.0
+frequency_of (Err e) = 0
 
-pub fair : (source requested : ℕ) (bypass : Bool) (k : Clock) → 2 ≤ source → clock_of source requested bypass ≡ C.Set k
+pub fair : (source requested : ℕ) (bypass : Bool) (k : Clock) → 2 ≤ source → clock_of source requested bypass ≡ Ok k
     → Fair source k.frequency.0
 unfolding clock_of frequency_of
 fair source requested bypass k h e =
@@ -79,9 +78,9 @@ fair source requested bypass k h e =
     divided = record { divisor = d - 2; bypass = false; frequency = record { 0 = source / d } }
 
     by : (b : Bool) → 1 ≤ requested
-        → cond b (C.Set (record { divisor = 0; bypass = true; frequency = record { 0 = source } }))
-        (cond (ltb 257 d) (C.Refused BadClock) (C.Set divided))
-        ≡ C.Set k
+        → cond b (Ok (record { divisor = 0; bypass = true; frequency = record { 0 = source } }))
+        (cond (ltb 257 d) (Err BadClock) (Ok divided))
+        ≡ Ok k
         → Fair source k.frequency.0
     by true hr e =
         rw (← ap frequency_of e) (record { runs = omega arith; near = le_trans (few source 1 source (omega arith) (div-one source) (omega arith)) (omega arith) })

@@ -1,5 +1,6 @@
 -- Commands, ready waits and data phases hold nothing new, and are never refused with UnsupportedCardType, BadClock or WriteProtected;
 -- until a reset no row of theirs is the last reset row. So they obey every rule that allows the other errors, and such rows.
+use Rattle.std.specs.Prelude.{Err}
 use Prim.Native.Nat.{ℕ}
 use mathlib.Core.Bool.{Bool, true, false, cond, not, ◌&&◌, ◌||◌}
 use mathlib.Core.List.{List, [], ◌∷◌}
@@ -10,7 +11,6 @@ use Rattle.types.specs.declared.config.Config.{Config}
 use Rattle.types.specs.declared.error.Error.{Error}
 use Rattle.types.specs.declared.error.Error.TheVariants as E
 use Rattle.types.specs.declared.error.Field.TheVariants.{AppCommand}
-use Rattle.types.specs.declared.status.DataAnswer.TheVariants.{Failed}
 use Rattle.types.specs.Answer.{error_told}
 use Rattle.types.specs.Bits.{clear}
 use Rattle.types.specs.Leaf.{Rule as Masked, first_match, data_of}
@@ -156,7 +156,7 @@ module _ (rule : Rule) (others : (e : Error) → Other e → rule.refuses e) (ro
   heeded-obeys word (r ∷ rs) b = by (clear r.mask word) (heeded-obeys word rs b.1)
     where
       by : (none : Bool) → Obeys rule Nothing (heeded (first_match word rs))
-          → Obeys rule Nothing (heeded (cond none (first_match word rs) (Failed r.error)))
+          → Obeys rule Nothing (heeded (cond none (first_match word rs) (Err r.error)))
       by true ih = ih
       by false ih = on-fail (others r.error b.0)
 

@@ -1,9 +1,8 @@
 -- The data phase, as a plan (the Rust's `start_data`, `data_complete` and `blocking_data`).
-use Rattle.std.specs.Prelude.{ℕ, ◌*◌, ◌%◌, ◌^◌, Bool, true, false, cond, not, ◌||◌, List, [], eqb}
+use Rattle.std.specs.Prelude.{ℕ, ◌*◌, ◌%◌, ◌^◌, Bool, true, false, cond, not, ◌||◌, List, [], eqb, Result, Ok, Err}
+use Rattle.types.specs.declared.error.Error.{Error}
 use Rattle.types.specs.declared.config.Config.{Config}
 use Rattle.types.specs.declared.error.Error.TheVariants as E
-use Rattle.types.specs.declared.status.DataAnswer.{DataAnswer}
-use Rattle.types.specs.declared.status.DataAnswer.TheVariants.{Clean, Failed}
 use Rattle.types.specs.Bits.{clear}
 use Rattle.types.specs.Leaf.{data_of}
 use Rattle.tape.specs.declared.script.Reading.TheVariants as Reading
@@ -61,9 +60,9 @@ start_data config buffer transfer =
     then λ _. after_command buffer transfer
 
 -- what `data_error` says of a status word
-abbrev pub heeded : DataAnswer → Plan Nothing
-heeded Clean = give tt
-heeded (Failed e) = fail e
+abbrev pub heeded : Result (Unit {0}) Error → Plan Nothing
+heeded (Ok tt) = give tt
+heeded (Err e) = fail e
 
 unfoldable pub clean : ℕ → Plan Nothing
 clean status = heeded (data_of status)

@@ -1,4 +1,6 @@
 -- The order's third demand, proved of the definitions that the methods' contracts cite: any list of calls on one host.
+use Rattle.std.specs.Prelude.{Result, Ok, Err}
+use Rattle.types.specs.declared.error.Error.{Error}
 use Prim.Native.Nat.{ℕ, ◌/◌}
 use mathlib.Core.Bool.{Bool, true, false, cond, not, ◌||◌}
 use mathlib.Core.List.{List, [], ◌∷◌}
@@ -6,14 +8,8 @@ use mathlib.Core.Path.{◌≡◌, refl, ap, sym, ◌∙◌}
 use native.Mathlib.Omega.{arith}
 use lib.Dec.{eqb, ltb}
 use lib.ListN.{length}
-use Rattle.types.specs.declared.card.AddressAnswer.{AddressAnswer}
-use Rattle.types.specs.declared.card.AddressAnswer.TheVariants as Address
 use Rattle.types.specs.declared.card.Card.{Card}
 use Rattle.types.specs.declared.clock.Clock.{Clock}
-use Rattle.types.specs.declared.clock.ClockAnswer.{ClockAnswer}
-use Rattle.types.specs.declared.clock.ClockAnswer.TheVariants as Clocked
-use Rattle.types.specs.declared.config.ConfigAnswer.{ConfigAnswer}
-use Rattle.types.specs.declared.config.ConfigAnswer.TheVariants as Judged
 use Rattle.types.specs.declared.error.Answer.{Answer}
 use Rattle.types.specs.declared.error.Answer.TheVariants as Answered
 use Rattle.types.specs.declared.error.Error.TheVariants as E
@@ -71,7 +67,7 @@ unfolding after_initialise
 none_left frequency (failed e) found before may = allowed-none (eqb frequency 0 || ltb 50_000_000 frequency) before may
 none_left frequency ended found before may = allowed-none (eqb frequency 0 || ltb 50_000_000 frequency) before may
 
-module _ (host : Sdmmc) (frequency : ℕ) (s : List ℕ) (l : List Row) (c : Clock) (clocked : clock_of (source_of host.settings) 400_000 false ≡ Clocked.Set c) where
+module _ (host : Sdmmc) (frequency : ℕ) (s : List ℕ) (l : List Row) (c : Clock) (clocked : clock_of (source_of host.settings) 400_000 false ≡ Ok c) where
   abbrev init_rule : Answer → List ℕ → Held
   init_rule a words = after_initialise frequency a (found_by host.settings (initialise frequency s l)) (held_of host)
 
@@ -80,8 +76,8 @@ module _ (host : Sdmmc) (frequency : ℕ) (s : List ℕ) (l : List Row) (c : Clo
   initialise-follows = rw clocked (by (eqb frequency 0 || ltb 50_000_000 frequency) refl)
     where
       by : (b : Bool) → (eqb frequency 0 || ltb 50_000_000 frequency) ≡ b
-          → Follows host (λ a words. after_initialise frequency a (found_from host.settings frequency (Clocked.Set c) s l) (held_of host))
-          (cond b (untouched host E.BadClock l) (init_from host frequency (Clocked.Set c) s l))
+          → Follows host (λ a words. after_initialise frequency a (found_from host.settings frequency (Ok c) s l) (held_of host))
+          (cond b (untouched host E.BadClock l) (init_from host frequency (Ok c) s l))
       by true t = rw t
       by false t =
           let x = run s no_card (I.initialise host.settings c frequency) 0 0 (fresh_line c.frequency) l in
@@ -151,16 +147,16 @@ blocks-follows : (host : Sdmmc) (buffer : Buffer) (index bytes : ℕ) (s : List 
 unfolding blocks_came blocks_from blocks_approach passed left_out after_data
 blocks-follows host buffer index bytes s l = by (blocks_judged host (sends buffer) index bytes)
   where
-    by : (a : AddressAnswer)
+    by : (a : Result ℕ Error)
         → Follows host (λ r words. after_data r (passed (addressed host a) host.line s l) (held_of host) (held_of host)) (blocks_from host buffer (bytes / 512) a s l)
-    by (Address.Address a) =
+    by (Ok a) =
         served-follows host (wait_ready (source_of host.settings) host.settings.config host.card.rca) (blocks_plan host buffer a (bytes / 512)) (blocks_next host)
         (λ ws. held_of host) (λ w ws. refl) s l
-    by (Address.Refused e) = refl
+    by (Err e) = refl
 
 -- a host whose source has a clock of identification, as every one that is made
 unfoldable pub Clockable : Settings → Type 0
-Clockable set = (c : Clock) × (clock_of (source_of set) 400_000 false ≡ Clocked.Set c)
+Clockable set = (c : Clock) × (clock_of (source_of set) 400_000 false ≡ Ok c)
 
 -- One call: what is held after it is what is expected from what was held before.
 follows : (host : Sdmmc) (c : Call) → Clockable host.settings → Follows host (rule_of host c) (comes host c)
@@ -231,15 +227,15 @@ settings-stay host (c ∷ cs) = settings-stay (comes host c).host cs ∙ (leaves
 -- A host that was made: of these settings, with a clock of identification, and no record.
 
 pub made-host : (set : Settings) → (made set).answer ≡ Answered.Accepted
-    → (c : Clock) × (clock_of (source_of set) 400_000 false ≡ Clocked.Set c) × ((made set).host ≡ host_of set (fresh_line c.frequency) false no_card)
+    → (c : Clock) × (clock_of (source_of set) 400_000 false ≡ Ok c) × ((made set).host ≡ host_of set (fresh_line c.frequency) false no_card)
 unfolding made judged_host clocked_host
 made-host set r = by (made_of (source_of set) set.config) (clock_of (source_of set) 400_000 false) refl r
   where
-    by : (a : ConfigAnswer) (k : ClockAnswer) → clock_of (source_of set) 400_000 false ≡ k → (judged_host set a).answer ≡ Answered.Accepted
-        → (c : Clock) × (clock_of (source_of set) 400_000 false ≡ Clocked.Set c) × ((judged_host set a).host ≡ host_of set (fresh_line c.frequency) false no_card)
-    by Judged.Sound (Clocked.Set c) e r = (c, e, rw e)
-    by Judged.Sound (Clocked.Refused x) e r = let no : Answered.Refused x ≡ Answered.Accepted = rw e at r in let z : ◌≡◌ {A = ℕ} 0 1 = cc in absurd (omega arith)
-    by (Judged.Refused x) k e r = let z : ◌≡◌ {A = ℕ} 0 1 = cc in absurd (omega arith)
+    by : (a : Result (Unit {0}) Error) (k : Result Clock Error) → clock_of (source_of set) 400_000 false ≡ k → (judged_host set a).answer ≡ Answered.Accepted
+        → (c : Clock) × (clock_of (source_of set) 400_000 false ≡ Ok c) × ((judged_host set a).host ≡ host_of set (fresh_line c.frequency) false no_card)
+    by (Ok tt) (Ok c) e r = (c, e, rw e)
+    by (Ok tt) (Err x) e r = let no : Answered.Refused x ≡ Answered.Accepted = rw e at r in let z : ◌≡◌ {A = ℕ} 0 1 = cc in absurd (omega arith)
+    by (Err x) k e r = let z : ◌≡◌ {A = ℕ} 0 1 = cc in absurd (omega arith)
 
 pub made-clockable : (set : Settings) → (made set).answer ≡ Answered.Accepted → Clockable (made set).host.settings
 unfolding Clockable

@@ -1,6 +1,9 @@
 -- What the record held has, after any list of calls: what every initialisation finds and no status changes. So it counts what SD
 -- has for the CSD in it, and no record is held of a card whose CSD has no capacity by SD; and its two flags are those of that CSD.
 -- Where none is held, the host has the record of no card.
+use Rattle.std.specs.Prelude.{Result, Ok, Err}
+use Rattle.types.specs.declared.clock.Clock.{Clock}
+use Rattle.types.specs.declared.error.Error.{Error}
 use Prim.Native.Nat.{ℕ, ◌/◌}
 use mathlib.Core.Bool.{Bool, true, false, cond, ◌||◌}
 use mathlib.Core.List.{List, [], ◌∷◌}
@@ -8,11 +11,7 @@ use mathlib.Core.Path.{◌≡◌, refl}
 use native.Mathlib.Omega.{arith}
 use lib.Dec.{eqb, ltb}
 use lib.ListN.{length}
-use Rattle.types.specs.declared.card.AddressAnswer.{AddressAnswer}
-use Rattle.types.specs.declared.card.AddressAnswer.TheVariants as Address
 use Rattle.types.specs.declared.card.Card.{Card}
-use Rattle.types.specs.declared.clock.ClockAnswer.{ClockAnswer}
-use Rattle.types.specs.declared.clock.ClockAnswer.TheVariants as Clocked
 use Rattle.types.specs.declared.error.Answer.TheVariants as Answered
 use Rattle.types.specs.declared.error.Error.TheVariants as E
 use Rattle.types.specs.Leaf.{clock_of}
@@ -69,9 +68,9 @@ module _ (P : Card → Type 0) (finds : (card : Card) → Found card → P card)
         by_cases (λ (x : Came). Has x.host) (eqb frequency 0 || ltb 50_000_000 frequency) _ _ h
         (by (clock_of (source_of host.settings) 400_000 false))
       where
-        by : (a : ClockAnswer) → Has (init_from host frequency a s l).host
-        by (Clocked.Refused e) = h
-        by (Clocked.Set c) =
+        by : (a : Result Clock Error) → Has (init_from host frequency a s l).host
+        by (Err e) = h
+        by (Ok c) =
             let x = run s no_card (I.initialise host.settings c frequency) 0 0 (fresh_line c.frequency) l in
             has-at host (dropped host x.state) (holding host x.state x.value) [] x.state.progress.pace x.state h (has-none _ _)
             (λ g. has_one host x.state (finds x.value (found s host.settings c frequency l g)))
@@ -106,9 +105,9 @@ module _ (P : Card → Type 0) (finds : (card : Card) → Found card → P card)
     unfolding blocks_came blocks_from
     blocks-has buffer index bytes = by (blocks_judged host (sends buffer) index bytes)
       where
-        by : (a : AddressAnswer) → Has (blocks_from host buffer (bytes / 512) a s l).host
-        by (Address.Refused e) = h
-        by (Address.Address a) = served-has _ (blocks_plan host buffer a (bytes / 512)) (blocks_next host) (λ w ws. has_kept w)
+        by : (a : Result ℕ Error) → Has (blocks_from host buffer (bytes / 512) a s l).host
+        by (Err e) = h
+        by (Ok a) = served-has _ (blocks_plan host buffer a (bytes / 512)) (blocks_next host) (λ w ws. has_kept w)
 
   comes-has : (host : Sdmmc) → Has host → (c : Call) → Has (comes host c).host
   unfolding comes

@@ -1,5 +1,6 @@
 -- 'A call whose data phase had begun', as a caller can see it: a refused read, write or status call, one whose script ended among them, had
 -- begun its data phase exactly if the last rows that it wrote are the reset rows.
+use Rattle.std.specs.Prelude.{Result, Ok, Err}
 use Prim.Native.Nat.{ℕ, ◌+◌, ◌-◌, ◌≤◌}
 use mathlib.Core.Bool.{Bool, true, false, cond}
 use mathlib.Core.List.{List}
@@ -7,8 +8,6 @@ use mathlib.Core.Path.{◌≡◌, refl, ap, sym, ◌∙◌}
 use native.Mathlib.Omega.{arith}
 use lib.ListN.{length, get_or, take, drop}
 use lib.Seq.{get_or-take, get_or-drop}
-use Rattle.types.specs.declared.card.AddressAnswer.{AddressAnswer}
-use Rattle.types.specs.declared.card.AddressAnswer.TheVariants as Address
 use Rattle.types.specs.declared.error.Error.{Error}
 use Rattle.types.specs.Words.{words_of}
 use Rattle.tape.specs.Pace.{Going, Stopped}
@@ -94,14 +93,14 @@ module _ (host : Sdmmc) (s : List ℕ) (l : List Row) (e : Cause) where
   unfolding blocks_approach passed
   blocks-begun buffer index bytes r = by (blocks_judged host (sends buffer) index bytes) refl
     where
-      by : (a : AddressAnswer) → blocks_judged host (sends buffer) index bytes ≡ a
+      by : (a : Result ℕ Error) → blocks_judged host (sends buffer) index bytes ≡ a
           → Seen (passed (addressed host a) host.line s l) (blocks_came host buffer index bytes s l)
-      by (Address.Address a) j =
+      by (Ok a) j =
           of-refused (starts-last approach_rule s (tt {0}) host.line l (ready-obeys approach_rule (λ x o. tt) (λ row o. o) (source_of host.settings) host.settings.config host.card.rca) tt)
           (blocks_refused_in host buffer index bytes a s l j e r)
           (λ g. let same = blocks-early host buffer index bytes a s l j e g in (ap (λ (x : Came). x.rows) same, ap (λ (x : Came). x.list) same))
           (λ g. after-reset (blocks_refused_in_data host buffer index bytes a s l j e g r))
-      by (Address.Refused x) j = of-untouched (judged-untouched host s l buffer index bytes x j)
+      by (Err x) j = of-untouched (judged-untouched host s l buffer index bytes x j)
 
   pub read-begun : (index bytes : ℕ) → (comes host (read index bytes s l)).answer ≡ answer_for e
       → Seen (begun host (read index bytes s l)) (comes host (read index bytes s l))

@@ -1,11 +1,11 @@
 -- A read, a write and a status call leave clock, signalling and gate as they were: of what the host holds of its line, their plans
 -- change no more than CLKCR, by its rows.
+use Rattle.std.specs.Prelude.{Result, Ok, Err}
+use Rattle.types.specs.declared.error.Error.{Error}
 use Prim.Native.Nat.{ℕ, ◌/◌}
 use mathlib.Core.List.{List, []}
 use mathlib.Core.Path.{◌≡◌, refl}
 use lib.ListN.{length}
-use Rattle.types.specs.declared.card.AddressAnswer.{AddressAnswer}
-use Rattle.types.specs.declared.card.AddressAnswer.TheVariants as Address
 use Rattle.types.specs.Words.{words_of}
 use Rattle.tape.specs.declared.progress.Halt.TheVariants.{Refused, ScriptEnded, TraceFull}
 use Rattle.tape.specs.declared.progress.Line.{Line}
@@ -82,9 +82,9 @@ blocks_steady : (host : Sdmmc) (buffer : Buffer) (index bytes : ℕ) (s : List �
 unfolding blocks_came blocks_from
 blocks_steady host buffer index bytes s l = by (blocks_judged host (sends buffer) index bytes)
   where
-    by : (a : AddressAnswer) → SameLine host.line (blocks_from host buffer (bytes / 512) a s l).host.line
-    by (Address.Refused e) = unmoved
-    by (Address.Address a) =
+    by : (a : Result ℕ Error) → SameLine host.line (blocks_from host buffer (bytes / 512) a s l).host.line
+    by (Err e) = unmoved
+    by (Ok a) =
         served_steady host (wait_ready (source_of host.settings) host.settings.config host.card.rca) (blocks_plan host buffer a (bytes / 512)) (blocks_next host) s l
         (ready-obeys (line_rule host.line) (λ e o. tt) (λ r o. tt) _ _ _) (data_steady host buffer (blocks_transfer buffer a (bytes / 512))) (λ w ws. refl)
 

@@ -1,4 +1,5 @@
 -- Theorems about whole calls, of a host that was made and has served any list of calls (of one call: refusals/proofs/Whole.antt).
+use Rattle.std.specs.Prelude.{Ok, Err}
 use Prim.Native.Nat.{ℕ, ◌≤◌}
 use mathlib.Core.Bool.{Bool, true, false, cond, ◌||◌}
 use mathlib.Core.List.{List, []}
@@ -7,7 +8,6 @@ use native.Mathlib.Omega.{arith}
 use lib.Dec.{eqb, ltb}
 use lib.ListN.{length}
 use borrow.Author.Tests.{ltb-false}
-use Rattle.types.specs.declared.config.ConfigAnswer.TheVariants as Judged
 use Rattle.types.specs.declared.error.Answer.TheVariants as Answered
 use Rattle.types.specs.declared.error.Error.TheVariants as E
 use Rattle.types.specs.Answer.{error_told}
@@ -36,7 +36,7 @@ made-source set r =
     (ltb (source_of set) 2) (ltb 102_800_000 (source_of set)) refl r
   where
     by : (a b c : Bool) → ltb (source_of set) 2 ≡ b
-        → (judged_host set (cond a (Judged.Refused E.InvalidConfig) (cond (b || c) (Judged.Refused E.BadClock) Judged.Sound))).answer ≡ Answered.Accepted
+        → (judged_host set (cond a (Err E.InvalidConfig) (cond (b || c) (Err E.BadClock) (Ok tt)))).answer ≡ Answered.Accepted
         → 2 ≤ source_of set
     by true b c e r = let z : ◌≡◌ {A = ℕ} 0 1 = cc in absurd (omega arith)
     by false true c e r = let z : ◌≡◌ {A = ℕ} 0 1 = cc in absurd (omega arith)

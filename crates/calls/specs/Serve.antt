@@ -2,12 +2,10 @@
 -- 'Take any list of calls on one host, leaving out those answered TraceFull. The record held is that of the last accepted
 -- initialisation, its status that of the last accepted status read since, or zero. There is none before the first, nor once an
 -- initialisation of allowed frequency, or a call whose data phase had begun, was refused since.'
-use Rattle.std.specs.Prelude.{ℕ, Bool, true, false, cond, not, ◌||◌, List, [], ◌∷◌, ◌≡◌, eqb, ltb, length, replicate}
-use Rattle.types.specs.declared.card.AddressAnswer.{AddressAnswer}
-use Rattle.types.specs.declared.card.AddressAnswer.TheVariants as Address
+use Rattle.std.specs.Prelude.{ℕ, Bool, true, false, cond, not, ◌||◌, List, [], ◌∷◌, ◌≡◌, eqb, ltb, length, replicate, Result, Ok, Err}
+use Rattle.types.specs.declared.clock.Clock.{Clock}
+use Rattle.types.specs.declared.error.Error.{Error}
 use Rattle.types.specs.declared.card.Card.{Card}
-use Rattle.types.specs.declared.clock.ClockAnswer.{ClockAnswer}
-use Rattle.types.specs.declared.clock.ClockAnswer.TheVariants as Clocked
 use Rattle.types.specs.declared.error.Answer.{Answer}
 use Rattle.types.specs.declared.error.Answer.TheVariants as Answered
 use Rattle.types.specs.declared.error.Error.TheVariants as E
@@ -57,9 +55,9 @@ serve host (c ∷ cs) =
 -- What is told of a call, apart from the host that it leaves.
 
 -- the record that an initialisation gave: its plan takes the settings and the asked frequency alone
-unfoldable pub found_from : Settings → ℕ → ClockAnswer → List ℕ → List Row → Card
-found_from set frequency (Clocked.Refused e) s l = no_card
-found_from set frequency (Clocked.Set c) s l = (run s no_card (I.initialise set c frequency) 0 0 (fresh_line c.frequency) l).value
+unfoldable pub found_from : Settings → ℕ → Result Clock Error → List ℕ → List Row → Card
+found_from set frequency (Err e) s l = no_card
+found_from set frequency (Ok c) s l = (run s no_card (I.initialise set c frequency) 0 0 (fresh_line c.frequency) l).value
 
 unfoldable pub found_by : Settings → Call → Card
 found_by set (initialise frequency s l) = found_from set frequency (clock_of (source_of set) 400_000 false) s l
@@ -72,9 +70,9 @@ pub data Approach : Type 0 where
   none : Approach
   approach : Plan Nothing → Approach
 
-abbrev pub addressed : Sdmmc → AddressAnswer → Approach
-addressed host (Address.Refused e) = none
-addressed host (Address.Address a) = approach (wait_ready (source_of host.settings) host.settings.config host.card.rca)
+abbrev pub addressed : Sdmmc → Result ℕ Error → Approach
+addressed host (Err e) = none
+addressed host (Ok a) = approach (wait_ready (source_of host.settings) host.settings.config host.card.rca)
 
 -- of so many bytes from a block on, sent or not
 unfoldable pub blocks_approach : Sdmmc → Bool → ℕ → ℕ → Approach

@@ -1,4 +1,5 @@
 -- The data words of an accepted read lie in the script one after the other, from the place of its last word 0 on.
+use Rattle.std.specs.Prelude.{Result, Ok, Err}
 use Prim.Native.Nat.{ℕ, zero, suc, ◌+◌, ◌/◌, ◌<◌}
 use mathlib.Core.Path.{◌≡◌, refl, ap, ◌∙◌}
 use mathlib.Core.Bool.{Bool, true, false, cond}
@@ -9,8 +10,6 @@ use lib.Dec.{ltb}
 use lib.ListN.{length, get_or, take, drop, set}
 use lib.Seq.{drop-cons}
 use borrow.Author.Tests.{lt-ltb, le-ltb, ne_eqb}
-use Rattle.types.specs.declared.card.AddressAnswer.{AddressAnswer}
-use Rattle.types.specs.declared.card.AddressAnswer.TheVariants as Address
 use Rattle.types.specs.declared.config.Config.{Config}
 use Rattle.types.specs.declared.error.Answer.{Answer}
 use Rattle.types.specs.declared.error.Answer.TheVariants as Answered
@@ -356,10 +355,10 @@ module _ (s : List ℕ) where
             laid-handle [] (no_closing host) (λ c. c.taken) refl (accepting host next) (dropping host) transfer
             (λ q u n u' n' h h' l l' going. b.each q u n h l) (λ e q u n h l. refl)
 
-    at-laid : (blocks : ℕ) (a : AddressAnswer) → LaidCall (blocks_at host incoming blocks a)
+    at-laid : (blocks : ℕ) (a : Result ℕ Error) → LaidCall (blocks_at host incoming blocks a)
     unfolding blocks_at
-    at-laid blocks (Address.Refused e) = keeping-laid e
-    at-laid blocks (Address.Address a) = call-laid (blocks_host host) _ _ (transfer-laid _ _ _ _)
+    at-laid blocks (Err e) = keeping-laid e
+    at-laid blocks (Ok a) = call-laid (blocks_host host) _ _ (transfer-laid _ _ _ _)
 
     read-laid : (index bytes : ℕ) → LaidCall (blocks_call host incoming index bytes)
     unfolding blocks_call
@@ -403,10 +402,10 @@ ends-own host refused accepted words (Stopped ScriptEnded) w = refl
 ends-own host refused accepted words (Stopped TraceFull) w = refl
 
 module _ (host : Sdmmc) (index bytes : ℕ) (s : List ℕ) (l : List Row) where
-  from-own : (a : AddressAnswer) → Own (blocks_from host incoming (bytes / 512) a s l)
+  from-own : (a : Result ℕ Error) → Own (blocks_from host incoming (bytes / 512) a s l)
   unfolding blocks_from served approached transferred taken_by
-  from-own (Address.Refused e) = refl
-  from-own (Address.Address a) = by w.progress.pace
+  from-own (Err e) = refl
+  from-own (Ok a) = by w.progress.pace
     where
       w : State
       w = (run s (tt {0}) (wait_ready (source_of host.settings) host.settings.config host.card.rca) 0 0 host.line l).state

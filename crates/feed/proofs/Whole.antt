@@ -1,15 +1,13 @@
 -- Each call on a script comes to what its one plan does there: `initialised`, `blocks_came` and `status_came` are the runs of
 -- `init_call`, `blocks_call` and `status_call`.
+use Rattle.std.specs.Prelude.{Result, Ok, Err}
+use Rattle.types.specs.declared.clock.Clock.{Clock}
 use Prim.Native.Nat.{ℕ, ◌/◌}
 use mathlib.Core.Path.{◌≡◌, refl, ap, sym, ◌∙◌}
 use mathlib.Core.Bool.{Bool, true, false, cond, ◌||◌}
 use mathlib.Core.List.{List, []}
 use lib.Dec.{eqb, ltb}
-use Rattle.types.specs.declared.card.AddressAnswer.{AddressAnswer}
-use Rattle.types.specs.declared.card.AddressAnswer.TheVariants as Address
 use Rattle.types.specs.declared.card.Card.{Card}
-use Rattle.types.specs.declared.clock.ClockAnswer.{ClockAnswer}
-use Rattle.types.specs.declared.clock.ClockAnswer.TheVariants as Clocked
 use Rattle.types.specs.declared.error.Error.{Error}
 use Rattle.types.specs.declared.error.Error.TheVariants as E
 use Rattle.types.specs.Leaf.{clock_of}
@@ -55,10 +53,10 @@ module _ (host : Sdmmc) (s : List ℕ) (l : List Row) where
   init_ends v (Stopped ScriptEnded) w = refl
   init_ends v (Stopped TraceFull) w = refl
 
-  init-at : (frequency : ℕ) (a : ClockAnswer) → init_from host frequency a s l ≡ came (init_at host frequency a)
+  init-at : (frequency : ℕ) (a : Result Clock Error) → init_from host frequency a s l ≡ came (init_at host frequency a)
   unfolding init_from init_at run
-  init-at frequency (Clocked.Refused e) = untouched-call e
-  init-at frequency (Clocked.Set c) =
+  init-at frequency (Err e) = untouched-call e
+  init-at frequency (Ok c) =
       let p = initialise host.settings c frequency in
       let x = run s no_card p 0 0 (fresh_line c.frequency) l in
       init_ends x.value x.state.progress.pace x.state
@@ -106,10 +104,10 @@ module _ (host : Sdmmc) (s : List ℕ) (l : List Row) where
 
   -- a read or a write
   module _ (buffer : Buffer) where
-    blocks-at : (blocks : ℕ) (a : AddressAnswer) → blocks_from host buffer blocks a s l ≡ came (blocks_at host buffer blocks a)
+    blocks-at : (blocks : ℕ) (a : Result ℕ Error) → blocks_from host buffer blocks a s l ≡ came (blocks_at host buffer blocks a)
     unfolding blocks_from blocks_at
-    blocks-at blocks (Address.Refused e) = untouched-call e
-    blocks-at blocks (Address.Address a) =
+    blocks-at blocks (Err e) = untouched-call e
+    blocks-at blocks (Ok a) =
         served-call (blocks_host host) (wait_ready (source_of host.settings) host.settings.config host.card.rca) (blocks_plan host buffer a blocks)
 
     pub blocks-call : (index bytes : ℕ) → blocks_came host buffer index bytes s l ≡ came (blocks_call host buffer index bytes)

@@ -1,4 +1,5 @@
 -- What a call's steps come to, from their contracts.
+use Rattle.std.specs.Prelude.{Ok, Err}
 use mathlib.Core.Bool.{Bool, true, false, cond, ◌&&◌}
 use mathlib.Core.List.{List, []}
 use mathlib.Core.Path.{◌≡◌, refl, ap, sym, ◌∙◌}
@@ -6,7 +7,6 @@ use Prim.Native.Nat.{ℕ, ◌/◌, ◌%◌, ◌≤◌}
 use native.Mathlib.Omega.{arith}
 use lib.Dec.{eqb}
 use borrow.Author.Tests.{eqb-true}
-use Rattle.types.specs.declared.card.AddressAnswer.TheVariants as Address
 use Rattle.types.specs.declared.error.Error.TheVariants as E
 use Rattle.types.specs.Leaf.{address_of, stops_writes}
 use Rattle.types.proofs.Agree.{address}
@@ -137,15 +137,15 @@ pub record Good (bytes : ℕ) : Type 0 where
   pub some : 1 ≤ bytes / 512
   pub most : bytes / 512 ≤ 511
 
-pub judged-good : (host : Sdmmc) (sends : Bool) (index bytes a : ℕ) → blocks_judged host sends index bytes ≡ Address.Address a → Good bytes
+pub judged-good : (host : Sdmmc) (sends : Bool) (index bytes a : ℕ) → blocks_judged host sends index bytes ≡ Ok a → Good bytes
 unfolding blocks_judged
 judged-good host sends index bytes a e = by host.known (sends && stops_writes host.card.protection) (eqb (bytes % 512) 0) refl e
   where
     by : (known stops whole : Bool) → eqb (bytes % 512) 0 ≡ whole
         → cond known
-        (cond stops (Address.Refused E.WriteProtected)
-        (cond whole (address_of host.card.card_type host.card.block_count.0 index (bytes / 512)) (Address.Refused E.InvalidBufferLength)))
-        (Address.Refused E.NoCard) ≡ Address.Address a → Good bytes
+        (cond stops (Err E.WriteProtected)
+        (cond whole (address_of host.card.card_type host.card.block_count.0 index (bytes / 512)) (Err E.InvalidBufferLength)))
+        (Err E.NoCard) ≡ Ok a → Good bytes
     by true false true t e =
         let place = address _ _ _ _ _ e in
         record { whole = eqb-true (bytes % 512) 0 t; some = place.some; most = place.most }

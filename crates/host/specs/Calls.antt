@@ -1,15 +1,10 @@
 -- What each call on a host comes to: its answer, the words it used and the rows it wrote, the row list, the lent buffer and
 -- the next host; for every script, list, buffer and argument. A call is served by running its plan.
-use Rattle.std.specs.Prelude.{ℕ, ◌*◌, ◌/◌, ◌%◌, min, Bool, true, false, cond, ◌&&◌, ◌||◌, List, [], ◌++◌, eqb, ltb, length, take, drop, replicate}
-use Rattle.types.specs.declared.card.AddressAnswer.{AddressAnswer}
-use Rattle.types.specs.declared.card.AddressAnswer.TheVariants as Address
+use Rattle.std.specs.Prelude.{ℕ, ◌*◌, ◌/◌, ◌%◌, min, Bool, true, false, cond, ◌&&◌, ◌||◌, List, [], ◌++◌, eqb, ltb, length, take, drop, replicate, Result, Ok, Err}
+use Rattle.types.specs.declared.clock.Clock.{Clock}
 use Rattle.types.specs.declared.card.Card.{Card}
 use Rattle.types.specs.declared.card.Signalling.TheVariants.{SDR12}
-use Rattle.types.specs.declared.clock.ClockAnswer.{ClockAnswer}
-use Rattle.types.specs.declared.clock.ClockAnswer.TheVariants as Clocked
 use Rattle.types.specs.declared.clock.Hertz.{Hertz}
-use Rattle.types.specs.declared.config.ConfigAnswer.{ConfigAnswer}
-use Rattle.types.specs.declared.config.ConfigAnswer.TheVariants as Judged
 use Rattle.types.specs.declared.error.Answer.{Answer}
 use Rattle.types.specs.declared.error.Answer.TheVariants as Answered
 use Rattle.types.specs.declared.error.Error.{Error}
@@ -97,9 +92,9 @@ ends host refused accepted words (Stopped TraceFull) w = came Answered.TraceFull
 
 -- Initialisation: any refusal of its plan leaves no record.
 
-unfoldable pub init_from : Sdmmc → ℕ → ClockAnswer → List ℕ → List Row → Came
-init_from host frequency (Clocked.Refused e) s l = untouched host e l
-init_from host frequency (Clocked.Set c) s l =
+unfoldable pub init_from : Sdmmc → ℕ → Result Clock Error → List ℕ → List Row → Came
+init_from host frequency (Err e) s l = untouched host e l
+init_from host frequency (Ok c) s l =
     let x = run s no_card (initialise host.settings c frequency) 0 0 (fresh_line c.frequency) l in
     ends host (dropped host x.state) (holding host x.state x.value) [] x.state.progress.pace x.state
 
@@ -149,22 +144,22 @@ blocks_next host w ws = kept host w
 abbrev pub blocks_data : Sdmmc → Buffer → ℕ → ℕ → List ℕ → State → Came
 blocks_data host buffer address blocks s w = transferred host (blocks_plan host buffer address blocks) (blocks_next host) s w
 
-unfoldable pub blocks_from : Sdmmc → Buffer → ℕ → AddressAnswer → List ℕ → List Row → Came
-blocks_from host buffer blocks (Address.Refused e) s l = untouched host e l
-blocks_from host buffer blocks (Address.Address a) s l =
+unfoldable pub blocks_from : Sdmmc → Buffer → ℕ → Result ℕ Error → List ℕ → List Row → Came
+blocks_from host buffer blocks (Err e) s l = untouched host e l
+blocks_from host buffer blocks (Ok a) s l =
     served host (wait_ready (source_of host.settings) host.settings.config host.card.rca)
     (blocks_plan host buffer a blocks) (blocks_next host) s l
 
 -- THE CHECKS BEFORE ANYTHING REACHES THE CARD, in their order: 16; at a write 26, where the card is protected against writing (P8);
 -- 19 for a byte length not a multiple of 512, for 0 blocks or over 511; 20 when index plus count exceeds the blocks. Then the address
-unfoldable pub blocks_judged : Sdmmc → Bool → ℕ → ℕ → AddressAnswer
+unfoldable pub blocks_judged : Sdmmc → Bool → ℕ → ℕ → Result ℕ Error
 blocks_judged host sends index bytes =
     cond host.known
-    (cond (sends && stops_writes host.card.protection) (Address.Refused E.WriteProtected)
+    (cond (sends && stops_writes host.card.protection) (Err E.WriteProtected)
     (cond (eqb (bytes % 512) 0)
     (address_of host.card.card_type host.card.block_count.0 index (bytes / 512))
-    (Address.Refused E.InvalidBufferLength)))
-    (Address.Refused E.NoCard)
+    (Err E.InvalidBufferLength)))
+    (Err E.NoCard)
 
 -- a write sends its words
 abbrev pub sends : Buffer → Bool
@@ -274,13 +269,13 @@ no_host =
     })
     (fresh_line (record { 0 = 0 })) false no_card
 
-unfoldable pub clocked_host : Settings → ClockAnswer → Made
-clocked_host set (Clocked.Set c) = record { answer = Answered.Accepted; host = host_of set (fresh_line c.frequency) false no_card }
-clocked_host set (Clocked.Refused e) = record { answer = Answered.Refused e; host = no_host }
+unfoldable pub clocked_host : Settings → Result Clock Error → Made
+clocked_host set (Ok c) = record { answer = Answered.Accepted; host = host_of set (fresh_line c.frequency) false no_card }
+clocked_host set (Err e) = record { answer = Answered.Refused e; host = no_host }
 
-unfoldable pub judged_host : Settings → ConfigAnswer → Made
-judged_host set Judged.Sound = clocked_host set (clock_of (source_of set) 400_000 false)
-judged_host set (Judged.Refused e) = record { answer = Answered.Refused e; host = no_host }
+unfoldable pub judged_host : Settings → Result (Unit {0}) Error → Made
+judged_host set (Ok tt) = clocked_host set (clock_of (source_of set) 400_000 false)
+judged_host set (Err e) = record { answer = Answered.Refused e; host = no_host }
 
 unfoldable pub made : Settings → Made
 made set = judged_host set (made_of (source_of set) set.config)

@@ -1,7 +1,5 @@
 // The calls on a host: initialise, SD status, read and write blocks.
-ghost use Rattle.std.specs.Prelude.{◌≡◌, List, [], ◌&&◌, ℕ, ◌*◌, ◌≤◌, length};
-ghost use Rattle.types.specs.declared.card.AddressAnswer.TheVariants as Address;
-ghost use Rattle.types.specs.declared.clock.ClockAnswer.TheVariants as Clocked;
+ghost use Rattle.std.specs.Prelude.{◌≡◌, List, [], ◌&&◌, ℕ, ◌*◌, ◌≤◌, length, Ok};
 ghost use Rattle.types.specs.Leaf.{stops_writes};
 ghost use Rattle.types.specs.Words.{words_of};
 ghost use Rattle.tape.specs.Layout.{rows_in};
@@ -16,8 +14,8 @@ use bus::{command, ready, transfer};
 use init::{card, identify, lent};
 use tape::progress::{Pace, Progress};
 use tape::rows::Row;
-use types::card::{AddressAnswer, Card, block_address};
-use types::clock::{Clock, ClockAnswer, Hertz, clock_setting};
+use types::card::{Card, block_address};
+use types::clock::{Clock, Hertz, clock_setting};
 use types::error::{Answer, Error};
 use types::register::Protection;
 use types::words;
@@ -107,8 +105,8 @@ impl Sdmmc {
 
     // An initialisation with this clock of identification.
     fn init_from(self, script: &[u32], rows: &mut [u64], frequency: Hertz, initial: Clock) -> Called
-        ensures answered { result ≡ called_of (init_from self frequency.0 (Clocked.Set initial) script.now (rows_in rows.old)) }
-        ensures listed { rows_in rows.new ≡ (init_from self frequency.0 (Clocked.Set initial) script.now (rows_in rows.old)).list }
+        ensures answered { result ≡ called_of (init_from self frequency.0 (Ok initial) script.now (rows_in rows.old)) }
+        ensures listed { rows_in rows.new ≡ (init_from self frequency.0 (Ok initial) script.now (rows_in rows.old)).list }
     {
         let settings = self.settings;
         let clock = initial.frequency;
@@ -140,8 +138,8 @@ impl Sdmmc {
         }
         let answer = clock_setting(source, Hertz(Sdmmc::IDENTIFICATION), false);
         match answer {
-            ClockAnswer::Set(initial) => self.init_from(script, rows, frequency, initial),
-            ClockAnswer::Refused(error) => self.untouched(error),
+            Ok(initial) => self.init_from(script, rows, frequency, initial),
+            Err(error) => self.untouched(error),
         }
     }
 
@@ -272,9 +270,9 @@ impl Sdmmc {
         blocks: u16,
     ) -> Called
         requires { blocks ≤ 511 }
-        ensures answered { result ≡ called_of (blocks_from self incoming blocks (Address.Address address) script.now (rows_in rows.old)) }
-        ensures listed { rows_in rows.new ≡ (blocks_from self incoming blocks (Address.Address address) script.now (rows_in rows.old)).list }
-        ensures filled { buffer.new ≡ buffer_of (blocks_from self incoming blocks (Address.Address address) script.now (rows_in rows.old)) buffer.old }
+        ensures answered { result ≡ called_of (blocks_from self incoming blocks (Ok address) script.now (rows_in rows.old)) }
+        ensures listed { rows_in rows.new ≡ (blocks_from self incoming blocks (Ok address) script.now (rows_in rows.old)).list }
+        ensures filled { buffer.new ≡ buffer_of (blocks_from self incoming blocks (Ok address) script.now (rows_in rows.old)) buffer.old }
     {
         let source = self.settings.source;
         let config = self.settings.config;
@@ -290,7 +288,7 @@ impl Sdmmc {
 
     // The checks of a read or a write of so many bytes from a block on, before anything reaches the card: there is a card, it
     // may be written to, and it has that many whole blocks there, 1 to 511. Then the address of the first.
-    pub fn judged(self, sends: bool, index: u32, bytes: usize) -> AddressAnswer
+    pub fn judged(self, sends: bool, index: u32, bytes: usize) -> Result<u32, Error>
         ensures { result ≡ blocks_judged self sends index bytes }
     {
         let card = self.card;
@@ -298,13 +296,13 @@ impl Sdmmc {
         let count = card.block_count;
         let protection = card.protection;
         if !self.known {
-            return AddressAnswer::Refused(Error::NoCard);
+            return Err(Error::NoCard);
         }
         if barred(sends, protection) {
-            return AddressAnswer::Refused(Error::WriteProtected);
+            return Err(Error::WriteProtected);
         }
         if bytes % 512 != 0 {
-            return AddressAnswer::Refused(Error::InvalidBufferLength);
+            return Err(Error::InvalidBufferLength);
         }
         block_address(class, count, index, bytes / 512)
     }
@@ -324,14 +322,8 @@ impl Sdmmc {
         let bytes = buffer.len();
         let answer = self.judged(false, index, bytes);
         match answer {
-            AddressAnswer::Address(address) => self.read_from(
-                script,
-                rows,
-                buffer,
-                address,
-                (bytes / 512) as u16,
-            ),
-            AddressAnswer::Refused(error) => self.untouched(error),
+            Ok(address) => self.read_from(script, rows, buffer, address, (bytes / 512) as u16),
+            Err(error) => self.untouched(error),
         }
     }
 
@@ -373,8 +365,8 @@ impl Sdmmc {
         blocks: u16,
     ) -> Called
         requires { (blocks ≤ 511) × (length «data».now ≡ 512 * blocks) }
-        ensures answered { result ≡ called_of (blocks_from self (outgoing (words_of «data».now)) blocks (Address.Address address) script.now (rows_in rows.old)) }
-        ensures listed { rows_in rows.new ≡ (blocks_from self (outgoing (words_of «data».now)) blocks (Address.Address address) script.now (rows_in rows.old)).list }
+        ensures answered { result ≡ called_of (blocks_from self (outgoing (words_of «data».now)) blocks (Ok address) script.now (rows_in rows.old)) }
+        ensures listed { rows_in rows.new ≡ (blocks_from self (outgoing (words_of «data».now)) blocks (Ok address) script.now (rows_in rows.old)).list }
     {
         let source = self.settings.source;
         let config = self.settings.config;
@@ -402,14 +394,8 @@ impl Sdmmc {
         let bytes = data.len();
         let answer = self.judged(true, index, bytes);
         match answer {
-            AddressAnswer::Address(address) => self.write_from(
-                script,
-                rows,
-                data,
-                address,
-                (bytes / 512) as u16,
-            ),
-            AddressAnswer::Refused(error) => self.untouched(error),
+            Ok(address) => self.write_from(script, rows, data, address, (bytes / 512) as u16),
+            Err(error) => self.untouched(error),
         }
     }
 }

@@ -9,8 +9,8 @@ use init::settings::Settings;
 use tape::progress::{Halt, Line, Pace, Progress};
 use tape::rows::Row;
 use types::card::{Card, Signalling};
-use types::clock::{ClockAnswer, Hertz, clock_setting};
-use types::config::{Config, ConfigAnswer};
+use types::clock::{Hertz, clock_setting};
+use types::config::Config;
 use types::error::{Answer, Error};
 
 // A host: its settings, what it holds of the line to the card, and the record of the card, zeros where it has none.
@@ -108,7 +108,7 @@ fn clocked(settings: Settings) -> Made
     let source = settings.source;
     let answer = clock_setting(source, Hertz(Sdmmc::IDENTIFICATION), false);
     match answer {
-        ClockAnswer::Set(clock) => {
+        Ok(clock) => {
             let frequency = clock.frequency;
             Made {
                 answer: Answer::Accepted,
@@ -120,7 +120,7 @@ fn clocked(settings: Settings) -> Made
                 },
             }
         }
-        ClockAnswer::Refused(error) => Made {
+        Err(error) => Made {
             answer: Answer::Refused(error),
             host: no_host(),
         },
@@ -141,8 +141,8 @@ impl Sdmmc {
         let config = settings.config;
         let answer = config.judge(source);
         match answer {
-            ConfigAnswer::Sound => clocked(settings),
-            ConfigAnswer::Refused(error) => Made {
+            Ok(()) => clocked(settings),
+            Err(error) => Made {
                 answer: Answer::Refused(error),
                 host: no_host(),
             },

@@ -1,5 +1,6 @@
 -- A refused initialisation's 13 carries the field of the step that refused: along its plan, whatever is refused with
 -- UnsupportedCardType is so after the command, and for the answer, that its field says.
+use Rattle.std.specs.Prelude.{Result, Ok, Err}
 use Prim.Native.Nat.{ℕ, ◌+◌, ◌^◌, ◌≤◌}
 use mathlib.Core.Bool.{Bool, true, false, cond, ◌&&◌}
 use mathlib.Core.List.{List}
@@ -9,16 +10,11 @@ use lib.Dec.{eqb, ltb, leb}
 use lib.ListN.{get_or}
 use Rattle.types.specs.declared.card.Card.{Card}
 use Rattle.types.specs.declared.clock.Clock.{Clock}
-use Rattle.types.specs.declared.clock.ClockAnswer.TheVariants as Clocked
 use Rattle.types.specs.declared.error.Error.{Error}
 use Rattle.types.specs.declared.error.Error.TheVariants as E
 use Rattle.types.specs.declared.error.Field.{Field}
 use Rattle.types.specs.declared.error.Field.TheVariants.{CsdVersion, BlockLength, RateUnit, RateValue, RateReservedBit, CsdAndOcr, Voltage, AppCommand}
 use Rattle.types.specs.declared.register.BlockCount.{BlockCount}
-use Rattle.types.specs.declared.register.CountAnswer.{CountAnswer}
-use Rattle.types.specs.declared.register.CountAnswer.TheVariants as Counted
-use Rattle.types.specs.declared.register.RateAnswer.{RateAnswer}
-use Rattle.types.specs.declared.register.RateAnswer.TheVariants as Rated
 use Rattle.types.specs.Answer.{error_told}
 use Rattle.types.specs.Bits.{clear}
 use Rattle.types.specs.Leaf.{divisor_of, clock_of, count_of, rate_of}
@@ -58,7 +54,7 @@ any r o = tt
 pub row_any : (r : Row) → typeless.writes r
 row_any r = tt
 
-pub clock_not_13 : (source requested : ℕ) (bypass : Bool) (e : Error) → clock_of source requested bypass ≡ Clocked.Refused e → Not13 e
+pub clock_not_13 : (source requested : ℕ) (bypass : Bool) (e : Error) → clock_of source requested bypass ≡ Err e → Not13 e
 unfolding clock_of error_told
 clock_not_13 source requested bypass e r =
     by (eqb source 0) (eqb requested 0) (ltb 80_000_000 requested) (bypass && leb source requested) (ltb 257 (divisor_of source requested)) _ _ r
@@ -67,8 +63,8 @@ clock_not_13 source requested bypass e r =
     bad same z = omega (arith, rw (← same) at z)
 
     by : (a b c d f : Bool) (x y : Clock)
-        → cond a (Clocked.Refused E.BadClock) (cond b (Clocked.Refused E.BadClock) (cond c (Clocked.Refused E.BadClock)
-        (cond d (Clocked.Set x) (cond f (Clocked.Refused E.BadClock) (Clocked.Set y))))) ≡ Clocked.Refused e
+        → cond a (Err E.BadClock) (cond b (Err E.BadClock) (cond c (Err E.BadClock)
+        (cond d (Ok x) (cond f (Err E.BadClock) (Ok y))))) ≡ Err e
         → Not13 e
     by true b c d f x y r = bad cc
     by false true c d f x y r = bad cc
@@ -170,9 +166,9 @@ module _ (s : List ℕ) where
   counts : (k u c : ℕ) → c ≡ 9 → u ≡ k + 4 → OcrSays s k true → Tells s Blamed BlockCount (λ u c n. k + 4 ≤ u) u c (I.counted (count_of (csd_at s k)))
   counts k u c sent last ocr = by (count_of (csd_at s k)) refl
     where
-      by : (a : CountAnswer) → count_of (csd_at s k) ≡ a → Tells s Blamed BlockCount (λ u c n. k + 4 ≤ u) u c (I.counted a)
-      by (Counted.Blocks n) g = tells-give s (omega arith)
-      by (Counted.Refused e) g = tells-fail s (count_blames k sent last ocr (count_fault (csd_at s k) e g))
+      by : (a : Result BlockCount Error) → count_of (csd_at s k) ≡ a → Tells s Blamed BlockCount (λ u c n. k + 4 ≤ u) u c (I.counted a)
+      by (Ok n) g = tells-give s (omega arith)
+      by (Err e) g = tells-fail s (count_blames k sent last ocr (count_fault (csd_at s k) e g))
 
   -- the CSD of the record is one that was taken
   record CsdIn (u : ℕ) (card : Card) : Type 0 where
@@ -237,9 +233,9 @@ module _ (s : List ℕ) where
   rates : (k u c : ℕ) → c ≡ 6 → k + 4 ≤ u → Tells s Blamed ℕ (λ u c n. 0 ≤ u) u c (rated (rate_of (tran_speed (csd_at s k))))
   rates k u c sent within = by (rate_of (tran_speed (csd_at s k))) refl
     where
-      by : (a : RateAnswer) → rate_of (tran_speed (csd_at s k)) ≡ a → Tells s Blamed ℕ (λ u c n. 0 ≤ u) u c (rated a)
-      by (Rated.Rate n) g = tells-give s (omega arith)
-      by (Rated.Refused e) g = tells-fail s (rate_blames k sent within (rate_fault (csd_at s k) e g))
+      by : (a : Result ℕ Error) → rate_of (tran_speed (csd_at s k)) ≡ a → Tells s Blamed ℕ (λ u c n. 0 ≤ u) u c (rated a)
+      by (Ok n) g = tells-give s (omega arith)
+      by (Err e) g = tells-fail s (rate_blames k sent within (rate_fault (csd_at s k) e g))
 
   settles : {u c : ℕ} (set : Settings) (frequency : ℕ) (card : Card) → CsdIn u card → Tells s Blamed Card (λ u c a. 0 ≤ u) u c (settle_card set frequency card)
   unfolding settle_card transfer_clock

@@ -1,5 +1,7 @@
 -- What an initialisation finds, where it is accepted: a record that counts what SD has for its CSD and is protected as SD has it
 -- there, with status zero.
+use Rattle.std.specs.Prelude.{Result}
+use Rattle.types.specs.declared.error.Error.{Error}
 use Prim.Native.Nat.{ℕ, ◌*◌}
 use mathlib.Core.List.{List}
 use mathlib.Core.Path.{◌≡◌, refl}
@@ -8,7 +10,6 @@ use Rattle.types.specs.declared.card.Card.{Card}
 use Rattle.types.specs.declared.clock.Clock.{Clock}
 use Rattle.types.specs.declared.error.Field.{Field}
 use Rattle.types.specs.declared.register.BlockCount.{BlockCount}
-use Rattle.types.specs.declared.register.CountAnswer.{CountAnswer}
 use Rattle.types.specs.Leaf.{count_of}
 use Rattle.types.specs.Sd.{Code, means, wide_of, sd_capacity, Counts, Protects}
 use Rattle.types.specs.Words.{halves_of}
@@ -26,7 +27,7 @@ pub record Found (card : Card) : Type 0 where
 count-given : (csd : ℕ) → Gives BlockCount (λ blocks. sd_capacity csd ≡ means (blocks.0 * 512)) (counted (count_of csd))
 count-given csd = by (capacity csd)
   where
-    by : {field : Field} {a : CountAnswer} {c : Code ℕ} → AsSd field a c → Gives BlockCount (λ blocks. c ≡ means (blocks.0 * 512)) (counted a)
+    by : {field : Field} {a : Result BlockCount Error} {c : Code ℕ} → AsSd field a c → Gives BlockCount (λ blocks. c ≡ means (blocks.0 * 512)) (counted a)
     by (has n) = gives-give refl
     by has-none = gives-refuse
 

@@ -1,6 +1,7 @@
 -- An initialisation of a source of 2 Hz or more: whatever it is refused with, it is not the BadClock that `clock_delay` has
 -- beside the Rust's. The clock held on the way is always one that `clock_setting` gave, so each delay is a row; a BadClock is
 -- `clock_setting`'s own, for a request that it refuses.
+use Rattle.std.specs.Prelude.{Result, Ok, Err}
 use Prim.Native.Nat.{ℕ, ◌≤◌}
 use mathlib.Core.Bool.{Bool, true, false, not, ◌&&◌}
 use mathlib.Core.Path.{◌≡◌, refl}
@@ -11,18 +12,12 @@ use Rattle.types.specs.declared.card.CardCapacity.{CardCapacity}
 use Rattle.types.specs.declared.card.CardCapacity.TheVariants.{SDSC, SDHC}
 use Rattle.types.specs.declared.card.Signalling.{Signalling}
 use Rattle.types.specs.declared.clock.Clock.{Clock}
-use Rattle.types.specs.declared.clock.ClockAnswer.{ClockAnswer}
 use Rattle.types.specs.declared.clock.Hertz.{Hertz}
-use Rattle.types.specs.declared.clock.ClockAnswer.TheVariants as Clocked
 use Rattle.types.specs.declared.error.Error.{Error}
 use Rattle.types.specs.declared.error.Error.TheVariants as E
 use Rattle.types.specs.declared.error.Field.{Field}
 use Rattle.types.specs.declared.error.Field.TheVariants.{CsdVersion, BlockLength, RateUnit, RateValue, RateReservedBit}
 use Rattle.types.specs.declared.register.BlockCount.{BlockCount}
-use Rattle.types.specs.declared.register.CountAnswer.{CountAnswer}
-use Rattle.types.specs.declared.register.CountAnswer.TheVariants as Counted
-use Rattle.types.specs.declared.register.RateAnswer.{RateAnswer}
-use Rattle.types.specs.declared.register.RateAnswer.TheVariants as Rated
 use Rattle.types.specs.Answer.{error_told}
 use Rattle.types.specs.Leaf.{clock_of, count_of, rate_of}
 use Rattle.types.specs.Sd.{tran_speed, sd_spec}
@@ -52,7 +47,7 @@ clock_rule set =
       holds = λ h. Fair (source_of set) h.clock.0;
       writes = λ r. Unit {0};
       refuses = λ e. (error_told e).number ≡ 17
-          → (requested : ℕ) × (clock_of (source_of set) requested set.config.allow_clock_bypass ≡ Clocked.Refused e);
+          → (requested : ℕ) × (clock_of (source_of set) requested set.config.allow_clock_bypass ≡ Err e);
       noted = fair-noted (source_of set);
     }
 
@@ -65,8 +60,8 @@ pub record Allows (set : Settings) (rule : Rule) : Type 1 where
   pub runs : (h : Line) → rule.holds h → Runs h.clock.0
   pub line : (h h' : Line) → rule.holds h → Runs h'.clock.0 → rule.holds h'
   pub delay : (clock cycles : ℕ) → Runs clock → cycles ≤ 80 → Obeys rule Nothing (clock_delay (source_of set) clock cycles)
-  pub given : (requested : ℕ) (c : Clock) → clock_of (source_of set) requested set.config.allow_clock_bypass ≡ Clocked.Set c → Runs c.frequency.0
-  pub refused : (requested : ℕ) (e : Error) → clock_of (source_of set) requested set.config.allow_clock_bypass ≡ Clocked.Refused e → rule.refuses e
+  pub given : (requested : ℕ) (c : Clock) → clock_of (source_of set) requested set.config.allow_clock_bypass ≡ Ok c → Runs c.frequency.0
+  pub refused : (requested : ℕ) (e : Error) → clock_of (source_of set) requested set.config.allow_clock_bypass ≡ Err e → rule.refuses e
 
 module _ {set : Settings} {rule : Rule} (ok : Allows set rule) where
   any : (r : Row) → Ordinary r → rule.writes r
@@ -112,12 +107,12 @@ module _ {set : Settings} {rule : Rule} (ok : Allows set rule) where
   unfolding set_clock handle
   clock-obeys requested = by (clock_of (source_of set) requested set.config.allow_clock_bypass) refl
     where
-      by : (a : ClockAnswer) → clock_of (source_of set) requested set.config.allow_clock_bypass ≡ a
+      by : (a : Result Clock Error) → clock_of (source_of set) requested set.config.allow_clock_bypass ≡ a
           → Obeys rule Nothing (clocked a then λ clock. configure_clock (limit_of set) clock set.wide false then λ _. hold_clock clock.frequency then λ _. hold_gated true)
-      by (Clocked.Set c) g =
+      by (Ok c) g =
           on_then (configure_obeys rule ok.others any _ c _ false)
           (λ _. on_then (hold-clock-obeys _ (ok.given requested c g)) (λ _. hold-gated-obeys true))
-      by (Clocked.Refused e) g = on-fail (ok.refused requested e g)
+      by (Err e) g = on-fail (ok.refused requested e g)
 
   take-obeys : (frequency rca : ℕ) → Obeys rule Nothing (take_switch set frequency rca)
   unfolding take_switch error_told
@@ -194,9 +189,9 @@ module _ (set : Settings) (from2 : 2 ≤ source_of set) where
       of (of-version f) = kind CsdVersion
       of (of_length f) = kind BlockLength
 
-      by : (a : CountAnswer) → count_of csd ≡ a → Obeys rule BlockCount (counted a)
-      by (Counted.Blocks n) g = on-give
-      by (Counted.Refused e) g = on-fail (of (count_fault csd e g))
+      by : (a : Result BlockCount Error) → count_of csd ≡ a → Obeys rule BlockCount (counted a)
+      by (Ok n) g = on-give
+      by (Err e) g = on-fail (of (count_fault csd e g))
 
   rated-obeys : (csd : ℕ) → Obeys rule ℕ (rated (rate_of (tran_speed csd)))
   rated-obeys csd = by (rate_of (tran_speed csd)) refl
@@ -206,9 +201,9 @@ module _ (set : Settings) (from2 : 2 ≤ source_of set) where
       of (of-unit f) = kind RateUnit
       of (of-value f) = kind RateValue
 
-      by : (a : RateAnswer) → rate_of (tran_speed csd) ≡ a → Obeys rule ℕ (rated a)
-      by (Rated.Rate n) g = on-give
-      by (Rated.Refused e) g = on-fail (of (rate_fault csd e g))
+      by : (a : Result ℕ Error) → rate_of (tran_speed csd) ≡ a → Obeys rule ℕ (rated a)
+      by (Ok n) g = on-give
+      by (Err e) g = on-fail (of (rate_fault csd e g))
 
   identify-obeys : (ocr : ℕ) → Obeys rule Card (identify (limit_of set) ocr)
   unfolding identify publish select

@@ -1,22 +1,16 @@
 -- Initialisation, as a plan: the Rust's `blocking_init_card` with `begin_init`, `power_up`, `identify`, `set_width` and
 -- `set_clock`. It takes the settings and the asked frequency alone: nothing of an earlier card can reach it.
-use Rattle.std.specs.Prelude.{ℕ, ◌+◌, ◌*◌, ◌/◌, ◌%◌, ◌^◌, min, Bool, true, false, cond, not, ◌&&◌, ◌||◌, List, eqb, ltb, get_or, replicate}
+use Rattle.std.specs.Prelude.{ℕ, ◌+◌, ◌*◌, ◌/◌, ◌%◌, ◌^◌, min, Bool, true, false, cond, not, ◌&&◌, ◌||◌, List, eqb, ltb, get_or, replicate, Result, Ok, Err}
 use Rattle.std.specs.Int.Bits.{bit_and}
 use Rattle.types.specs.declared.card.Card.{Card}
 use Rattle.types.specs.declared.card.CardCapacity.{CardCapacity}
 use Rattle.types.specs.declared.card.CardCapacity.TheVariants.{SDSC, SDHC}
 use Rattle.types.specs.declared.card.Signalling.TheVariants.{SDR25}
 use Rattle.types.specs.declared.clock.Clock.{Clock}
-use Rattle.types.specs.declared.clock.ClockAnswer.{ClockAnswer}
-use Rattle.types.specs.declared.clock.ClockAnswer.TheVariants as Clocked
 use Rattle.types.specs.declared.error.Error.{Error}
 use Rattle.types.specs.declared.error.Error.TheVariants as E
 use Rattle.types.specs.declared.error.Field.TheVariants.{CsdAndOcr, Voltage}
 use Rattle.types.specs.declared.register.BlockCount.{BlockCount}
-use Rattle.types.specs.declared.register.CountAnswer.{CountAnswer}
-use Rattle.types.specs.declared.register.CountAnswer.TheVariants as Counted
-use Rattle.types.specs.declared.register.RateAnswer.{RateAnswer}
-use Rattle.types.specs.declared.register.RateAnswer.TheVariants as Rated
 use Rattle.types.specs.Bits.{bits, clear}
 use Rattle.types.specs.Leaf.{clock_of, count_of, rate_of, protection_of}
 use Rattle.types.specs.Sd.{wide_of, tran_speed, sd_spec, one_line, four_lines}
@@ -154,9 +148,9 @@ card_of ocr rca cid csd blocks =
 abbrev pub no_blocks : BlockCount
 no_blocks = record { 0 = 0 }
 
-abbrev pub counted : CountAnswer → Plan BlockCount
-counted (Counted.Blocks n) = give n
-counted (Counted.Refused e) = fail e
+abbrev pub counted : Result BlockCount Error → Plan BlockCount
+counted (Ok n) = give n
+counted (Err e) = fail e
 
 -- CSD and OCR disagreeing gives 13, field 6; the capacity; CMD7
 unfoldable pub select : ℕ → ℕ → ℕ → List ℕ → List ℕ → Plan Card
@@ -205,9 +199,9 @@ set_width set rca scr =
 abbrev pub no_clock : Clock
 no_clock = record { divisor = 0; bypass = false; frequency = record { 0 = 0 } }
 
-abbrev pub clocked : ClockAnswer → Plan Clock
-clocked (Clocked.Set c) = give c
-clocked (Clocked.Refused e) = fail e
+abbrev pub clocked : Result Clock Error → Plan Clock
+clocked (Ok c) = give c
+clocked (Err e) = fail e
 
 -- the clock from here on, gated
 unfoldable pub set_clock : Settings → ℕ → Plan Nothing
@@ -217,9 +211,9 @@ set_clock set requested =
     then λ _. hold_clock clock.frequency
     then λ _. hold_gated true
 
-abbrev pub rated : RateAnswer → Plan ℕ
-rated (Rated.Rate n) = give n
-rated (Rated.Refused e) = fail e
+abbrev pub rated : Result ℕ Error → Plan ℕ
+rated (Ok n) = give n
+rated (Err e) = fail e
 
 -- the least of the asked frequency, 25,000,000 and the card's rate
 unfoldable pub transfer_clock : Settings → ℕ → ℕ → Plan Nothing

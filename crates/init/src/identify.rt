@@ -18,7 +18,7 @@ use tape::progress::{Pace, Progress, Word};
 use tape::rows::Row;
 use types::card::{Card, CardCapacity};
 use types::error::{Error, Field};
-use types::register::{BlockCount, CountAnswer, Protection, Wide};
+use types::register::{BlockCount, Protection, Wide};
 use types::status::Scr;
 use types::{register, words};
 
@@ -221,8 +221,8 @@ fn count_blocks(p: Progress, csd: Wide) -> Counted
 {
     let answer = register::block_count(csd);
     match answer {
-        CountAnswer::Blocks(count) => give_count(p, count),
-        CountAnswer::Refused(error) => Counted {
+        Ok(count) => give_count(p, count),
+        Err(error) => Counted {
             progress: progress::refuse(p, error),
             count: BlockCount(0),
         },

@@ -17,9 +17,9 @@ use tape::progress::{Pace, Progress, Word};
 use tape::rows::Row;
 use tape::{progress, steps};
 use types::card::Signalling;
-use types::clock::{Clock, ClockAnswer, Hertz, clock_setting};
+use types::clock::{Clock, Hertz, clock_setting};
 use types::error::Error;
-use types::register::{RateAnswer, transfer_rate};
+use types::register::transfer_rate;
 use types::status::Scr;
 use types::words;
 
@@ -120,8 +120,8 @@ fn find_clock(p: Progress, source: Hertz, requested: Hertz, bypass: bool) -> Clo
 {
     let answer = clock_setting(source, requested, bypass);
     match answer {
-        ClockAnswer::Set(clock) => give_clock(p, clock),
-        ClockAnswer::Refused(error) => Clocked {
+        Ok(clock) => give_clock(p, clock),
+        Err(error) => Clocked {
             progress: progress::refuse(p, error),
             clock: Clock {
                 divisor: 0,
@@ -167,8 +167,8 @@ fn find_rate(p: Progress, encoded: u8) -> Word
 {
     let answer = transfer_rate(encoded);
     match answer {
-        RateAnswer::Rate(rate) => progress::give_word(p, rate),
-        RateAnswer::Refused(error) => Word {
+        Ok(rate) => progress::give_word(p, rate),
+        Err(error) => Word {
             progress: progress::refuse(p, error),
             word: 0,
         },

@@ -1,10 +1,10 @@
 -- Document 01's table of refusals, lines 4 and 5: a read, a write or a status call refused before its data phase, or in it.
+use Rattle.std.specs.Prelude.{Ok}
 use Prim.Native.Nat.{ℕ, ◌/◌}
 use mathlib.Core.Bool.{true}
 use mathlib.Core.List.{List, []}
 use mathlib.Core.Path.{◌≡◌, refl, ◌∙◌}
 use native.Mathlib.Omega.{arith}
-use Rattle.types.specs.declared.card.AddressAnswer.TheVariants as Address
 use Rattle.types.specs.declared.config.Config.{Config}
 use Rattle.types.specs.declared.error.Answer.TheVariants as Answered
 use Rattle.types.specs.Words.{sd_status_of}
@@ -90,7 +90,7 @@ module _ (host : Sdmmc) (transfer : Plan (List ℕ)) (next : State → List ℕ 
     unfolding served approached
     goes_on g = rw g
 
-module _ (host : Sdmmc) (buffer : Buffer) (index bytes address : ℕ) (s : List ℕ) (l : List Row) (judged : blocks_judged host (sends buffer) index bytes ≡ Address.Address address) where
+module _ (host : Sdmmc) (buffer : Buffer) (index bytes address : ℕ) (s : List ℕ) (l : List Row) (judged : blocks_judged host (sends buffer) index bytes ≡ Ok address) where
   -- where the ready wait of a read or a write has come
   abbrev pub blocks_wait : State
   blocks_wait = (run s (tt {0}) (wait_ready (source_of host.settings) host.settings.config host.card.rca) 0 0 host.line l).state

@@ -1,5 +1,6 @@
 -- 21, and the script's end, of whole calls: where a reading finds no word the answer is 21, or 22 if a closing row finds no
 -- room; 21 comes nowhere else; and all words were used.
+use Rattle.std.specs.Prelude.{Ok}
 use Prim.Native.Nat.{ℕ, ◌≤◌, ◌<◌}
 use mathlib.Core.Bool.{Bool, true, false, cond, ◌||◌}
 use mathlib.Core.List.{List, [], ◌++◌}
@@ -10,7 +11,6 @@ use lib.Dec.{eqb, ltb}
 use lib.ListN.{length, get_or, length-append}
 use borrow.Author.Tests.{le-ltb, lt-ltb}
 use Rattle.types.specs.declared.clock.Clock.{Clock}
-use Rattle.types.specs.declared.clock.ClockAnswer.TheVariants as Clocked
 use Rattle.types.specs.declared.error.Answer.TheVariants as Answered
 use Rattle.types.specs.declared.error.Error.TheVariants as E
 use Rattle.types.specs.Leaf.{clock_of}
@@ -108,15 +108,15 @@ module _ (host : Sdmmc) (s : List ℕ) (l : List Row) where
   status-ended = ended_at unclocked [] (status_whole host) host.line s l (status_came host s l) (status-ran host s l) (status-walk host).each tt
 
   -- an initialisation, of a host such as is made
-  pub initialise-ended : 2 ≤ source_of host.settings → (c : Clock) → clock_of (source_of host.settings) 400_000 false ≡ Clocked.Set c → (frequency : ℕ)
+  pub initialise-ended : 2 ≤ source_of host.settings → (c : Clock) → clock_of (source_of host.settings) 400_000 false ≡ Ok c → (frequency : ℕ)
       → Ended s l (reach s (init_whole host frequency) 0 host.line) (would_write s no_card (init_whole host frequency) host.line) (initialised host frequency s l)
   unfolding initialised init_whole init_at reach free
   initialise-ended from2 c clocked frequency = rw clocked (by (eqb frequency 0 || ltb 50_000_000 frequency))
     where
       by : (b : Bool)
-          → Ended s l (reach s (cond b (fail E.BadClock) (init_at host frequency (Clocked.Set c))) 0 host.line)
-          (would_write s no_card (cond b (fail E.BadClock) (init_at host frequency (Clocked.Set c))) host.line)
-          (cond b (untouched host E.BadClock l) (init_from host frequency (Clocked.Set c) s l))
+          → Ended s l (reach s (cond b (fail E.BadClock) (init_at host frequency (Ok c))) 0 host.line)
+          (would_write s no_card (cond b (fail E.BadClock) (init_at host frequency (Ok c))) host.line)
+          (cond b (untouched host E.BadClock l) (init_from host frequency (Ok c) s l))
       by true =
           record {
             answer = λ out. let no = out.short in let z : ◌≡◌ {A = ℕ} 0 1 = cc in absurd (omega arith);
@@ -126,5 +126,5 @@ module _ (host : Sdmmc) (s : List ℕ) (l : List Row) where
       by false =
           let f = fair _ 400_000 false c from2 clocked in
           ended_at (clock_rule host.settings) no_card (initialise host.settings c frequency) (fresh_line c.frequency) s l
-          (init_from host frequency (Clocked.Set c) s l) (steps-ran host from2 c clocked frequency s l)
+          (init_from host frequency (Ok c) s l) (steps-ran host from2 c clocked frequency s l)
           (initialise-obeys host.settings from2 c frequency f).each f

@@ -1,5 +1,7 @@
 -- Which field a call's 13 carries: that of the step that refused. Of an initialisation and a status call it is told by the
 -- command sent last and what the card had answered; a read or a write is never answered 13.
+use Rattle.std.specs.Prelude.{Result, Ok, Err}
+use Rattle.types.specs.declared.clock.Clock.{Clock}
 use Prim.Native.Nat.{ℕ, ◌≤◌}
 use mathlib.Core.Bool.{false, ◌||◌}
 use mathlib.Core.List.{List, []}
@@ -7,8 +9,6 @@ use mathlib.Core.Path.{◌≡◌, refl, sym, ◌∙◌}
 use native.Mathlib.Omega.{arith}
 use lib.Dec.{eqb, ltb}
 use Rattle.types.specs.declared.card.Card.{Card}
-use Rattle.types.specs.declared.clock.ClockAnswer.{ClockAnswer}
-use Rattle.types.specs.declared.clock.ClockAnswer.TheVariants as Clocked
 use Rattle.types.specs.declared.error.Answer.TheVariants as Answered
 use Rattle.types.specs.declared.error.Error.{Error}
 use Rattle.types.specs.declared.error.Error.TheVariants as E
@@ -45,9 +45,9 @@ module _ (host : Sdmmc) (s : List ℕ) (l : List Row) where
       tells_test s (eqb frequency 0 || ltb 50_000_000 frequency) (λ t. tells-fail s (unblamed s 0 0 E.BadClock bad-clock))
       (λ t. at (clock_of (source_of host.settings) 400_000 false) refl)
     where
-      at : (a : ClockAnswer) → clock_of (source_of host.settings) 400_000 false ≡ a → Tells s (Blamed s) Card (λ u c a. 0 ≤ u) 0 0 (init_at host frequency a)
-      at (Clocked.Refused e) g = tells-fail s (unblamed s 0 0 e (clock_not_13 _ 400_000 false e g))
-      at (Clocked.Set c) g = tells-hold s (initialise-tells s host.settings c frequency)
+      at : (a : Result Clock Error) → clock_of (source_of host.settings) 400_000 false ≡ a → Tells s (Blamed s) Card (λ u c a. 0 ≤ u) 0 0 (init_at host frequency a)
+      at (Err e) g = tells-fail s (unblamed s 0 0 e (clock_not_13 _ 400_000 false e g))
+      at (Ok c) g = tells-hold s (initialise-tells s host.settings c frequency)
 
   pub initialise_field : (frequency : ℕ) → CarriesField s (initialised host frequency s l)
   initialise_field frequency = by_plan no_card (init_whole host frequency) _ (init_tells frequency) (initialise-ran host s l frequency)

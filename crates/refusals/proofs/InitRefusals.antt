@@ -1,4 +1,6 @@
 -- Document 01's table of refusals, line 3 and the end of line 5: refused in initialisation.
+use Rattle.std.specs.Prelude.{Result, Ok, Err}
+use Rattle.types.specs.declared.error.Error.{Error}
 use Prim.Native.Nat.{ℕ, ◌≤◌}
 use mathlib.Core.Bool.{Bool, true, false, not, ◌&&◌}
 use mathlib.Core.List.{List, []}
@@ -9,8 +11,6 @@ use borrow.Author.Tests.{ne_eqb, le-ltb}
 use Rattle.types.proofs.Least.{refused_none}
 use Rattle.types.specs.declared.card.Card.{Card}
 use Rattle.types.specs.declared.clock.Clock.{Clock}
-use Rattle.types.specs.declared.clock.ClockAnswer.{ClockAnswer}
-use Rattle.types.specs.declared.clock.ClockAnswer.TheVariants as Clocked
 use Rattle.types.specs.declared.error.Answer.TheVariants as Answered
 use Rattle.types.specs.Leaf.{clock_of}
 use Rattle.types.specs.Sd.{sd_spec, tran_speed, wide_of}
@@ -42,23 +42,23 @@ pub found : (s : List ℕ) (set : Settings) (c : Clock) (frequency : ℕ) (l : L
 found s set c frequency l = run-gives s no_card (initialise-given set c frequency) 0 0 (fresh_line c.frequency) l
 
 -- every source that a host is made with has a clock of identification
-pub identification_clock : (source : ℕ) → 2 ≤ source → source ≤ 102_800_000 → (c : Clock) × (clock_of source 400_000 false ≡ Clocked.Set c)
+pub identification_clock : (source : ℕ) → 2 ≤ source → source ≤ 102_800_000 → (c : Clock) × (clock_of source 400_000 false ≡ Ok c)
 identification_clock source from2 up_to = by (clock_of source 400_000 false) refl
   where
-    by : (a : ClockAnswer) → clock_of source 400_000 false ≡ a → (c : Clock) × (clock_of source 400_000 false ≡ Clocked.Set c)
-    by (Clocked.Set c) e = (c, e)
-    by (Clocked.Refused x) e =
+    by : (a : Result Clock Error) → clock_of source 400_000 false ≡ a → (c : Clock) × (clock_of source 400_000 false ≡ Ok c)
+    by (Ok c) e = (c, e)
+    by (Err x) e =
         absurd (refused_none source 400_000 (omega arith) (omega arith) (omega arith) x e 257
         (record { from2 = omega arith; to257 = omega arith; slow = omega arith }))
 
 -- Line 3. 'Any of 1 to 20 after that in initialisation: reset rows, no record.'
 
-module _ (host : Sdmmc) (frequency : ℕ) (s : List ℕ) (l : List Row) (some : 1 ≤ frequency) (most : frequency ≤ 50_000_000) (c : Clock) (set : clock_of (source_of host.settings) 400_000 false ≡ Clocked.Set c) where
+module _ (host : Sdmmc) (frequency : ℕ) (s : List ℕ) (l : List Row) (some : 1 ≤ frequency) (most : frequency ≤ 50_000_000) (c : Clock) (set : clock_of (source_of host.settings) 400_000 false ≡ Ok c) where
   -- the steps of it, before a refusal's reset rows
   abbrev pub init_steps : State
   init_steps = (run s no_card (init_card host.settings c frequency) 0 0 (fresh_line c.frequency) l).state
 
-  begins : initialised host frequency s l ≡ init_from host frequency (Clocked.Set c) s l
+  begins : initialised host frequency s l ≡ init_from host frequency (Ok c) s l
   unfolding initialised
   begins = rw (ne_eqb frequency 0 (λ e. omega arith), le-ltb 50_000_000 frequency most, set)
 

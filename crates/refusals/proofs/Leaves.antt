@@ -1,4 +1,6 @@
 -- Document 01's table of refusals, line 6, and what every call leaves as it was.
+use Rattle.std.specs.Prelude.{Result, Ok, Err}
+use Rattle.types.specs.declared.clock.Clock.{Clock}
 use Prim.Native.Nat.{ℕ, ◌+◌, ◌-◌, ◌/◌, ◌≤◌, min}
 use mathlib.Core.Bool.{false, ◌||◌}
 use mathlib.Core.List.{List, []}
@@ -7,10 +9,6 @@ use native.Mathlib.Omega.{arith}
 use lib.Dec.{eqb, ltb}
 use lib.ListN.{length, drop}
 use lib.Seq.{drop-drop}
-use Rattle.types.specs.declared.card.AddressAnswer.{AddressAnswer}
-use Rattle.types.specs.declared.card.AddressAnswer.TheVariants as Address
-use Rattle.types.specs.declared.clock.ClockAnswer.{ClockAnswer}
-use Rattle.types.specs.declared.clock.ClockAnswer.TheVariants as Clocked
 use Rattle.types.specs.declared.error.Answer.TheVariants as Answered
 use Rattle.types.specs.declared.error.Error.{Error}
 use Rattle.types.specs.declared.error.Error.TheVariants as E
@@ -143,9 +141,9 @@ initialise-leaves host frequency s l =
     by_cases (Leaves host s l) (eqb frequency 0 || ltb 50_000_000 frequency) _ _ (untouched-leaves host E.BadClock s l)
     (by (clock_of (source_of host.settings) 400_000 false))
   where
-    by : (a : ClockAnswer) → Leaves host s l (init_from host frequency a s l)
-    by (Clocked.Refused e) = untouched-leaves host e s l
-    by (Clocked.Set c) =
+    by : (a : Result Clock Error) → Leaves host s l (init_from host frequency a s l)
+    by (Err e) = untouched-leaves host e s l
+    by (Ok c) =
         let x = run s no_card (initialise host.settings c frequency) 0 0 (fresh_line c.frequency) l in
         ends-leaves host (dropped host x.state) (holding host x.state x.value) [] s l x.state.progress.pace x.state refl refl
         (going-within s no_card (initialise host.settings c frequency) (at (begun (fresh_line c.frequency)) l) refl (omega arith))
@@ -155,9 +153,9 @@ pub blocks-leaves : (host : Sdmmc) (buffer : Buffer) (index bytes : ℕ) (s : Li
 unfolding blocks_came blocks_from
 blocks-leaves host buffer index bytes s l = by (blocks_judged host (sends buffer) index bytes)
   where
-    by : (a : AddressAnswer) → Leaves host s l (blocks_from host buffer (bytes / 512) a s l)
-    by (Address.Refused e) = untouched-leaves host e s l
-    by (Address.Address a) =
+    by : (a : Result ℕ Error) → Leaves host s l (blocks_from host buffer (bytes / 512) a s l)
+    by (Err e) = untouched-leaves host e s l
+    by (Ok a) =
         served-leaves host (wait_ready (source_of host.settings) host.settings.config host.card.rca) (blocks_plan host buffer a (bytes / 512)) (blocks_next host) s l (λ w ws. refl)
 
 pub status-leaves : (host : Sdmmc) (s : List ℕ) (l : List Row) → Leaves host s l (status_came host s l)

@@ -1,11 +1,11 @@
 -- Write protection stops writes and nothing else (P8): whatever a card's flags are, a read and a status call come to what they
 -- would come to with others, but for the flags in the record.
+use Rattle.std.specs.Prelude.{Result, Ok, Err}
+use Rattle.types.specs.declared.error.Error.{Error}
 use Prim.Native.Nat.{ℕ, ◌/◌}
 use mathlib.Core.Bool.{Bool, true, false, cond}
 use mathlib.Core.List.{List, []}
 use mathlib.Core.Path.{◌≡◌, refl}
-use Rattle.types.specs.declared.card.AddressAnswer.{AddressAnswer}
-use Rattle.types.specs.declared.card.AddressAnswer.TheVariants as Address
 use Rattle.types.specs.declared.error.Error.TheVariants as E
 use Rattle.types.specs.declared.register.Protection.{Protection}
 use Rattle.tape.specs.declared.progress.Halt.TheVariants.{Refused, ScriptEnded, TraceFull}
@@ -71,9 +71,9 @@ module _ (host : Sdmmc) (p : Protection) (s : List ℕ) (l : List Row) where
   unfolding blocks_came blocks_judged blocks_from
   read_as_without index bytes = by (blocks_judged host false index bytes)
     where
-      by : (a : AddressAnswer) → Alike (blocks_from (flagged host p) incoming (bytes / 512) a s l) (blocks_from host incoming (bytes / 512) a s l)
-      by (Address.Refused e) = record { answer = refl; words = refl; rows = refl; list = refl; taken = refl }
-      by (Address.Address a) =
+      by : (a : Result ℕ Error) → Alike (blocks_from (flagged host p) incoming (bytes / 512) a s l) (blocks_from host incoming (bytes / 512) a s l)
+      by (Err e) = record { answer = refl; words = refl; rows = refl; list = refl; taken = refl }
+      by (Ok a) =
           served_alike (wait_ready (source_of host.settings) host.settings.config host.card.rca) (blocks_plan host incoming a (bytes / 512)) _ _
 
   pub status_as_without : Alike (status_came (flagged host p) s l) (status_came host s l)

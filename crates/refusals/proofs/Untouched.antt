@@ -1,4 +1,6 @@
 -- Document 01's table of refusals, lines 1 and 2: refused at making, or before the first row.
+use Rattle.std.specs.Prelude.{Result, Ok, Err}
+use Rattle.types.specs.declared.clock.Clock.{Clock}
 use Prim.Native.Nat.{ℕ, ◌+◌, ◌*◌, ◌/◌, ◌%◌, ◌≤◌, ◌<◌}
 use mathlib.Core.Bool.{Bool, true, false, cond, ◌&&◌, ◌||◌}
 use mathlib.Core.List.{List}
@@ -7,12 +9,7 @@ use native.Mathlib.Omega.{arith}
 use lib.Dec.{ltb}
 use borrow.Author.Tests.{eq-eqb, ne_eqb, le-ltb, lt-ltb}
 use Rattle.types.proofs.Least.{refused_none}
-use Rattle.types.specs.declared.card.AddressAnswer.TheVariants as Address
-use Rattle.types.specs.declared.clock.ClockAnswer.{ClockAnswer}
-use Rattle.types.specs.declared.clock.ClockAnswer.TheVariants as Clocked
 use Rattle.types.specs.declared.config.Config.{Config}
-use Rattle.types.specs.declared.config.ConfigAnswer.{ConfigAnswer}
-use Rattle.types.specs.declared.config.ConfigAnswer.TheVariants as Judged
 use Rattle.types.specs.declared.error.Answer.TheVariants as Answered
 use Rattle.types.specs.declared.error.Error.{Error}
 use Rattle.types.specs.declared.error.Error.TheVariants as E
@@ -29,15 +26,15 @@ use Rattle.host.specs.declared.host.Sdmmc.{Sdmmc}
 
 -- Line 1. '18, 17 at making: no host.'
 
-clocked_no_host : (set : Settings) (e : Error) (a : ClockAnswer) → (clocked_host set a).answer ≡ Answered.Refused e → (clocked_host set a).host ≡ no_host
+clocked_no_host : (set : Settings) (e : Error) (a : Result Clock Error) → (clocked_host set a).answer ≡ Answered.Refused e → (clocked_host set a).host ≡ no_host
 unfolding clocked_host
-clocked_no_host set e (Clocked.Set c) r = let z : ◌≡◌ {A = ℕ} 0 1 = cc in absurd (omega arith)
-clocked_no_host set e (Clocked.Refused x) r = refl
+clocked_no_host set e (Ok c) r = let z : ◌≡◌ {A = ℕ} 0 1 = cc in absurd (omega arith)
+clocked_no_host set e (Err x) r = refl
 
-judged_no_host : (set : Settings) (e : Error) (a : ConfigAnswer) → (judged_host set a).answer ≡ Answered.Refused e → (judged_host set a).host ≡ no_host
+judged_no_host : (set : Settings) (e : Error) (a : Result (Unit {0}) Error) → (judged_host set a).answer ≡ Answered.Refused e → (judged_host set a).host ≡ no_host
 unfolding judged_host
-judged_no_host set e Judged.Sound r = clocked_no_host set e (clock_of (source_of set) 400_000 false) r
-judged_no_host set e (Judged.Refused x) r = refl
+judged_no_host set e (Ok tt) r = clocked_no_host set e (clock_of (source_of set) 400_000 false) r
+judged_no_host set e (Err x) r = refl
 
 -- whatever it is refused with, there is no host
 pub making_refused : (set : Settings) (e : Error) → (made set).answer ≡ Answered.Refused e → (made set).host ≡ no_host
@@ -73,7 +70,7 @@ making_18 set (data_timeout e) = rw (eq-eqb _ _ e) (simp or_true)
 making_18 set (software_timeout e) = rw (eq-eqb _ _ e) (simp or_true)
 
 none-zero : (source : ℕ) (config : Config) → NoneZero config
-    → made_of source config ≡ cond (ltb source 2 || ltb 102_800_000 source) (Judged.Refused E.BadClock) Judged.Sound
+    → made_of source config ≡ cond (ltb source 2 || ltb 102_800_000 source) (Err E.BadClock) (Ok tt)
 unfolding made_of
 none-zero source config z =
     rw (
@@ -97,11 +94,11 @@ making_accepted set z from2 up_to =
     rw (none-zero (source_of set) set.config z, le-ltb (source_of set) 2 from2, le-ltb 102_800_000 (source_of set) up_to)
     (by (clock_of (source_of set) 400_000 false) refl)
   where
-    by : (a : ClockAnswer) → clock_of (source_of set) 400_000 false ≡ a
+    by : (a : Result Clock Error) → clock_of (source_of set) 400_000 false ≡ a
         → ((clocked_host set a).answer ≡ Answered.Accepted) × ((clocked_host set a).host.settings ≡ set)
         × ((clocked_host set a).host.known ≡ false) × ((clocked_host set a).host.card ≡ no_card)
-    by (Clocked.Set c) e = (refl, refl, refl, refl)
-    by (Clocked.Refused x) e =
+    by (Ok c) e = (refl, refl, refl, refl)
+    by (Err x) e =
         absurd (refused_none (source_of set) 400_000 (omega arith) (omega arith) (omega arith) x e 257
         (record { from2 = omega arith; to257 = omega arith; slow = omega arith }))
 
@@ -123,7 +120,7 @@ module _ (host : Sdmmc) (s : List ℕ) (l : List Row) where
   status_16 k = rw k
 
   -- what the checks refuse is untouched
-  pub judged-untouched : (buffer : Buffer) (index bytes : ℕ) (e : Error) → blocks_judged host (sends buffer) index bytes ≡ Address.Refused e
+  pub judged-untouched : (buffer : Buffer) (index bytes : ℕ) (e : Error) → blocks_judged host (sends buffer) index bytes ≡ Err e
       → blocks_came host buffer index bytes s l ≡ untouched host e l
   unfolding blocks_came blocks_from
   judged-untouched buffer index bytes e j = rw j
@@ -142,7 +139,7 @@ module _ (host : Sdmmc) (s : List ℕ) (l : List Row) where
 
   -- any refusal of the leaf rule for the address (19, 20)
   pub blocks-refused : (buffer : Buffer) (index blocks : ℕ) (e : Error) → host.known ≡ true → Free host buffer
-      → address_of host.card.card_type host.card.block_count.0 index blocks ≡ Address.Refused e
+      → address_of host.card.card_type host.card.block_count.0 index blocks ≡ Err e
       → blocks_came host buffer index (512 * blocks) s l ≡ untouched host e l
   unfolding blocks_judged
   blocks-refused buffer index blocks e k f a =

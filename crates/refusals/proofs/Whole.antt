@@ -1,6 +1,7 @@
 -- Theorems about whole calls. Each call does what its one plan does (`initialise-ran`, `blocks-ran`, `status-ran`); from that, of
 -- every call: when it answers 22, and how many rows it has then written; whence a 17 and a 26 come; and that an accepted read has
 -- filled its whole buffer. (21: Ended.antt.)
+use Rattle.std.specs.Prelude.{Result, Ok, Err}
 use Prim.Native.Nat.{ℕ, ◌+◌, ◌*◌, ◌/◌, ◌%◌, ◌≤◌, ◌<◌, ◌^◌, min}
 use mathlib.Core.Bool.{Bool, true, false, cond, ◌&&◌, ◌||◌}
 use mathlib.Core.List.{List, [], append-nil}
@@ -11,14 +12,10 @@ use lib.Dec.{eqb, ltb}
 use lib.ListN.{length, take, drop, drop_of_length-le}
 use lib.Seq.{take_all}
 use borrow.Author.Tests.{le-ltb}
-use Rattle.types.specs.declared.card.AddressAnswer.{AddressAnswer}
-use Rattle.types.specs.declared.card.AddressAnswer.TheVariants as Address
 use Rattle.types.specs.declared.card.Card.{Card}
 use Rattle.types.specs.declared.card.CardCapacity.{CardCapacity}
 use Rattle.types.specs.declared.card.CardCapacity.TheVariants.{SDSC, SDHC}
 use Rattle.types.specs.declared.clock.Clock.{Clock}
-use Rattle.types.specs.declared.clock.ClockAnswer.{ClockAnswer}
-use Rattle.types.specs.declared.clock.ClockAnswer.TheVariants as Clocked
 use Rattle.types.specs.declared.error.Answer.TheVariants as Answered
 use Rattle.types.specs.declared.error.Error.{Error}
 use Rattle.types.specs.declared.error.Error.TheVariants as E
@@ -103,9 +100,9 @@ module _ (host : Sdmmc) (s : List ℕ) (l : List Row) where
       both (does no_card) (eqb frequency 0 || ltb 50_000_000 frequency) (untouched-ran no_card host E.BadClock s l)
       (at (clock_of (source_of host.settings) 400_000 false))
     where
-      at : (a : ClockAnswer) → Ran (init_from host frequency a s l) (run s no_card (init_at host frequency a) 0 0 host.line l)
-      at (Clocked.Refused e) = untouched-ran no_card host e s l
-      at (Clocked.Set c) =
+      at : (a : Result Clock Error) → Ran (init_from host frequency a s l) (run s no_card (init_at host frequency a) 0 0 host.line l)
+      at (Err e) = untouched-ran no_card host e s l
+      at (Ok c) =
           let x = run s no_card (initialise host.settings c frequency) 0 0 (fresh_line c.frequency) l in
           ends-ran x.value host (dropped host x.state) (holding host x.state x.value) [] x.state
 
@@ -113,9 +110,9 @@ module _ (host : Sdmmc) (s : List ℕ) (l : List Row) where
   unfolding blocks_came blocks_from blocks_whole blocks_at
   blocks-ran buffer index bytes = at (blocks_judged host (sends buffer) index bytes)
     where
-      at : (a : AddressAnswer) → Ran (blocks_from host buffer (bytes / 512) a s l) (run s [] (blocks_at host buffer (bytes / 512) a) 0 0 host.line l)
-      at (Address.Refused e) = untouched-ran [] host e s l
-      at (Address.Address a) =
+      at : (a : Result ℕ Error) → Ran (blocks_from host buffer (bytes / 512) a s l) (run s [] (blocks_at host buffer (bytes / 512) a) 0 0 host.line l)
+      at (Err e) = untouched-ran [] host e s l
+      at (Ok a) =
           served-ran host (wait_ready (source_of host.settings) host.settings.config host.card.rca) (blocks_plan host buffer a (bytes / 512)) (blocks_next host) s l
 
   pub status-ran : Ran (status_came host s l) (run s [] (status_whole host) 0 0 host.line l)
@@ -220,35 +217,35 @@ plain host buffer = refusal_rule (Plain host buffer)
 abbrev pub unclocked : Rule
 unclocked = refusal_rule (λ e. ((error_told e).number ≡ 17 → ⊥) × ((error_told e).number ≡ 26 → ⊥))
 
-units-other : (class : CardCapacity) (index : ℕ) (e : Error) → units_of class index ≡ Address.Refused e → Other e
+units-other : (class : CardCapacity) (index : ℕ) (e : Error) → units_of class index ≡ Err e → Other e
 unfolding units_of error_told
 units-other SDSC index e r = by (ltb (512 * index) (2 ^ 32)) r
   where
-    by : (b : Bool) → cond b (Address.Address (512 * index)) (Address.Refused E.AddressOutOfRange) ≡ Address.Refused e → Other e
+    by : (b : Bool) → cond b (Ok (512 * index)) (Err E.AddressOutOfRange) ≡ Err e → Other e
     by true r = let no : ◌≡◌ {A = ℕ} 0 1 = cc in absurd (omega arith)
     by false r = let same : e ≡ E.AddressOutOfRange = cc in rw same
 units-other SDHC index e r = let no : ◌≡◌ {A = ℕ} 0 1 = cc in absurd (omega arith)
 
-address-other : (class : CardCapacity) (blocks index count : ℕ) (e : Error) → address_of class blocks index count ≡ Address.Refused e → Other e
+address-other : (class : CardCapacity) (blocks index count : ℕ) (e : Error) → address_of class blocks index count ≡ Err e → Other e
 unfolding address_of error_told
 address-other class blocks index count e r = by (eqb count 0 || ltb 511 count) (ltb blocks (index + count)) r
   where
     by : (a b : Bool)
-        → cond a (Address.Refused E.InvalidBufferLength) (cond b (Address.Refused E.AddressOutOfRange) (units_of class index)) ≡ Address.Refused e → Other e
+        → cond a (Err E.InvalidBufferLength) (cond b (Err E.AddressOutOfRange) (units_of class index)) ≡ Err e → Other e
     by true b r = let same : e ≡ E.InvalidBufferLength = cc in rw same
     by false true r = let same : e ≡ E.AddressOutOfRange = cc in rw same
     by false false r = units-other class index e r
 
 module _ (host : Sdmmc) where
-  judged-plain : (buffer : Buffer) (index bytes : ℕ) (e : Error) → blocks_judged host (sends buffer) index bytes ≡ Address.Refused e → Plain host buffer e
+  judged-plain : (buffer : Buffer) (index bytes : ℕ) (e : Error) → blocks_judged host (sends buffer) index bytes ≡ Err e → Plain host buffer e
   unfolding blocks_judged error_told
   judged-plain buffer index bytes e r = by host.known (sends buffer && stops_writes host.card.protection) (eqb (bytes % 512) 0) refl refl r
     where
       by : (known stops whole : Bool) → host.known ≡ known → (sends buffer && stops_writes host.card.protection) ≡ stops
           → cond known
-          (cond stops (Address.Refused E.WriteProtected)
-          (cond whole (address_of host.card.card_type host.card.block_count.0 index (bytes / 512)) (Address.Refused E.InvalidBufferLength)))
-          (Address.Refused E.NoCard) ≡ Address.Refused e → Plain host buffer e
+          (cond stops (Err E.WriteProtected)
+          (cond whole (address_of host.card.card_type host.card.block_count.0 index (bytes / 512)) (Err E.InvalidBufferLength)))
+          (Err E.NoCard) ≡ Err e → Plain host buffer e
       by false stops whole k p r = let same : E.NoCard ≡ e = cc in rw (← same) (plain_other E.NoCard refl)
       by true true whole k p r =
           let same : E.WriteProtected ≡ e = cc in
@@ -260,9 +257,9 @@ module _ (host : Sdmmc) where
   unfolding blocks_whole blocks_at
   blocks-walk buffer index bytes = at (blocks_judged host (sends buffer) index bytes) refl
     where
-      at : (a : AddressAnswer) → blocks_judged host (sends buffer) index bytes ≡ a → Obeys (plain host buffer) (List ℕ) (blocks_at host buffer (bytes / 512) a)
-      at (Address.Refused e) r = on-fail (judged-plain buffer index bytes e r)
-      at (Address.Address a) r =
+      at : (a : Result ℕ Error) → blocks_judged host (sends buffer) index bytes ≡ a → Obeys (plain host buffer) (List ℕ) (blocks_at host buffer (bytes / 512) a)
+      at (Err e) r = on-fail (judged-plain buffer index bytes e r)
+      at (Ok a) r =
           on_then (ready-obeys (plain host buffer) plain_other (λ r o. tt) _ _ _) (λ _. data_obeys (plain host buffer) plain_other (λ r o. tt) (λ r. tt) _ _ _ _ _)
 
   unclocked-other : (e : Error) → Other e → ((error_told e).number ≡ 17 → ⊥) × ((error_told e).number ≡ 26 → ⊥)
@@ -305,14 +302,14 @@ module _ (host : Sdmmc) where
 -- whence a 17 comes: the asked frequency is not allowed, or `clock_setting` refuses the request for the card's clock
 pub data Whence17 (host : Sdmmc) (frequency : ℕ) : Type 0 where
   asked : (eqb frequency 0 || ltb 50_000_000 frequency) ≡ true → Whence17 host frequency
-  setting : (requested : ℕ) → clock_of (source_of host.settings) requested host.settings.config.allow_clock_bypass ≡ Clocked.Refused E.BadClock → Whence17 host frequency
+  setting : (requested : ℕ) → clock_of (source_of host.settings) requested host.settings.config.allow_clock_bypass ≡ Err E.BadClock → Whence17 host frequency
 
-module _ (host : Sdmmc) (from2 : 2 ≤ source_of host.settings) (c : Clock) (clocked : clock_of (source_of host.settings) 400_000 false ≡ Clocked.Set c) (frequency : ℕ) (s : List ℕ) (l : List Row) where
+module _ (host : Sdmmc) (from2 : 2 ≤ source_of host.settings) (c : Clock) (clocked : clock_of (source_of host.settings) 400_000 false ≡ Ok c) (frequency : ℕ) (s : List ℕ) (l : List Row) where
   -- one of allowed frequency
   abbrev pub steps : After Card
   steps = run s no_card (initialise host.settings c frequency) 0 0 (fresh_line c.frequency) l
 
-  pub steps-ran : Ran (init_from host frequency (Clocked.Set c) s l) steps
+  pub steps-ran : Ran (init_from host frequency (Ok c) s l) steps
   unfolding init_from
   steps-ran = ends-ran steps.value host (dropped host steps.state) (holding host steps.state steps.value) [] steps.state
 
@@ -328,7 +325,7 @@ module _ (host : Sdmmc) (from2 : 2 ≤ source_of host.settings) (c : Clock) (clo
   initialise_17 r = by (eqb frequency 0 || ltb 50_000_000 frequency) refl (rw clocked at r)
     where
       by : (b : Bool) → (eqb frequency 0 || ltb 50_000_000 frequency) ≡ b
-          → (cond b (untouched host E.BadClock l) (init_from host frequency (Clocked.Set c) s l)).answer ≡ Answered.Refused E.BadClock → Whence17 host frequency
+          → (cond b (untouched host E.BadClock l) (init_from host frequency (Ok c) s l)).answer ≡ Answered.Refused E.BadClock → Whence17 host frequency
       by true t r = asked t
       by false t r = let told = allowed-error steps-ran steps_obeyed E.BadClock r refl in setting told.0 told.1
 
@@ -349,11 +346,11 @@ unfolding Exact
 untouched_exact buffer host e l bytes = λ r. let z : ◌≡◌ {A = ℕ} 0 1 = cc in absurd (omega arith)
 
 module _ (host : Sdmmc) (buffer : Buffer) (index bytes : ℕ) (s : List ℕ) (l : List Row) where
-  from_exact : (answer : AddressAnswer) → ((a : ℕ) → answer ≡ Address.Address a → bytes % 512 ≡ 0)
+  from_exact : (answer : Result ℕ Error) → ((a : ℕ) → answer ≡ Ok a → bytes % 512 ≡ 0)
       → Exact buffer bytes (blocks_from host buffer (bytes / 512) answer s l)
   unfolding blocks_from served approached transferred
-  from_exact (Address.Refused e) whole = untouched_exact buffer host e l bytes
-  from_exact (Address.Address a) whole = by w.progress.pace refl
+  from_exact (Err e) whole = untouched_exact buffer host e l bytes
+  from_exact (Ok a) whole = by w.progress.pace refl
     where
       w : State
       w = (run s (tt {0}) (wait_ready (source_of host.settings) host.settings.config host.card.rca) 0 0 host.line l).state

@@ -1,11 +1,9 @@
 -- Each call as one plan, from its first check to its last row, so that what is said of a call's rows and words is said of one
 -- run: a read, a write and a status call are served by two, the approach and the data phase.
-use Rattle.std.specs.Prelude.{ℕ, ◌/◌, cond, ◌||◌, false, List, ◌≡◌, eqb, ltb}
-use Rattle.types.specs.declared.card.AddressAnswer.{AddressAnswer}
-use Rattle.types.specs.declared.card.AddressAnswer.TheVariants as Address
+use Rattle.std.specs.Prelude.{ℕ, ◌/◌, cond, ◌||◌, false, List, ◌≡◌, eqb, ltb, Result, Ok, Err}
+use Rattle.types.specs.declared.clock.Clock.{Clock}
+use Rattle.types.specs.declared.error.Error.{Error}
 use Rattle.types.specs.declared.card.Card.{Card}
-use Rattle.types.specs.declared.clock.ClockAnswer.{ClockAnswer}
-use Rattle.types.specs.declared.clock.ClockAnswer.TheVariants as Clocked
 use Rattle.types.specs.declared.error.Answer.{Answer}
 use Rattle.types.specs.declared.error.Answer.TheVariants as Answered
 use Rattle.types.specs.declared.error.Error.TheVariants as E
@@ -23,18 +21,18 @@ use Rattle.host.specs.declared.host.Sdmmc.{Sdmmc}
 use Rattle.host.specs.Calls.{Came, fresh_line, blocks_judged, sends, blocks_plan, status_plan}
 
 -- an initialisation holds a fresh line before its first row
-unfoldable pub init_at : Sdmmc → ℕ → ClockAnswer → Plan Card
-init_at host frequency (Clocked.Refused e) = fail e
-init_at host frequency (Clocked.Set c) = hold (fresh_line c.frequency) (initialise host.settings c frequency)
+unfoldable pub init_at : Sdmmc → ℕ → Result Clock Error → Plan Card
+init_at host frequency (Err e) = fail e
+init_at host frequency (Ok c) = hold (fresh_line c.frequency) (initialise host.settings c frequency)
 
 unfoldable pub init_whole : Sdmmc → ℕ → Plan Card
 init_whole host frequency =
     cond (eqb frequency 0 || ltb 50_000_000 frequency) (fail E.BadClock)
     (init_at host frequency (clock_of (source_of host.settings) 400_000 false))
 
-unfoldable pub blocks_at : Sdmmc → Buffer → ℕ → AddressAnswer → Plan (List ℕ)
-blocks_at host buffer blocks (Address.Refused e) = fail e
-blocks_at host buffer blocks (Address.Address a) =
+unfoldable pub blocks_at : Sdmmc → Buffer → ℕ → Result ℕ Error → Plan (List ℕ)
+blocks_at host buffer blocks (Err e) = fail e
+blocks_at host buffer blocks (Ok a) =
     wait_ready (source_of host.settings) host.settings.config host.card.rca then λ _. blocks_plan host buffer a blocks
 
 unfoldable pub blocks_whole : Sdmmc → Buffer → ℕ → ℕ → Plan (List ℕ)

@@ -1,4 +1,5 @@
 -- How a data phase goes on from each of its places.
+use Rattle.std.specs.Prelude.{Ok, Err}
 use Prim.Native.Nat.{ℕ, suc, ◌+◌, ◌-◌, ◌%◌, ◌^◌, ◌<◌, ◌≤◌}
 use mathlib.Core.Path.{◌≡◌, refl, ap, sym, ◌∙◌}
 use mathlib.Core.Bool.{Bool, true, false, not, ◌||◌}
@@ -10,7 +11,6 @@ use Rattle.types.specs.Bits.{clear}
 use Rattle.types.specs.Leaf.{data_of}
 use Rattle.types.specs.declared.error.Error.{Error}
 use Rattle.types.specs.declared.error.Error.TheVariants as E
-use Rattle.types.specs.declared.status.DataAnswer.TheVariants.{Clean, Failed}
 use Rattle.tape.specs.declared.progress.Line.{Line}
 use Rattle.tape.specs.declared.rows.Row.{Row}
 use Rattle.tape.specs.Plan.{Nothing, Plan, give, fail, handle, ensure, until}
@@ -313,11 +313,11 @@ module _ (bus : Bus) (phase : Phase) (h : Line) where
     unfolding reads_plan idling wait_idle until word handle plug next heard
     idle-on n w e = rw e
 
-    pub first-clean : (n w : ℕ) → data_of w ≡ Clean → asking ws (R.FirstDma n w) ≡ heard (asking ws (R.First n)) w
+    pub first-clean : (n w : ℕ) → data_of w ≡ (Ok tt) → asking ws (R.FirstDma n w) ≡ heard (asking ws (R.First n)) w
     unfolding reads_plan polling until data_complete poll_transfer clean word handle plug next heard
     first-clean n w e = rw e
 
-    pub first-bad : (n w : ℕ) (x : Error) → data_of w ≡ Failed x → next (refusal bus phase (Y.Failed x)) h ≡ heard (asking ws (R.First n)) w
+    pub first-bad : (n w : ℕ) (x : Error) → data_of w ≡ Err x → next (refusal bus phase (Y.Failed x)) h ≡ heard (asking ws (R.First n)) w
     unfolding reads_plan refusal polling until data_complete poll_transfer clean word handle plug next heard
     first-bad n w x e = rw e
 
@@ -333,11 +333,11 @@ module _ (bus : Bus) (phase : Phase) (h : Line) where
     unfolding reads_plan ensure word handle plug next heard
     dma-done n v w e f = rw (e, f)
 
-    pub again_clean : (n w : ℕ) → data_of w ≡ Clean → asking ws (R.AgainDma n w) ≡ heard (asking ws (R.Again n)) w
+    pub again_clean : (n w : ℕ) → data_of w ≡ (Ok tt) → asking ws (R.AgainDma n w) ≡ heard (asking ws (R.Again n)) w
     unfolding reads_plan settle poll_transfer clean word handle plug next heard
     again_clean n w e = rw e
 
-    pub again_bad : (n w : ℕ) (x : Error) → data_of w ≡ Failed x → next (refusal bus phase (Y.Failed x)) h ≡ heard (asking ws (R.Again n)) w
+    pub again_bad : (n w : ℕ) (x : Error) → data_of w ≡ Err x → next (refusal bus phase (Y.Failed x)) h ≡ heard (asking ws (R.Again n)) w
     unfolding reads_plan refusal settle poll_transfer clean word handle plug next heard
     again_bad n w x e = rw e
 

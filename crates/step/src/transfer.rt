@@ -363,8 +363,8 @@ impl Bus {
     {
         let answer = status::data_error(word);
         match answer {
-            DataAnswer::Clean => Data::Asks(Reads::FirstDma(more, word)),
-            DataAnswer::Failed(error) => self.refuses(phase, error),
+            Ok(()) => Data::Asks(Reads::FirstDma(more, word)),
+            Err(error) => self.refuses(phase, error),
         }
     }
 
@@ -388,8 +388,8 @@ impl Bus {
     {
         let answer = status::data_error(word);
         match answer {
-            DataAnswer::Clean => Data::Asks(Reads::AgainDma(more, word)),
-            DataAnswer::Failed(error) => self.refuses(phase, error),
+            Ok(()) => Data::Asks(Reads::AgainDma(more, word)),
+            Err(error) => self.refuses(phase, error),
         }
     }
 

@@ -1,4 +1,5 @@
 -- What follows each step of an initialisation: the rest of the plan after it.
+use Rattle.std.specs.Prelude.{Ok, Err}
 use Prim.Native.Nat.{ℕ, suc, ◌+◌, ◌*◌, ◌/◌, ◌^◌, min}
 use mathlib.Core.Path.{◌≡◌, refl, ap, ◌∙◌}
 use mathlib.Core.Bool.{Bool, true, false, cond, not, ◌&&◌, ◌||◌}
@@ -13,13 +14,10 @@ use Rattle.types.specs.Sd.{wide_of, tran_speed, sd_spec, one_line, four_lines}
 use Rattle.types.specs.Words.{halves_of, scr_of}
 use Rattle.types.specs.declared.card.Card.{Card}
 use Rattle.types.specs.declared.clock.Clock.{Clock}
-use Rattle.types.specs.declared.clock.ClockAnswer.TheVariants as Clocked
 use Rattle.types.specs.declared.error.Error.{Error}
 use Rattle.types.specs.declared.error.Error.TheVariants as E
 use Rattle.types.specs.declared.error.Field.TheVariants.{CsdAndOcr, Voltage, AppCommand}
 use Rattle.types.specs.declared.register.BlockCount.{BlockCount}
-use Rattle.types.specs.declared.register.CountAnswer.TheVariants as Counted
-use Rattle.types.specs.declared.register.RateAnswer.TheVariants as Rated
 use Rattle.types.specs.declared.status.Scr.{Scr}
 use Rattle.tape.specs.declared.progress.Line.{Line}
 use Rattle.tape.specs.declared.rows.Row.{Row}
@@ -231,12 +229,12 @@ module _ (j : Job) (k : Known) (h : Line) where
       unfolding follow_plan sent_site refusal select ensure handle plug
       csd_other e = rw e
 
-      pub csd_bad : (x : Error) → same (high_capacity k.ocr) (eqb (bits told 127 126) 1) ≡ true → count_of told ≡ Counted.Refused x
+      pub csd_bad : (x : Error) → same (high_capacity k.ocr) (eqb (bits told 127 126) 1) ≡ true → count_of told ≡ Err x
           → follows k ws (F.Refuses (Y.Failed x)) ≡ came S.Cmd9
       unfolding follow_plan sent_site refusal select ensure handle plug
       csd_bad x e f = rw (e, f)
 
-      pub csd_known : (blocks : BlockCount) → same (high_capacity k.ocr) (eqb (bits told 127 126) 1) ≡ true → count_of told ≡ Counted.Blocks blocks
+      pub csd_known : (blocks : BlockCount) → same (high_capacity k.ocr) (eqb (bits told 127 126) 1) ≡ true → count_of told ≡ Ok blocks
           → follows (with_csd k w blocks) ws (F.Sends S.Cmd7 7 (k.rca * 2 ^ 16) R1) ≡ came S.Cmd9
       unfolding follow_plan sent_site select ensure handle plug
       csd_known blocks e f = rw (e, f)
@@ -281,34 +279,34 @@ module _ (j : Job) (k : Known) (h : Line) where
     scr-narrow s l is e = rw (← is, e)
 
     -- the transfer clock
-    pub rate-bad : (x : Error) → rate_of (tran_speed (wide_of (halves_of (list_of k.csd)))) ≡ Rated.Refused x
+    pub rate-bad : (x : Error) → rate_of (tran_speed (wide_of (halves_of (list_of k.csd)))) ≡ Err x
         → follows k ws (F.Refuses (Y.Failed x)) ≡ next (plug (Sites.widened j.host initial frequency card k.scr) (give tt)) h
     unfolding follow_plan refusal transfer_clock handle plug
     rate-bad x e = rw e
 
-    pub rate-good : (rate : ℕ) → rate_of (tran_speed (wide_of (halves_of (list_of k.csd)))) ≡ Rated.Rate rate
+    pub rate-good : (rate : ℕ) → rate_of (tran_speed (wide_of (halves_of (list_of k.csd)))) ≡ Ok rate
         → next (plug (Sites.clock_set j.host initial frequency card k.scr) (set_clock j.host.settings (min (min frequency 25_000_000) rate))) h
         ≡ next (plug (Sites.widened j.host initial frequency card k.scr) (give tt)) h
     unfolding transfer_clock handle plug
     rate-good rate e = rw e
 
-    pub clock-bad : (x : Error) (requested : ℕ) → clock_of source requested j.host.settings.config.allow_clock_bypass ≡ Clocked.Refused x
+    pub clock-bad : (x : Error) (requested : ℕ) → clock_of source requested j.host.settings.config.allow_clock_bypass ≡ Err x
         → follows k ws (F.Refuses (Y.Failed x)) ≡ next (plug (Sites.clock_set j.host initial frequency card k.scr) (set_clock j.host.settings requested)) h
     unfolding follow_plan refusal set_clock handle plug
     clock-bad x requested e = rw e
 
-    pub clock-good : (clock : Clock) (requested : ℕ) → clock_of source requested j.host.settings.config.allow_clock_bypass ≡ Clocked.Set clock
+    pub clock-good : (clock : Clock) (requested : ℕ) → clock_of source requested j.host.settings.config.allow_clock_bypass ≡ Ok clock
         → follows (with_clock k clock) ws (F.Idles C.Transfer) ≡ next (plug (Sites.clock_set j.host initial frequency card k.scr) (set_clock j.host.settings requested)) h
     unfolding follow_plan idling clock_on change_site set_clock configure_clock handle plug
     clock-good clock requested e = rw e
 
     -- the clock of SDR25
-    pub speed_bad : (x : Error) → clock_of source (min frequency 50_000_000) j.host.settings.config.allow_clock_bypass ≡ Clocked.Refused x
+    pub speed_bad : (x : Error) → clock_of source (min frequency 50_000_000) j.host.settings.config.allow_clock_bypass ≡ Err x
         → follows k ws (F.Refuses (Y.Failed x)) ≡ next (plug (Sites.switch_delay j.host initial frequency card k.scr) (give tt)) h
     unfolding follow_plan refusal set_clock handle plug
     speed_bad x e = rw e
 
-    pub speed_good : (clock : Clock) → clock_of source (min frequency 50_000_000) j.host.settings.config.allow_clock_bypass ≡ Clocked.Set clock
+    pub speed_good : (clock : Clock) → clock_of source (min frequency 50_000_000) j.host.settings.config.allow_clock_bypass ≡ Ok clock
         → follows (with_clock k clock) ws (F.Idles C.Switch) ≡ next (plug (Sites.switch_delay j.host initial frequency card k.scr) (give tt)) h
     unfolding follow_plan idling clock_on change_site set_clock configure_clock handle plug
     speed_good clock e = rw e

@@ -202,7 +202,7 @@ impl Job {
         if identify::agree(known.ocr, told) {
             let answer = register::block_count(told);
             match answer {
-                CountAnswer::Blocks(count) => {
+                Ok(count) => {
                     let mut found = known;
                     found.csd = words;
                     found.blocks = count;
@@ -213,7 +213,7 @@ impl Job {
                         Response::R1,
                     ))
                 }
-                CountAnswer::Refused(error) => known.and(Follow::Refuses(Why::Failed(error))),
+                Err(error) => known.and(Follow::Refuses(Why::Failed(error))),
             }
         } else {
             known.and(Follow::Refuses(Why::Failed(Error::UnsupportedCardType(Field::CsdAndOcr))))
@@ -242,7 +242,7 @@ impl Job {
     }
 
     // The setting for a clock of at most this.
-    fn clocks(self, requested: u32) -> ClockAnswer
+    fn clocks(self, requested: u32) -> Result<Clock, Error>
         ensures { result ≡ clock_of self.host.settings.source.0 requested self.host.settings.config.allow_clock_bypass }
     {
         let settings = self.host.settings;
@@ -257,12 +257,12 @@ impl Job {
     {
         let answer = self.clocks(requested);
         match answer {
-            ClockAnswer::Set(clock) => {
+            Ok(clock) => {
                 let mut found = known;
                 found.clock = clock;
                 found.and(Follow::Idles(Change::Transfer))
             }
-            ClockAnswer::Refused(error) => known.and(Follow::Refuses(Why::Failed(error))),
+            Err(error) => known.and(Follow::Refuses(Why::Failed(error))),
         }
     }
 
@@ -274,12 +274,12 @@ impl Job {
         let csd = words::response_value(told.list());
         let answer = transfer_rate(csd.transfer_rate());
         match answer {
-            RateAnswer::Rate(rate) => {
+            Ok(rate) => {
                 let asked = self.asked;
                 let slow = speed::lesser(asked.frequency(), Switch::SDR12);
                 self.transfers_at(known, speed::lesser(slow, rate))
             }
-            RateAnswer::Refused(error) => known.and(Follow::Refuses(Why::Failed(error))),
+            Err(error) => known.and(Follow::Refuses(Why::Failed(error))),
         }
     }
 
@@ -290,12 +290,12 @@ impl Job {
         let asked = self.asked;
         let answer = self.clocks(speed::lesser(asked.frequency(), Switch::SDR25));
         match answer {
-            ClockAnswer::Set(clock) => {
+            Ok(clock) => {
                 let mut found = known;
                 found.clock = clock;
                 found.and(Follow::Idles(Change::Switch))
             }
-            ClockAnswer::Refused(error) => known.and(Follow::Refuses(Why::Failed(error))),
+            Err(error) => known.and(Follow::Refuses(Why::Failed(error))),
         }
     }
 

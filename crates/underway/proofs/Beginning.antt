@@ -1,11 +1,10 @@
 -- A call at its start: what is ahead of it there is its one plan.
+use Rattle.std.specs.Prelude.{Result, Ok, Err}
 use Prim.Native.Nat.{ℕ, ◌*◌, ◌/◌, ◌^◌, ◌≤◌}
 use mathlib.Core.Path.{◌≡◌, refl, ap, sym, ◌∙◌}
 use mathlib.Core.Bool.{Bool, true, false, cond}
 use mathlib.Core.List.{List}
 use native.Mathlib.Omega.{arith}
-use Rattle.types.specs.declared.card.AddressAnswer.{AddressAnswer}
-use Rattle.types.specs.declared.card.AddressAnswer.TheVariants as Address
 use Rattle.types.specs.declared.clock.Clock.{Clock}
 use Rattle.types.specs.declared.error.Error.{Error}
 use Rattle.types.specs.declared.error.Error.TheVariants as E
@@ -60,22 +59,22 @@ module _ (host : Sdmmc) (writes : Bool) (index bytes : ℕ) (sent : List ℕ) wh
   its_way true = refl
   its_way false = refl
 
-  judged-call : (a : AddressAnswer) → blocks_judged host writes index bytes ≡ a
+  judged-call : (a : Result ℕ Error) → blocks_judged host writes index bytes ≡ a
       → blocks_at host buffer (bytes / 512) a ≡ blocks_call host buffer index bytes
   unfolding blocks_call
   judged-call a e = rw (its_way writes, e)
 
-  pub moved_call : (a : ℕ) → blocks_judged host writes index bytes ≡ Address.Address a
+  pub moved_call : (a : ℕ) → blocks_judged host writes index bytes ≡ Ok a
       → blocks_from host buffer a (blocks_of (bytes / 512)) ≡ blocks_call host buffer index bytes
   unfolding blocks_at
   moved_call a e =
       let place = judged-good host writes index bytes a e in
-      ap (λ (n : ℕ). blocks_from host buffer a n) (some-blocks (bytes / 512) place.some place.most) ∙ judged-call (Address.Address a) e
+      ap (λ (n : ℕ). blocks_from host buffer a n) (some-blocks (bytes / 512) place.some place.most) ∙ judged-call (Ok a) e
 
-  pub refused-call : (x : Error) → blocks_judged host writes index bytes ≡ Address.Refused x
+  pub refused-call : (x : Error) → blocks_judged host writes index bytes ≡ Err x
       → keeping host (failed x) ≡ blocks_call host buffer index bytes
   unfolding blocks_at
-  refused-call x e = judged-call (Address.Refused x) e
+  refused-call x e = judged-call (Err x) e
 
 reset-rows : reset_controller ≡ rows_from reset_rows
 unfolding reset_controller row handle rows_from

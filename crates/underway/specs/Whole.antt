@@ -1,11 +1,8 @@
 -- Each call as one plan, from its first check to its end, which says how it ended: the answer, the next host, and the words that
 -- it gives. They are the plans of the host's own calls, joined; whether a refusal keeps the record is where it comes.
-use Rattle.std.specs.Prelude.{ℕ, ◌/◌, cond, false, ◌||◌, List, eqb, ltb}
-use Rattle.types.specs.declared.card.AddressAnswer.{AddressAnswer}
-use Rattle.types.specs.declared.card.AddressAnswer.TheVariants as Address
+use Rattle.std.specs.Prelude.{ℕ, ◌/◌, cond, false, ◌||◌, List, eqb, ltb, Result, Ok, Err}
+use Rattle.types.specs.declared.error.Error.{Error}
 use Rattle.types.specs.declared.clock.Clock.{Clock}
-use Rattle.types.specs.declared.clock.ClockAnswer.{ClockAnswer}
-use Rattle.types.specs.declared.clock.ClockAnswer.TheVariants as Clocked
 use Rattle.types.specs.declared.error.Error.TheVariants as E
 use Rattle.types.specs.Leaf.{clock_of}
 use Rattle.tape.specs.declared.progress.Line.{Line}
@@ -24,9 +21,9 @@ module _ (host : Sdmmc) where
   init_from c frequency =
       hold (fresh_line c.frequency) (handle (finding host) (dropping host) (initialise host.settings c frequency))
 
-  unfoldable pub init_at : ℕ → ClockAnswer → Plan Closing
-  init_at frequency (Clocked.Refused e) = keeping host (failed e)
-  init_at frequency (Clocked.Set c) = init_from c frequency
+  unfoldable pub init_at : ℕ → Result Clock Error → Plan Closing
+  init_at frequency (Err e) = keeping host (failed e)
+  init_at frequency (Ok c) = init_from c frequency
 
   -- 17 for an asked frequency of 0 or over 50,000,000
   unfoldable pub init_call : ℕ → Plan Closing
@@ -44,9 +41,9 @@ module _ (host : Sdmmc) where
       call_plan (wait_ready (source_of host.settings) host.settings.config host.card.rca) (blocks_plan host buffer address blocks)
       (blocks_host host)
 
-  unfoldable pub blocks_at : Buffer → ℕ → AddressAnswer → Plan Closing
-  blocks_at buffer blocks (Address.Refused e) = keeping host (failed e)
-  blocks_at buffer blocks (Address.Address a) = blocks_from buffer a blocks
+  unfoldable pub blocks_at : Buffer → ℕ → Result ℕ Error → Plan Closing
+  blocks_at buffer blocks (Err e) = keeping host (failed e)
+  blocks_at buffer blocks (Ok a) = blocks_from buffer a blocks
 
   -- judged as the host's own
   unfoldable pub blocks_call : Buffer → ℕ → ℕ → Plan Closing

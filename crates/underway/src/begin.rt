@@ -48,8 +48,8 @@ fn init_first(host: Sdmmc, frequency: u32) -> First
     }
     let answer = clock_setting(source, Hertz(Sdmmc::IDENTIFICATION), false);
     match answer {
-        ClockAnswer::Set(initial) => First::Resets(initial, frequency),
-        ClockAnswer::Refused(error) => First::Refused(error),
+        Ok(initial) => First::Resets(initial, frequency),
+        Err(error) => First::Refused(error),
     }
 }
 
@@ -70,8 +70,8 @@ fn blocks_first(host: Sdmmc, sends: bool, index: u32, bytes: usize) -> First
 {
     let answer = host.judged(sends, index, bytes);
     match answer {
-        AddressAnswer::Address(address) => moves(sends, address, (bytes / 512) as u16),
-        AddressAnswer::Refused(error) => First::Refused(error),
+        Ok(address) => moves(sends, address, (bytes / 512) as u16),
+        Err(error) => First::Refused(error),
     }
 }
 

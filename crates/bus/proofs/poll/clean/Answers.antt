@@ -3,12 +3,12 @@ use Rattle.bus.specs.Transfer.{clean}
 use Rattle.tape.proofs.Laws.{stay}
 use Rattle.bus.proofs.poll.clean.Goals as goal
 
-pub returns-in-Clean : goal.returns-in-Clean
+pub returns-in-Ok : goal.returns-in-Ok
 unfolding clean
-returns-in-Clean c = let says = sym c.data_error-answer.ensures ∙ c.in-Clean.is in
+returns-in-Ok c = let says = sym c.data_error-answer.ensures ∙ c.in-Ok.is in
     λ s l. rw says stay
 
-pub returns-in-Failed : goal.returns-in-Failed
+pub returns-in-Err : goal.returns-in-Err
 unfolding clean
-returns-in-Failed c = let says = sym c.data_error-answer.ensures ∙ c.in-Failed.is in
+returns-in-Err c = let says = sym c.data_error-answer.ensures ∙ c.in-Err.is in
     λ s l. rw says (c.refuse.ensures s l)

@@ -2,8 +2,8 @@ use mathlib.Core.Path.{sym, ◌∙◌}
 use Rattle.tape.proofs.Laws.{refusal}
 use Rattle.init.proofs.speed.find_rate.Goals as goal
 
-pub returns-in-Rate : goal.returns-in-Rate
-returns-in-Rate c = λ s l. rw (sym c.transfer_rate-answer.ensures ∙ c.in-Rate.is) (c.give_word.ensures s l)
+pub returns-in-Ok : goal.returns-in-Ok
+returns-in-Ok c = λ s l. rw (sym c.transfer_rate-answer.ensures ∙ c.in-Ok.is) (c.give_word.ensures s l)
 
-pub returns-in-Refused : goal.returns-in-Refused
-returns-in-Refused c = λ s l. rw (sym c.transfer_rate-answer.ensures ∙ c.in-Refused.is) (refusal (c.refuse.ensures s l))
+pub returns-in-Err : goal.returns-in-Err
+returns-in-Err c = λ s l. rw (sym c.transfer_rate-answer.ensures ∙ c.in-Err.is) (refusal (c.refuse.ensures s l))

@@ -12,10 +12,10 @@ pub returns-then-asked-gt-MOST : goal.returns-then-asked-gt-MOST
 unfolding initialised
 returns-then-asked-gt-MOST c = rw (ne_eqb _ _ c.if-asked-eq0.false, lt-ltb 50_000_000 _ c.if-asked-gt-MOST.true) (record { answered = c.untouched-then-asked-gt-MOST.ensures []; listed = refl })
 
-pub returns-in-Set : goal.returns-in-Set
+pub returns-in-Ok : goal.returns-in-Ok
 unfolding initialised
-returns-in-Set c = rw (ne_eqb _ _ c.if-asked-eq0.false, le-ltb _ _ c.if-asked-gt-MOST.false, sym c.clock_setting-answer.ensures ∙ c.in-Set.is) c.init_from.ensures
+returns-in-Ok c = rw (ne_eqb _ _ c.if-asked-eq0.false, le-ltb _ _ c.if-asked-gt-MOST.false, sym c.clock_setting-answer.ensures ∙ c.in-Ok.is) c.init_from.ensures
 
-pub returns-in-Refused : goal.returns-in-Refused
+pub returns-in-Err : goal.returns-in-Err
 unfolding initialised init_from
-returns-in-Refused c = rw (ne_eqb _ _ c.if-asked-eq0.false, le-ltb _ _ c.if-asked-gt-MOST.false, sym c.clock_setting-answer.ensures ∙ c.in-Refused.is) (record { answered = c.untouched-in-Refused.ensures []; listed = refl })
+returns-in-Err c = rw (ne_eqb _ _ c.if-asked-eq0.false, le-ltb _ _ c.if-asked-gt-MOST.false, sym c.clock_setting-answer.ensures ∙ c.in-Err.is) (record { answered = c.untouched-in-Err.ensures []; listed = refl })

@@ -8,15 +8,15 @@ use Rattle.host.proofs.Laying.{none_filled}
 use Rattle.host.proofs.host.Sdmmc.blocking_read_blocks.Goals as goal
 
 pub overflow_cast-bytes : goal.overflow_cast-bytes
-overflow_cast-bytes c = let place = judged-good c.args.self _ c.args.index (length c.args.buffer.now) _ (sym c.judged-answer.ensures ∙ c.in-Address.is) in omega (arith, place.most)
+overflow_cast-bytes c = let place = judged-good c.args.self _ c.args.index (length c.args.buffer.now) _ (sym c.judged-answer.ensures ∙ c.in-Ok.is) in omega (arith, place.most)
 
 pub read_from-requires : goal.read_from-requires
-read_from-requires c = let place = judged-good c.args.self _ c.args.index (length c.args.buffer.now) _ (sym c.judged-answer.ensures ∙ c.in-Address.is) in omega (arith, place.most)
+read_from-requires c = let place = judged-good c.args.self _ c.args.index (length c.args.buffer.now) _ (sym c.judged-answer.ensures ∙ c.in-Ok.is) in omega (arith, place.most)
 
-pub returns-in-Address : goal.returns-in-Address
+pub returns-in-Ok : goal.returns-in-Ok
 unfolding blocks_came
-returns-in-Address c = rw (sym c.judged-answer.ensures ∙ c.in-Address.is) c.read_from.ensures
+returns-in-Ok c = rw (sym c.judged-answer.ensures ∙ c.in-Ok.is) c.read_from.ensures
 
-pub returns-in-Refused : goal.returns-in-Refused
+pub returns-in-Err : goal.returns-in-Err
 unfolding blocks_came blocks_from
-returns-in-Refused c = rw (sym c.judged-answer.ensures ∙ c.in-Refused.is) (record { answered = c.untouched.ensures []; listed = refl; filled = sym (none_filled c.args.buffer.now) })
+returns-in-Err c = rw (sym c.judged-answer.ensures ∙ c.in-Err.is) (record { answered = c.untouched.ensures []; listed = refl; filled = sym (none_filled c.args.buffer.now) })

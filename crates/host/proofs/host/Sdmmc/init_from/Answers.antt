@@ -1,9 +1,9 @@
+use Rattle.std.specs.Prelude.{Ok}
 use mathlib.Core.List.{[], List}
 use mathlib.Core.Path.{◌≡◌, ap, sym, ◌∙◌}
 use Prim.Native.Nat.{ℕ}
 use Rattle.types.specs.declared.card.Card.{Card}
 use Rattle.types.specs.declared.clock.Clock.{Clock}
-use Rattle.types.specs.declared.clock.ClockAnswer.TheVariants as Clocked
 use Rattle.tape.specs.declared.rows.Row.{Row}
 use Rattle.tape.specs.Layout.{rows_in}
 use Rattle.tape.specs.Run.{at, After, run}
@@ -20,7 +20,7 @@ came host x = ends host (dropped host x.state) (holding host x.state x.value) []
 
 module _ (host : Sdmmc) (frequency : ℕ) (c : Clock) (s : List ℕ) (l : List Row) where
   told : {x : After Card} {r : Called} → x ≡ run s no_card (initialise host.settings c frequency) 0 0 (fresh_line c.frequency) l → r ≡ called_of (came host x)
-      → (r ≡ called_of (init_from host frequency (Clocked.Set c) s l)) × (x.state.list ≡ (init_from host frequency (Clocked.Set c) s l).list)
+      → (r ≡ called_of (init_from host frequency (Ok c) s l)) × (x.state.list ≡ (init_from host frequency (Ok c) s l).list)
   unfolding init_from
   told {x} ran e = (
     e ∙ ap (λ (z : After Card). called_of (came host z)) ran,
