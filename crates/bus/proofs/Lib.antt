@@ -2,4 +2,4 @@ pub mod Bounds
 pub mod Delays
 pub mod Shown
 pub mod Walks
-pub mod Starting
+pub mod Sent

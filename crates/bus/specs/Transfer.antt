@@ -7,9 +7,10 @@ use Rattle.types.specs.Bits.{clear}
 use Rattle.types.specs.Leaf.{data_of}
 use Rattle.tape.specs.declared.script.Reading.TheVariants as Reading
 use Rattle.tape.specs.Plan.{Nothing, Plan, give, look, ◌then◌, guard, fail, ensure, until}
-use Rattle.tape.specs.Run.{State, does}
+use Rattle.tape.specs.declared.progress.Halt.{Halt}
 use Rattle.tape.specs.Rows.{DTIMER, DLEN, DCTRL, DCTRL2, dctrl_of}
 use Rattle.tape.specs.Steps.{word, row, data_words, send_words, wait_idle, reset_controller, stop_data, set_clken}
+use Rattle.bus.specs.declared.poll.Poll.{Poll}
 use Rattle.bus.specs.declared.response.Response.TheVariants.{R1}
 use Rattle.bus.specs.declared.transfer.Transfer.{Transfer}
 use Rattle.bus.specs.Command.{command_inner, command}
@@ -68,9 +69,8 @@ unfoldable pub clean : ℕ → Plan Nothing
 clean status = heeded (data_of status)
 
 -- status word, `data_error`; DMA word, error gives 7
-pub record Polled : Type 0 where
-  pub status : ℕ
-  pub dma : ℕ
+abbrev pub Polled : Type 0
+Polled = Poll
 
 abbrev pub nothing_polled : Polled
 nothing_polled = record { status = 0; dma = 0 }
@@ -137,3 +137,8 @@ transfer_data source config buffer transfer rca =
 -- a refusal in a data phase: reset rows
 unfoldable pub blocking_data : ℕ → Config → Buffer → Transfer → ℕ → Plan (List ℕ)
 blocking_data source config buffer transfer rca = guard reset_controller (transfer_data source config buffer transfer rca)
+
+-- what the answer of a write is to that plan: it gives no words
+abbrev pub sent_in : Result Nothing Halt → Result (List ℕ) Halt
+sent_in (Ok v) = Ok []
+sent_in (Err x) = Err x

@@ -1,5 +1,5 @@
 // One command to the card.
-ghost use Rattle.std.specs.Prelude.{◌≡◌, List, [], ◌∷◌, cond, ℕ, ◌+◌, ◌^◌, ◌<◌, ◌≤◌, ltb, length, get_or};
+ghost use Rattle.std.specs.Prelude.{◌≡◌, List, false, ℕ, ◌+◌, ◌^◌, ◌<◌, ◌≤◌, length};
 ghost use Rattle.tape.specs.Layout.{rows_in};
 ghost use Rattle.tape.specs.Plan.{finally, giving, refusing};
 ghost use Rattle.tape.specs.Run.{left_at, value_of, Behind, Settled, Took, Went};
@@ -127,11 +127,17 @@ fn close_clock(head: &mut Head, rows: &mut [u64], answer: Result<[u32; 4], Halt>
     ensures { (s : List ℕ) → Settled s (List ℕ) (List ℕ) zeros (giving (set_clken false)) (refusing (set_clken false)) (value_of zeros answer) (left_at answer head.old (rows_in rows.old)) (value_of zeros result) (left_at result head.new (rows_in rows.new)) }
 {
     match answer {
-        Err(Halt::TraceFull) => answer,
-        _ => {
+        Ok(words) => {
             steps::set_clken(head, rows, false)?;
-            answer
+            Ok(words)
         }
+        Err(halt) => match halt {
+            Halt::TraceFull => answer,
+            _ => {
+                steps::set_clken(head, rows, false)?;
+                answer
+            }
+        },
     }
 }
 

@@ -2,7 +2,7 @@
 ghost use Rattle.std.specs.Prelude.{◌≡◌, List, Bool, false, not, ◌||◌, ℕ, ◌+◌, ◌^◌, ◌<◌, ◌≤◌, length};
 ghost use Rattle.types.specs.Bits.{clear};
 ghost use Rattle.tape.specs.Run.{Behind, Took, Went};
-ghost use Rattle.bus.specs.Transfer.{Polled, nothing_polled, polled_in, clean, poll_transfer, drained, settle, data_complete, wait_data};
+ghost use Rattle.bus.specs.Transfer.{Polled, nothing_polled, clean, poll_transfer, drained, settle, data_complete, wait_data};
 
 use tape::progress::{Halt, Head};
 use tape::rows::Row;
@@ -29,7 +29,7 @@ fn clean(word: u32) -> Result<(), Halt>
 // One status word and one DMA word, neither of which says that the transfer failed.
 fn poll_transfer(head: &mut Head, rest: &[u32], start: usize) -> Result<Poll, Halt>
     requires { (start ≤ head.old.used) × (start + length rest.now < 2 ^ 64) }
-    ensures { (s : List ℕ) (l : List Row) → Behind start rest.now s → Took s Polled nothing_polled poll_transfer head.old l (polled_in result) head.new l }
+    ensures { (s : List ℕ) (l : List Row) → Behind start rest.now s → Took s Polled nothing_polled poll_transfer head.old l result head.new l }
 {
     let status = script::read_word(head, rest, start)?;
     clean(status)?;

@@ -8,6 +8,7 @@ pub mod Room
 pub mod Sending
 pub mod Stops
 pub mod Took
+pub mod Tries
 pub mod Words
 pub mod Values
 pub mod Polls

@@ -5,6 +5,7 @@ use mathlib.Core.Bool.{Bool, true, false, cond}
 use mathlib.Core.List.{List, []}
 use native.Mathlib.Omega.{arith}
 use Rattle.std.specs.Prelude.{Result, Ok, Err, IsErrAnd}
+use Rattle.std.specs.Borrow.{Bor}
 use Rattle.types.specs.declared.error.Error.{Error}
 use Rattle.tape.specs.declared.progress.Halt.{Halt}
 use Rattle.tape.specs.declared.progress.Halt.TheVariants.{Refused}
@@ -13,7 +14,7 @@ use Rattle.tape.specs.declared.progress.Line.{Line}
 use Rattle.tape.specs.declared.rows.Row.{Row}
 use Rattle.tape.specs.Pace.{Going, Stopped}
 use Rattle.tape.specs.Plan.{Nothing, Cause, Plan, give, refuse, fail, look, handle, ensure, guard, refusing, ◌then◌}
-use Rattle.tape.specs.Run.{State, at, After, halt_of, run, next_at, stand, pace_of, value_of, going_at, left_at, Behind, Settled, Took, Went}
+use Rattle.tape.specs.Run.{State, at, After, halt_of, run, next_at, stand, pace_of, value_of, going_at, left_at, words_in, Behind, Settled, Took, Went}
 use Rattle.tape.proofs.Behind.{some-script}
 use Rattle.tape.proofs.Laws.{from-going, from-stopped, bind, looking, grows, dry, handled, guarded}
 
@@ -47,6 +48,11 @@ pub passed : {s : List ℕ} {A : Type 0} {d : A} {p : Plan A} {h h' : Head} {l l
 passed {r = Ok v} t e = absurd t
 passed {r = Err y} t e = rw t e
 
+-- the same, of lent words
+pub passed-lent : (r : Result (Bor (List ℕ)) Halt) (x : Halt) → IsErrAnd r (λ y. y ≡ x) → IsErrAnd (words_in r) (λ y. y ≡ x)
+passed-lent (Ok v) x t = absurd t
+passed-lent (Err y) x t = t
+
 pub stops : {s : List ℕ} {A : Type 0} {d : A} {c : Cause} {x : Halt} {h : Head} {l : List Row} → x ≡ halt_of c → Took s A d (refuse c) h l (Err x) h l
 unfolding run
 stops e = took (rw e)
@@ -55,6 +61,11 @@ stops e = took (rw e)
 pub cut : {s : List ℕ} {A B : Type 0} {d : A} {d' : B} {p : Plan A} (f : A → Plan B) {h h' : Head} {l l' : List Row} {x : Halt} {r : Result B Halt}
     → Took s A d p h l (Err x) h' l' → IsErrAnd r (λ y. y ≡ x) → Took s B d' (p then f) h l r h' l'
 cut f e t = passed t (record { gave = bind f e.gave (from-stopped refl) })
+
+-- a step that gives nothing, and is the last
+pub last : {s : List ℕ} {p : Plan Nothing} {h h' : Head} {l l' : List Row} {r : Result Nothing Halt} → Went s p h l r h' l' → Went s (p then λ _. give tt) h l r h' l'
+last {r = Ok v} e = next e gives
+last {r = Err x} e = record { gave = bind (λ _. give tt) e.gave (from-stopped refl) }
 
 -- a step that goes by a test
 pub on_true : {s : List ℕ} {A : Type 0} {d : A} {p : Plan A} (q : Plan A) {b : Bool} {h h' : Head} {l l' : List Row} {r : Result A Halt}

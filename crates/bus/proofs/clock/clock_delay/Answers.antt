@@ -1,10 +1,11 @@
 use Rattle.bus.specs.Clock.{delayed}
+use Rattle.tape.proofs.Took.{refuses, passed}
 use Rattle.bus.proofs.clock.clock_delay.Goals as goal
 
-pub returns-in-Spins : goal.returns-in-Spins
+pub returns-in_err-count : goal.returns-in_err-count
 unfolding delayed
-returns-in-Spins c = λ s. rw (← c.delay-answer.ensures, c.in-Spins.is) (c.write_row.ensures s)
+returns-in_err-count c = λ s. passed c.from_residual.ensures.1 (rw (← c.in_err-count.ensures) refuses)
 
-pub returns-in-Refused : goal.returns-in-Refused
+pub returns : goal.returns
 unfolding delayed
-returns-in-Refused c = λ s. rw (← c.delay-answer.ensures, c.in-Refused.is) (c.refuse.ensures s _)
+returns c = λ s. rw (← c.in_ok-count.ensures) (c.write_row.ensures s)

@@ -1,17 +1,21 @@
 use mathlib.Core.List.{[]}
 use native.Mathlib.Omega.{arith}
 use Rattle.bus.specs.Command.{command}
-use Rattle.tape.proofs.Laws.{seq, dry, looking, on_true, on_false}
+use Rattle.tape.proofs.Took.{next, cut, looks, on_true, on_false, took_none}
 use Rattle.bus.proofs.command.command.Goals as goal
 
+pub returns-in_err-set_clken : goal.returns-in_err-set_clken
+unfolding command
+returns-in_err-set_clken c = λ s part. looks _ (on_true _ c.if-head.true (cut _ (c.in_err-set_clken.ensures s) c.from_residual.ensures.1))
+
 pub command_closing-requires : goal.command_closing-requires
-command_closing-requires c = omega (arith, dry (c.set_clken-open.ensures []))
+command_closing-requires c = omega (arith, took_none (c.in_ok-set_clken.ensures []), c.requires)
 
-pub returns-then-p : goal.returns-then-p
+pub returns-then-head : goal.returns-then-head
 unfolding command
-returns-then-p c = λ s part. looking _ (on_true _ c.if-p.true
-    (seq (c.set_clken-open.ensures s) (c.command_closing.ensures s (record { part = rw (dry (c.set_clken-open.ensures [])) part.part }))))
+returns-then-head c = λ s part. looks _ (on_true _ c.if-head.true
+    (next (c.in_ok-set_clken.ensures s) (c.command_closing.ensures s (record { part = rw (took_none (c.in_ok-set_clken.ensures [])) part.part }))))
 
-pub returns-else-p : goal.returns-else-p
+pub returns : goal.returns
 unfolding command
-returns-else-p c = λ s part. looking _ (on_false _ c.if-p.false (c.command_inner.ensures s part))
+returns c = λ s part. looks _ (on_false _ c.if-head.false (c.command_inner.ensures s part))

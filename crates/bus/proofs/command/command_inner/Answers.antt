@@ -1,24 +1,22 @@
 use mathlib.Core.List.{[]}
-use mathlib.Core.Path.{ap}
 use native.Mathlib.Omega.{arith}
-use Rattle.tape.specs.Pace.{Progress}
 use Rattle.bus.specs.Command.{command_inner}
-use Rattle.tape.proofs.Laws.{seq, dry, read-on, from-stopped, still-going}
+use Rattle.tape.proofs.Took.{next, cut, read_further, took_none}
 use Rattle.bus.proofs.command.command_inner.Goals as goal
 
-pub returns-in_default : goal.returns-in_default
+pub returns-in_err-wait_idle : goal.returns-in_err-wait_idle
 unfolding command_inner
-returns-in_default c = λ s part. from-stopped c.in_default.is
+returns-in_err-wait_idle c = λ s part. cut _ (c.in_err-wait_idle.ensures s _ part) c.from_residual.ensures.1
 
-pub wait_idle-idle-requires : goal.wait_idle-idle-requires
-wait_idle-idle-requires c = omega (arith, ap (λ (x : Progress). x.used) c.resumed-going.ensures, c.requires)
+pub returns-in_err-issue : goal.returns-in_err-issue
+unfolding command_inner
+returns-in_err-issue c = λ s part. rw (← c.form-form.ensures)
+    (next (c.in_ok-wait_idle.ensures s _ part) (cut _ (c.in_err-issue.ensures s) c.from_residual-in_err-issue.ensures.1))
 
 pub complete-requires : goal.complete-requires
-complete-requires c = let same = ap (λ (x : Progress). x.used) c.resumed-going.ensures in
-    omega (arith, same, read-on c.wait_idle-idle.ensures, dry (c.issue-issued.ensures []))
+complete-requires c = omega (arith, read_further c.in_ok-wait_idle.ensures, took_none (c.in_ok-issue.ensures []), c.requires)
 
 pub returns : goal.returns
 unfolding command_inner
-returns c = let going = still-going c.in-Going.is c.resumed-going.ensures in
-    λ s part. rw c.form-form.ensures at
-    (seq (rw going at (c.wait_idle-idle.ensures s) _ part) (seq (c.issue-issued.ensures s) (c.complete.ensures s _ part)))
+returns c = λ s part. rw (← c.form-form.ensures)
+    (next (c.in_ok-wait_idle.ensures s _ part) (next (c.in_ok-issue.ensures s) (c.complete.ensures s _ part)))

@@ -1,21 +1,33 @@
 use mathlib.Core.List.{[]}
 use native.Mathlib.Omega.{arith}
 use Rattle.bus.specs.Command.{answer}
-use Rattle.tape.proofs.Laws.{bind, seq, dry, read-on, on_true, on_false}
+use Rattle.tape.proofs.Took.{gives, next, carry, cut, on_true, on_false, read_further}
 use Rattle.bus.proofs.command.take_answer.Goals as goal
 
 pub returns-then-form : goal.returns-then-form
 unfolding answer
-returns-then-form c = λ s l part. on_true _ c.if-form.true (c.give_words.ensures s l)
+returns-then-form c = λ s l part. on_true _ c.if-form.true gives
 
-pub check_echo-echoed-requires : goal.check_echo-echoed-requires
-check_echo-echoed-requires c = omega (arith, dry (c.ensure-sound.ensures [] []))
+pub returns-in_err-ensure : goal.returns-in_err-ensure
+unfolding answer
+returns-in_err-ensure c = λ s l part. on_false _ c.if-form.false (cut _ (c.in_err-ensure.ensures s _ l) c.from_residual.ensures.1)
 
-pub take_words-taken-requires : goal.take_words-taken-requires
-take_words-taken-requires c = omega (arith, dry (c.ensure-sound.ensures [] []), read-on c.check_echo-echoed.ensures)
+pub returns-in_err-check_echo : goal.returns-in_err-check_echo
+unfolding answer
+returns-in_err-check_echo c = λ s l part. on_false _ c.if-form.false
+    (next (c.in_ok-ensure.ensures s _ l) (cut _ (c.in_err-check_echo.ensures s l part) c.from_residual-in_err-check_echo.ensures.1))
+
+pub take_words-requires : goal.take_words-requires
+take_words-requires c = omega (arith, read_further c.in_ok-check_echo.ensures, c.requires)
+
+pub returns-in_err-words : goal.returns-in_err-words
+unfolding answer
+returns-in_err-words c = λ s l part. on_false _ c.if-form.false
+    (next (c.in_ok-ensure.ensures s _ l)
+    (next (c.in_ok-check_echo.ensures s l part) (cut _ (c.in_err-words.ensures s l part) c.from_residual-in_err-words.ensures.1)))
 
 pub returns : goal.returns
 unfolding answer
 returns c = λ s l part. on_false _ c.if-form.false
-    (seq (c.ensure-sound.ensures s l)
-    (seq (c.check_echo-echoed.ensures s l part) (bind _ (c.take_words-taken.ensures s l part) (c.judge.ensures s l))))
+    (next (c.in_ok-ensure.ensures s _ l)
+    (next (c.in_ok-check_echo.ensures s l part) (carry _ (c.in_ok-words.ensures s l part) (c.judge.ensures s _ l))))

@@ -20,6 +20,7 @@ use Rattle.tape.specs.Steps.{word}
 use Rattle.tape.proofs.Behind.{long, at_place, in_place, out-of-place, further}
 use Rattle.tape.proofs.Laws.{bind, refusal, from-going, from-stopped}
 use Rattle.tape.proofs.Loops.{Turned, last_turn, out-of-turns}
+use Rattle.tape.proofs.Took.{refuses}
 use Rattle.tape.proofs.Polls.{on, counted-within, leads-within, leads, leads-to, skipped, reads}
 use Rattle.bus.specs.Command.{poll_completion, wait_completion}
 use Rattle.bus.proofs.command.wait_completion.Goals as goal
@@ -88,26 +89,18 @@ module _ (mask limit : ℕ) {left s : List ℕ} {p q : Progress} {n : ℕ} (goin
       → Gave s ℕ 0 (until limit (λ w. not (clear mask w)) poll_completion) (at p l) 0 (at r l)
   spent out e = out-of-turns turns out (refusal e)
 
-pub returns-in_default : goal.returns-in_default
-unfolding wait_completion
-returns-in_default c = λ s l part. from-stopped c.in_default.is
-
-pub moved-polled-requires : goal.moved-polled-requires
-moved-polled-requires c = let part = long c.rest-left.ensures.part in
+pub overflow_add-head : goal.overflow_add-head
+overflow_add-head c = let part = long c.rest-left.ensures.part in
     omega (arith, counted-within _ c.args.limit c.rest-left.result.now c.quiet-waiting.ensures, part, c.requires, c.well_formed)
-
-pub poll_completion-requires : goal.poll_completion-requires
-poll_completion-requires c = let used = ap (λ (x : Progress). x.used) c.moved-polled.ensures in
-    (omega (arith, used, c.requires.0), c.requires.1)
 
 pub returns-then-waiting-limit : goal.returns-then-waiting-limit
 unfolding wait_completion
-returns-then-waiting-limit c = λ s l part.
-    found _ c.args.limit c.in-Going.is (further part c.requires.0 c.rest-left.ensures.part)
-    c.quiet-waiting.ensures c.moved-polled.ensures c.if-waiting-limit.true (c.poll_completion.ensures s l part)
+returns-then-waiting-limit c = λ s l part. record {
+    gave = found _ c.args.limit refl (further part c.requires.0 c.rest-left.ensures.part) c.quiet-waiting.ensures refl c.if-waiting-limit.true (c.poll_completion.ensures s l part).gave
+  }
 
 pub returns : goal.returns
 unfolding wait_completion
-returns c = λ s l part.
-    spent _ c.args.limit c.in-Going.is (further part c.requires.0 c.rest-left.ensures.part)
-    c.quiet-waiting.ensures c.moved-polled.ensures c.if-waiting-limit.false (c.refuse.ensures s l)
+returns c = λ s l part. record {
+    gave = spent _ c.args.limit refl (further part c.requires.0 c.rest-left.ensures.part) c.quiet-waiting.ensures refl c.if-waiting-limit.false refuses.gave
+  }

@@ -1,14 +1,11 @@
-use mathlib.Core.Path.{sym, ◌∙◌}
+use Rattle.tape.proofs.Took.{gives, refuses, passed}
 use Rattle.bus.specs.Transfer.{clean}
-use Rattle.tape.proofs.Laws.{stay}
 use Rattle.bus.proofs.poll.clean.Goals as goal
 
-pub returns-in-Ok : goal.returns-in-Ok
+pub returns-in_err-data_error : goal.returns-in_err-data_error
 unfolding clean
-returns-in-Ok c = let says = sym c.data_error-answer.ensures ∙ c.in-Ok.is in
-    λ s l. rw says stay
+returns-in_err-data_error c = λ s h l. passed c.from_residual.ensures.1 (rw (← c.in_err-data_error.ensures) refuses)
 
-pub returns-in-Err : goal.returns-in-Err
+pub returns : goal.returns
 unfolding clean
-returns-in-Err c = let says = sym c.data_error-answer.ensures ∙ c.in-Err.is in
-    λ s l. rw says (c.refuse.ensures s l)
+returns c = λ s h l. rw (← c.in_ok-data_error.ensures) gives

@@ -1,19 +1,16 @@
-use Prim.Native.Nat.{ℕ}
-use mathlib.Core.List.{[]}
-use native.Mathlib.Omega.{arith}
 use Rattle.tape.specs.declared.script.Reading.TheVariants as Reading
-use Rattle.tape.specs.Run.{at, Gave}
-use Rattle.tape.specs.Steps.{word}
 use Rattle.bus.specs.Transfer.{drained}
-use Rattle.tape.proofs.Laws.{bind, seq, dry}
+use Rattle.tape.proofs.Took.{carry, cut, next}
 use Rattle.bus.proofs.poll.drained.Goals as goal
 
-pub read_word-count-requires : goal.read_word-count-requires
-read_word-count-requires c = omega (arith, dry (c.ensure-moved.ensures [] []))
+pub returns-in_err-ensure : goal.returns-in_err-ensure
+unfolding drained
+returns-in_err-ensure c = λ s l part. cut _ (c.in_err-ensure.ensures s _ l) c.from_residual.ensures.1
+
+pub returns-in_err-count : goal.returns-in_err-count
+unfolding drained
+returns-in_err-count c = λ s l part. next (c.in_ok-ensure.ensures s _ l) (cut _ (c.in_err-count.ensures Reading.DCount s l part) c.from_residual-in_err-count.ensures.1)
 
 pub returns : goal.returns
 unfolding drained
-returns c = λ s l part.
-    -- DCOUNT is read from where no word remains
-    let read : Gave s ℕ 0 (word Reading.DCount) (at c.ensure-moved.result l) c.read_word-count.result.word (at c.read_word-count.result.progress l) = c.read_word-count.ensures Reading.DCount s l part in
-    seq (c.ensure-moved.ensures s l) (bind _ read (c.ensure.ensures s l))
+returns c = λ s l part. next (c.in_ok-ensure.ensures s _ l) (carry _ (c.in_ok-count.ensures Reading.DCount s l part) (c.ensure-2.ensures s _ l))

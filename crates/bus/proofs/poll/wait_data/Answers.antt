@@ -1,40 +1,33 @@
-use mathlib.Core.Path.{sym, ◌∙◌}
 use native.Mathlib.Omega.{arith}
+use mathlib.Core.Path.{refl}
+use Rattle.tape.specs.Plan.{give}
 use Rattle.bus.specs.Transfer.{wait_data}
-use Rattle.tape.proofs.Behind.{further, long}
-use Rattle.tape.proofs.Laws.{refusal, forget}
-use Rattle.tape.proofs.Loops.{no_turn, next-turn, last_turn, out-of-turns, turned_on}
+use Rattle.tape.proofs.Behind.{long, further}
+use Rattle.tape.proofs.Took.{gives, carry, cut}
+use Rattle.tape.proofs.Tries.{none_tried, tried_on, enough-now, stopped-now, once-more, spent}
 use Rattle.bus.proofs.poll.wait_data.Goals as goal
 
-pub loop-i-init : goal.loop-i-init
-loop-i-init c = λ s l part. no_turn
+pub loop-init : goal.loop-init
+loop-init c = λ s rows part. none_tried
 
 -- words are only ever taken, so what is left of what is left is what is left of the script
-pub overflow_sub-q : goal.overflow_sub-q
-overflow_sub-q c = omega (arith, turned_on c.loop-i.invariant)
+pub overflow_sub-head : goal.overflow_sub-head
+overflow_sub-head c = omega (arith, tried_on c.loop.invariant)
 
-pub data_complete-poll-requires : goal.data_complete-poll-requires
-data_complete-poll-requires c = omega (arith, turned_on c.loop-i.invariant, long c.rest-left.ensures.part)
-
-pub returns-then-over : goal.returns-then-over
+pub returns-in_err-data_complete : goal.returns-in_err-data_complete
 unfolding wait_data
-returns-then-over c = let inv = c.loop-i.invariant in
-    λ s l part. forget
-    (last_turn (inv s l part) c.loop-i-test.true (c.data_complete-poll.ensures s l (further part (turned_on inv) c.rest-left.ensures.part))
-    (sym c.over.ensures ∙ c.if-over.true))
+returns-in_err-data_complete c = let inv = c.loop.invariant in
+    λ s l part. cut _ (stopped-now (inv s l part) c.loop-test.true (c.in_err-data_complete.ensures s l (further part (tried_on inv) c.rest-left.ensures.part))) c.from_residual.ensures.1
 
-pub loop-i-preserved : goal.loop-i-preserved
-loop-i-preserved c = let inv = c.loop-i.invariant in
-    λ s l part.
-    next-turn (inv s l part) c.loop-i-test.true (c.data_complete-poll.ensures s l (further part (turned_on inv) c.rest-left.ensures.part))
-    (sym c.over.ensures ∙ c.if-over.false)
+pub returns-then-branch : goal.returns-then-branch
+unfolding wait_data
+returns-then-branch c = let inv = c.loop.invariant in
+    λ s l part. carry (λ _. give tt) (enough-now (inv s l part) c.loop-test.true (c.in_ok-data_complete.ensures s l (further part (tried_on inv) c.rest-left.ensures.part)) c.if-branch.true) gives
+
+pub loop-preserved : goal.loop-preserved
+loop-preserved c = let inv = c.loop.invariant in
+    λ s l part. once-more (inv s l part) c.loop-test.true (c.in_ok-data_complete.ensures s l (further part (tried_on inv) c.rest-left.ensures.part)) c.if-branch.false
 
 pub returns : goal.returns
 unfolding wait_data
-returns c = λ s l part. forget (out-of-turns (c.loop-i.invariant s l part) c.loop-i-test.false (refusal (c.refuse.ensures s l)))
-
-pub overflow_add-i : goal.overflow_add-i
-overflow_add-i c = omega arith
-
-pub loop-i-smaller : goal.loop-i-smaller
-loop-i-smaller c = omega arith
+returns c = λ s l part. cut _ (spent (c.loop.invariant s l part) c.loop-test.false) refl

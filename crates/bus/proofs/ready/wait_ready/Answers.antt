@@ -1,31 +1,24 @@
-use mathlib.Core.Path.{refl, sym, ◌∙◌}
-use native.Mathlib.Omega.{arith}
+use mathlib.Core.Path.{refl}
+use Rattle.tape.specs.Plan.{give}
+use Rattle.tape.proofs.Took.{gives, carry, cut}
+use Rattle.tape.proofs.Tries.{none_tried, enough-now, stopped-now, once-more, spent}
 use Rattle.bus.specs.Ready.{wait_ready}
-use Rattle.tape.proofs.Laws.{refusal, forget, not-over, still-going}
-use Rattle.tape.proofs.Loops.{no_turn, next-turn, last_turn, out-of-turns}
-use borrow.Author.Rules.{rules}
 use Rattle.bus.proofs.ready.wait_ready.Goals as goal
 
-pub loop-i-init : goal.loop-i-init
-loop-i-init c = record { room = refl; turned = no_turn }
+pub loop-init : goal.loop-init
+loop-init c = none_tried
 
-pub returns-then-over : goal.returns-then-over
+pub returns-in_err-try_ready : goal.returns-in_err-try_ready
 unfolding wait_ready
-returns-then-over c = forget (last_turn c.loop-i.invariant.turned c.loop-i-test.true c.try_ready-tried.ensures (sym c.over.ensures ∙ c.if-over.true))
+returns-in_err-try_ready c = cut _ (stopped-now c.loop.invariant c.loop-test.true c.in_err-try_ready.ensures) c.from_residual.ensures.1
 
-pub loop-i-preserved : goal.loop-i-preserved
-loop-i-preserved c = let on = sym c.over.ensures ∙ c.if-over.false in
-    record {
-      room = search rules;
-      turned = rw (still-going (not-over _ _ on) c.resumed-q.ensures) (next-turn c.loop-i.invariant.turned c.loop-i-test.true c.try_ready-tried.ensures on);
-    }
+pub returns-then-branch : goal.returns-then-branch
+unfolding wait_ready
+returns-then-branch c = carry (λ _. give tt) (enough-now c.loop.invariant c.loop-test.true c.in_ok-try_ready.ensures c.if-branch.true) gives
+
+pub loop-preserved : goal.loop-preserved
+loop-preserved c = once-more c.loop.invariant c.loop-test.true c.in_ok-try_ready.ensures c.if-branch.false
 
 pub returns : goal.returns
 unfolding wait_ready
-returns c = forget (out-of-turns c.loop-i.invariant.turned c.loop-i-test.false (refusal (c.refuse.ensures _ _)))
-
-pub overflow_add-i : goal.overflow_add-i
-overflow_add-i c = omega (arith, c.well_formed.1.1.1.1.0)
-
-pub loop-i-smaller : goal.loop-i-smaller
-loop-i-smaller c = omega arith
+returns c = cut _ (spent c.loop.invariant c.loop-test.false) refl

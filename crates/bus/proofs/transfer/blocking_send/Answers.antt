@@ -1,11 +1,12 @@
-use Rattle.tape.specs.Steps.{reset_controller}
 use Rattle.bus.specs.Transfer.{transfer_data, blocking_data}
-use Rattle.tape.proofs.Laws.{guarded, from-stopped}
+use Rattle.tape.specs.Steps.{reset_controller}
+use Rattle.tape.proofs.Took.{guards-value, guards-halt}
 use Rattle.bus.proofs.transfer.blocking_send.Goals as goal
 
-pub returns-in-Going : goal.returns-in-Going
+pub returns-in-Ok : goal.returns-in-Ok
 unfolding blocking_data
-returns-in-Going c = guarded {p = transfer_data _ _ _ _ _} reset_controller c.in-Going.is c.send_data-sent.ensures (c.close.ensures _)
+returns-in-Ok c = guards-value {p = transfer_data _ _ _ _ _} reset_controller c.in-Ok.ensures
 
-pub returns-in-Stopped : goal.returns-in-Stopped
-returns-in-Stopped c = from-stopped c.in-Stopped.is
+pub returns-in-Err : goal.returns-in-Err
+unfolding blocking_data
+returns-in-Err c = guards-halt {p = transfer_data _ _ _ _ _} reset_controller c.in-Err.ensures (c.close.ensures _)

@@ -1,8 +1,20 @@
-use Rattle.bus.specs.Transfer.{receive, landed, end_data, transfer_data}
-use Rattle.tape.proofs.Laws.{bind, seq, stay}
+use mathlib.Core.List.{[]}
+use mathlib.Core.Path.{refl}
+use Rattle.bus.specs.Transfer.{receive, landed, transfer_data}
+use Rattle.tape.proofs.Took.{gives, next, carry, cut}
+use Rattle.bus.proofs.Sent.{sent, passed-sent}
 use Rattle.bus.proofs.transfer.send_data.Goals as goal
+
+pub returns-in_err-start_sending : goal.returns-in_err-start_sending
+unfolding transfer_data
+returns-in_err-start_sending c = cut _ c.in_err-start_sending.ensures (passed-sent c.from_residual.result _ c.from_residual.ensures.1)
+
+pub returns-in_err-wait_data : goal.returns-in_err-wait_data
+unfolding transfer_data receive landed
+returns-in_err-wait_data c = next c.in_ok-start_sending.ensures
+    (cut {d = []} _ (cut _ (c.in_err-wait_data.ensures _ _ c.rest-rest.ensures.part) refl) (passed-sent c.from_residual-in_err-wait_data.result _ c.from_residual-in_err-wait_data.ensures.1))
 
 pub returns : goal.returns
 unfolding transfer_data receive landed
-returns c = seq c.start_sending-sent.ensures
-    (bind _ (seq (c.wait_data-done.ensures _ _ c.rest-rest.ensures.part) stay) (seq {p = end_data _ _ _ _} c.end_data.ensures stay))
+returns c = next c.in_ok-start_sending.ensures
+    (carry {d = []} _ (next (c.in_ok-wait_data.ensures _ _ c.rest-rest.ensures.part) gives) (sent c.end_data.ensures))
