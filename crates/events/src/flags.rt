@@ -5,7 +5,7 @@ ghost use Rattle.events.specs.Meaning.{says, flags, flag_at, joint, none_left, f
 
 use tape::script::Sta;
 use text::pen;
-use types::status::DataAnswer;
+use types::status::DataFault;
 
 #[derive(Clone, Copy)]
 pub struct Flags {}

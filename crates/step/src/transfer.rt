@@ -27,7 +27,6 @@ use tape::rows::Row;
 use tape::script::{Dma, Reading, Sta};
 use types::error::Error;
 use types::status;
-use types::status::DataAnswer;
 
 // Its readings, with how many polls are left after this one, or how many data words.
 #[derive(Clone, Copy)]

@@ -24,9 +24,9 @@ use init::{begin, identify, speed};
 use step::command::Words;
 use step::reset::ResetStep;
 use step::why::Why;
-use types::clock::{ClockAnswer, Hertz, clock_setting};
+use types::clock::{Clock, Hertz, clock_setting};
 use types::error::{Error, Field};
-use types::register::{CountAnswer, RateAnswer, transfer_rate};
+use types::register::transfer_rate;
 use types::status::{CardStatus, Scr};
 use types::{register, words};
 

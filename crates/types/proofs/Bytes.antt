@@ -1,11 +1,12 @@
 -- Words laid over bytes, one after the other.
 use Prim.Native.Nat.{ℕ, ◌+◌, ◌*◌, ◌<◌, ◌≤◌}
-use mathlib.Core.List.{List, [], ◌∷◌, ◌++◌}
+use mathlib.Core.List.{List, [], ◌∷◌, ◌++◌, append_assoc}
 use mathlib.Core.Path.{◌≡◌, refl, ap, sym, ◌∙◌}
 use native.Mathlib.Numerals.{add-one}
 use native.Mathlib.Omega.{arith}
 use lib.ListN.{length, get_or, take, drop, length-append, length-take, length-drop}
-use lib.Seq.{take-suc, sets, sets-eq, take_at, drop-append-add, drop-drop}
+use lib.Seq.{take-suc, take_at, drop-append-add, drop-drop}
+use borrow.Rule.Slice.PartMut.{put_mid}
 use Rattle.types.specs.Words.{bytes4, bytes_of}
 
 pub bytes-append : (xs ys : List ℕ) → bytes_of (xs ++ ys) ≡ bytes_of xs ++ bytes_of ys
@@ -41,10 +42,11 @@ module _ (words bytes : List ℕ) (i : ℕ) (word : i < length words) (room : 4 
       ∙ drop-drop 4 (4 * i) bytes
       ∙ ap (λ (n : ℕ). drop n bytes) place
 
-  -- the four stores of a turn
-  pub one_more : sets (laid words bytes i) (4 * i) (bytes4 (get_or words i 0)) ≡ laid words bytes (i + 1)
-  one_more =
-      sets-eq (bytes4 (get_or words i 0)) (laid words bytes i) (4 * i) (rw laid-length room)
-      ∙ ap (λ (l : List ℕ). l ++ bytes4 (get_or words i 0) ++ drop (4 * i + 4) (laid words bytes i)) (take_at (bytes_of (take i words)) (drop (4 * i) bytes) (4 * i) front)
-      ∙ ap (λ (l : List ℕ). bytes_of (take i words) ++ bytes4 (get_or words i 0) ++ l) rest
-      ∙ ap (λ (l : List ℕ). l ++ drop (4 * (i + 1)) bytes) (sym more)
+  -- the four bytes of a turn, written over what stood there
+  pub one_more : (k : ℕ) (ys : List ℕ) → k ≡ 4 → ys ≡ bytes4 (get_or words i 0) → put_mid (4 * i) k (laid words bytes i) ys ≡ laid words bytes (i + 1)
+  one_more k ys e same =
+      rw (e, same)
+      (sym (append_assoc (take (4 * i) (laid words bytes i)) (bytes4 (get_or words i 0)) (drop 4 (drop (4 * i) (laid words bytes i))))
+      ∙ ap (λ (l : List ℕ). l ++ bytes4 (get_or words i 0) ++ drop 4 (drop (4 * i) (laid words bytes i))) (take_at (bytes_of (take i words)) (drop (4 * i) bytes) (4 * i) front)
+      ∙ ap (λ (l : List ℕ). bytes_of (take i words) ++ bytes4 (get_or words i 0) ++ l) (drop-drop 4 (4 * i) (laid words bytes i) ∙ rest)
+      ∙ ap (λ (l : List ℕ). l ++ drop (4 * (i + 1)) bytes) (sym more))

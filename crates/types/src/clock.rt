@@ -56,17 +56,13 @@ fn quotient(number: u32, divisor: u32) -> u32
 {
     let place = (divisor as u64) << 32;
     let mut both = number as u64;
-    let mut left: u32 = 32;
-    loop {
+    for _ in 0..32u32 {
         both = both + both;
         if place <= both {
             both = both - place + 1;
         }
-        left -= 1;
-        if left == 0 {
-            return (both & 0xffff_ffff) as u32;
-        }
     }
+    (both & 0xffff_ffff) as u32
 }
 
 // Whether the source itself may be the clock.

@@ -5,32 +5,20 @@ ghost use Rattle.types.specs.Words.{word4, filled, bytes_of, turned, sd_status_o
 use crate::register::Wide;
 use crate::status::Scr;
 
-fn least(a: usize, b: usize) -> usize
-    ensures { result ≡ min a b }
-{
-    if a < b { a } else { b }
-}
-
 // Four bytes as a word, the lowest first.
 pub fn little(a: u8, b: u8, c: u8, d: u8) -> u32
     ensures { result ≡ word4 a b c d }
 {
-    a as u32 + b as u32 * 0x100 + c as u32 * 0x1_0000 + d as u32 * 0x100_0000
+    u32::from_le_bytes([a, b, c, d])
 }
 
 // Lays words over the start of the bytes, the lowest byte first, as far as whole words go; the other bytes stay.
 pub fn fill(bytes: &mut [u8], words: &[u32])
     ensures { bytes.new ≡ filled words.now bytes.old }
 {
-    let n = least(words.len(), bytes.len() / 4);
-    let mut i = 0;
-    while i < n {
-        let word = words[i];
-        bytes[4 * i] = (word % 256) as u8;
-        bytes[4 * i + 1] = (word / 0x100 % 256) as u8;
-        bytes[4 * i + 2] = (word / 0x1_0000 % 256) as u8;
-        bytes[4 * i + 3] = (word / 0x100_0000 % 256) as u8;
-        i = i + 1;
+    let n = words.len().min(bytes.len() / 4);
+    for i in 0..n {
+        bytes[4 * i..4 * i + 4].copy_from_slice(&words[i].to_le_bytes());
     }
 }
 
@@ -47,22 +35,15 @@ pub fn status_bytes(words: [u32; 16]) -> [u8; 64]
 pub fn from_be(word: u32) -> u32
     ensures { result ≡ turned word }
 {
-    word % 256 * 0x100_0000
-        + word / 0x100 % 256 * 0x1_0000
-        + word / 0x1_0000 % 256 * 0x100
-        + word / 0x100_0000 % 256
+    word.swap_bytes()
 }
 
 // The SD status of the sixteen words of its data transfer: the last word first, each with its bytes turned round.
 pub fn sd_status(words: [u32; 16]) -> [u32; 16]
     ensures { result ≡ sd_status_of words }
 {
-    let mut status = [0u32; 16];
-    let mut i = 0;
-    while i < 16 {
-        status[i] = from_be(words[15 - i]);
-        i = i + 1;
-    }
+    let mut status = words.map(from_be);
+    status.reverse();
     status
 }
 

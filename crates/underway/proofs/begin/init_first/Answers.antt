@@ -12,10 +12,10 @@ pub returns-then-frequency-gt-MOST : goal.returns-then-frequency-gt-MOST
 unfolding first_plan init_call init_at
 returns-then-frequency-gt-MOST c = λ sent. rw (ne_eqb _ _ c.if-frequency-eq0.false, lt-ltb 50_000_000 _ c.if-frequency-gt-MOST.true) refl
 
-pub returns-in-Set : goal.returns-in-Set
+pub returns-in-Ok : goal.returns-in-Ok
 unfolding first_plan init_call init_at
-returns-in-Set c = λ sent. rw (ne_eqb _ _ c.if-frequency-eq0.false, le-ltb _ _ c.if-frequency-gt-MOST.false, sym c.clock_setting-answer.ensures ∙ c.in-Set.is) refl
+returns-in-Ok c = λ sent. rw (ne_eqb _ _ c.if-frequency-eq0.false, le-ltb _ _ c.if-frequency-gt-MOST.false, sym c.clock_setting-answer.ensures ∙ c.in-Ok.is) refl
 
-pub returns-in-Refused : goal.returns-in-Refused
+pub returns-in-Err : goal.returns-in-Err
 unfolding first_plan init_call init_at
-returns-in-Refused c = λ sent. rw (ne_eqb _ _ c.if-frequency-eq0.false, le-ltb _ _ c.if-frequency-gt-MOST.false, sym c.clock_setting-answer.ensures ∙ c.in-Refused.is) refl
+returns-in-Err c = λ sent. rw (ne_eqb _ _ c.if-frequency-eq0.false, le-ltb _ _ c.if-frequency-gt-MOST.false, sym c.clock_setting-answer.ensures ∙ c.in-Err.is) refl

@@ -3,9 +3,9 @@ use Rattle.step.specs.Transfer.{data_plan}
 use Rattle.step.proofs.Phases as P
 use Rattle.step.proofs.ready.Bus.opens.Goals as goal
 
-pub returns-in-Clean : goal.returns-in-Clean
+pub returns-in-Ok : goal.returns-in-Ok
 unfolding data_plan
-returns-in-Clean c = λ ws h. P.first-clean c.args.self c.args.phase h ws _ _ (sym c.data_error-answer.ensures ∙ c.in-Clean.is)
+returns-in-Ok c = λ ws h. P.first-clean c.args.self c.args.phase h ws _ _ (sym c.data_error-answer.ensures ∙ c.in-Ok.is)
 
-pub returns-in-Failed : goal.returns-in-Failed
-returns-in-Failed c = λ ws h. c.refuses.ensures ws h ∙ P.first-bad c.args.self c.args.phase h ws _ _ _ (sym c.data_error-answer.ensures ∙ c.in-Failed.is)
+pub returns-in-Err : goal.returns-in-Err
+returns-in-Err c = λ ws h. c.refuses.ensures ws h ∙ P.first-bad c.args.self c.args.phase h ws _ _ _ (sym c.data_error-answer.ensures ∙ c.in-Err.is)
