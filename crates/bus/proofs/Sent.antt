@@ -1,8 +1,8 @@
 -- A write gives no words: what its answers are to the plan of a data phase.
 use Prim.Native.Nat.{ℕ}
 use mathlib.Core.List.{List, []}
-use mathlib.Core.Path.{◌≡◌, refl}
-use Rattle.std.specs.Prelude.{Result, Ok, Err, IsErrAnd}
+use mathlib.Core.Path.{refl}
+use Rattle.std.specs.Prelude.{Result, Ok, Err}
 use Rattle.tape.specs.declared.progress.Halt.{Halt}
 use Rattle.tape.specs.declared.progress.Head.{Head}
 use Rattle.tape.specs.declared.rows.Row.{Row}
@@ -11,10 +11,6 @@ use Rattle.tape.specs.Run.{Took, Went}
 use Rattle.tape.proofs.Laws.{bind, from-stopped}
 use Rattle.tape.proofs.Took.{gives, next}
 use Rattle.bus.specs.Transfer.{sent_in}
-
-pub passed-sent : (r : Result Nothing Halt) (x : Halt) → IsErrAnd r (λ y. y ≡ x) → IsErrAnd (sent_in r) (λ y. y ≡ x)
-passed-sent (Ok v) x t = absurd t
-passed-sent (Err y) x t = t
 
 pub sent : {s : List ℕ} {p : Plan Nothing} {h h' : Head} {l l' : List Row} {r : Result Nothing Halt}
     → Went s p h l r h' l' → Took s (List ℕ) [] (p then λ _. give []) h l (sent_in r) h' l'

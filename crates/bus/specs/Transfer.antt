@@ -8,6 +8,7 @@ use Rattle.types.specs.Leaf.{data_of}
 use Rattle.tape.specs.declared.script.Reading.TheVariants as Reading
 use Rattle.tape.specs.Plan.{Nothing, Plan, give, look, ◌then◌, guard, fail, ensure, until}
 use Rattle.tape.specs.declared.progress.Halt.{Halt}
+use Rattle.tape.specs.Run.{seen_as}
 use Rattle.tape.specs.Rows.{DTIMER, DLEN, DCTRL, DCTRL2, dctrl_of}
 use Rattle.tape.specs.Steps.{word, row, data_words, send_words, wait_idle, reset_controller, stop_data, set_clken}
 use Rattle.bus.specs.declared.poll.Poll.{Poll}
@@ -140,5 +141,4 @@ blocking_data source config buffer transfer rca = guard reset_controller (transf
 
 -- what the answer of a write is to that plan: it gives no words
 abbrev pub sent_in : Result Nothing Halt → Result (List ℕ) Halt
-sent_in (Ok v) = Ok []
-sent_in (Err x) = Err x
+sent_in r = seen_as (λ (v : Nothing). []) r

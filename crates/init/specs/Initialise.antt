@@ -11,10 +11,13 @@ use Rattle.types.specs.declared.error.Error.{Error}
 use Rattle.types.specs.declared.error.Error.TheVariants as E
 use Rattle.types.specs.declared.error.Field.TheVariants.{CsdAndOcr, Voltage}
 use Rattle.types.specs.declared.register.BlockCount.{BlockCount}
+use Rattle.types.specs.declared.status.Scr.{Scr}
 use Rattle.types.specs.Bits.{bits, clear}
 use Rattle.types.specs.Leaf.{clock_of, count_of, rate_of, protection_of}
 use Rattle.types.specs.Sd.{wide_of, tran_speed, sd_spec, one_line, four_lines}
 use Rattle.types.specs.Words.{bytes_of, halves_of, scr_of}
+use Rattle.tape.specs.declared.progress.Halt.{Halt}
+use Rattle.tape.specs.Run.{seen_as}
 use Rattle.tape.specs.Plan.{Nothing, Cause, failed, ended, Plan, give, refuse, look, handle, ◌then◌, guard, fail, ensure, until}
 use Rattle.tape.specs.Rows.{POWER}
 use Rattle.tape.specs.Steps.{row, hold_gated, hold_clock, hold_signalling, reset_controller, set_clken}
@@ -187,6 +190,10 @@ read_scr set card =
     then λ _. app_command (limit_of set) card.rca
     then λ _. blocking_data (source_of set) set.config incoming scr_transfer card.rca
     then λ ws. give (scr_of (get_or ws 0 0) (get_or ws 1 0))
+
+-- an SCR as the number that it is
+abbrev pub scr_in : Result Scr Halt → Result ℕ Halt
+scr_in r = seen_as (λ (scr : Scr). scr.0) r
 
 -- ACMD6; a card without one line, or without four where four are connected, gives 14
 unfoldable pub set_width : Settings → ℕ → ℕ → Plan Nothing

@@ -1,14 +1,14 @@
 // The first steps of an initialisation: power, CMD0, CMD8.
 ghost use Rattle.std.specs.Prelude.{◌≡◌, List, Bool, false, ℕ};
 ghost use Rattle.tape.specs.Layout.{rows_in};
-ghost use Rattle.tape.specs.Run.{at, Did, Gave, Settled};
-ghost use Rattle.bus.specs.Command.{first_of};
+ghost use Rattle.tape.specs.Run.{left_at, value_of, Settled, Took, Went};
+ghost use Rattle.bus.specs.Command.{first_of, zeros};
 ghost use Rattle.init.specs.Initialise.{version, timed_out, late, card_version, power_on, begin_init};
 
 use crate::settings::Settings;
-use bus::response::{Response, Words};
+use bus::response::Response;
 use bus::{clock, command};
-use tape::progress::{Flag, Halt, Pace, Progress};
+use tape::progress::{Halt, Head};
 use tape::rows::Row;
 use tape::{progress, rows, steps};
 use types::clock::Clock;
@@ -26,21 +26,17 @@ impl Interface {
 }
 
 // Whether the first word of an answer to CMD8 is that of a card of version 2; refuses where it is no known card's.
-fn version(p: Progress, word: u32) -> Flag
-    ensures { (s : List ℕ) (l : List Row) → Gave s Bool false (version word) (at p l) result.flag (at result.progress l) }
+fn version(word: u32) -> Result<bool, Halt>
+    ensures { (s : List ℕ) (h : Head) (l : List Row) → Took s Bool false (version word) h l result h l }
 {
     if word == Interface::CONDITION {
-        progress::give_flag(p, true)
-    } else {
-        Flag {
-            progress: progress::ensure(
-                p,
-                word & CardStatus::ERRORS == Interface::ILLEGAL,
-                Error::UnsupportedCardVersion,
-            ),
-            flag: false,
-        }
+        return Ok(true);
     }
+    progress::ensure(
+        word & CardStatus::ERRORS == Interface::ILLEGAL,
+        Error::UnsupportedCardVersion,
+    )?;
+    Ok(false)
 }
 
 // Whether no answer came in time: Timeout, and no other error.
@@ -54,97 +50,63 @@ pub fn timed_out(e: Error) -> bool
 }
 
 // What an answer to CMD8 says: no answer in time is that of a card of version 1.
-fn judge_version(a: Words) -> Flag
-    ensures { (s : List ℕ) (l : List Row) → Settled s (List ℕ) Bool false (λ ws. version (first_of ws)) late a.words (at a.progress l) result.flag (at result.progress l) }
+fn judge_version(answer: Result<[u32; 4], Halt>) -> Result<bool, Halt>
+    ensures { (s : List ℕ) (h : Head) (l : List Row) → Settled s (List ℕ) Bool false (λ ws. version (first_of ws)) late (value_of zeros answer) (left_at answer h l) (value_of false result) (left_at result h l) }
 {
-    let p = a.progress;
-    let word = a.words[0];
-    let pace = p.pace;
-    match pace {
-        Pace::Going => version(p, word),
-        Pace::Stopped(halt) => match halt {
+    match answer {
+        Ok(words) => version(words[0]),
+        Err(halt) => match halt {
             Halt::Refused(e) => {
                 if timed_out(e) {
-                    Flag {
-                        progress: p.resumed(),
-                        flag: false,
-                    }
+                    Ok(false)
                 } else {
-                    Flag {
-                        progress: p,
-                        flag: false,
-                    }
+                    Err(halt)
                 }
             }
-            Halt::ScriptEnded => Flag {
-                progress: p,
-                flag: false,
-            },
-            Halt::TraceFull => Flag {
-                progress: p,
-                flag: false,
-            },
+            Halt::ScriptEnded => Err(halt),
+            Halt::TraceFull => Err(halt),
         },
     }
 }
 
 // Whether the card is of version 2.
-fn card_version(p: Progress, script: &[u32], rows: &mut [u64], limit: u32) -> Flag
-    ensures { Gave script.now Bool false (card_version limit) (at p (rows_in rows.old)) result.flag (at result.progress (rows_in rows.new)) }
+fn card_version(head: &mut Head, script: &[u32], rows: &mut [u64], limit: u32) -> Result<bool, Halt>
+    ensures { Took script.now Bool false (card_version limit) head.old (rows_in rows.old) result head.new (rows_in rows.new) }
 {
-    let pace = p.pace;
-    match pace {
-        Pace::Going => {
-            let answer = command::send(
-                p,
-                script,
-                rows,
-                limit,
-                8,
-                Interface::CONDITION,
-                Response::R7,
-            );
-            judge_version(answer)
-        }
-        Pace::Stopped(_) => Flag {
-            progress: p,
-            flag: false,
-        },
-    }
+    let asked = Interface::CONDITION;
+    judge_version(command::send(head, script, rows, limit, 8, asked, Response::R7))
 }
 
 // Resets the controller, and gives the card power and 80 cycles of the initial clock.
 fn power_on(
-    p: Progress,
+    head: &mut Head,
     script: &[u32],
     rows: &mut [u64],
     settings: Settings,
     initial: Clock,
-) -> Progress
-    ensures { Did script.now (power_on settings initial) (at p (rows_in rows.old)) (at result (rows_in rows.new)) }
+) -> Result<(), Halt>
+    ensures { Went script.now (power_on settings initial) head.old (rows_in rows.old) result head.new (rows_in rows.new) }
 {
-    let source = settings.source;
-    let frequency = initial.frequency;
     let limit = settings.config.poll_limit;
-    let reset = steps::reset_controller(p, rows);
-    let slow = clock::configure_clock(reset, script, rows, limit, initial, false, false);
-    let power = rows::write_row(slow, rows, Row::POWER, 3);
-    let open = steps::set_clken(power, rows, true);
-    clock::clock_delay(open, rows, source, frequency, 80)
+    steps::reset_controller(head, rows)?;
+    clock::configure_clock(head, script, rows, limit, initial, false, false)?;
+    rows::write_row(head, rows, Row::POWER, 3)?;
+    steps::set_clken(head, rows, true)?;
+    clock::clock_delay(head, rows, settings.source, initial.frequency, 80)
 }
 
 // Begins an initialisation: whether the card is of version 2.
 pub fn begin_init(
-    p: Progress,
+    head: &mut Head,
     script: &[u32],
     rows: &mut [u64],
     settings: Settings,
     initial: Clock,
-) -> Flag
-    ensures { Gave script.now Bool false (begin_init settings initial) (at p (rows_in rows.old)) result.flag (at result.progress (rows_in rows.new)) }
+) -> Result<bool, Halt>
+    ensures { Took script.now Bool false (begin_init settings initial) head.old (rows_in rows.old) result head.new (rows_in rows.new) }
 {
     let limit = settings.config.poll_limit;
-    let powered = power_on(p, script, rows, settings, initial);
-    let idle = command::send(powered, script, rows, limit, 0, 0, Response::None);
-    card_version(idle.progress, script, rows, limit)
+    power_on(head, script, rows, settings, initial)?;
+    command::send(head, script, rows, limit, 0, 0, Response::None)?;
+    card_version(head, script, rows, limit)
 }

@@ -6,16 +6,14 @@ ghost use Rattle.types.specs.Bits.{bits};
 ghost use Rattle.types.specs.Leaf.{count_of};
 ghost use Rattle.types.specs.Sd.{wide_of};
 ghost use Rattle.tape.specs.Layout.{rows_in};
-ghost use Rattle.tape.specs.Plan.{give};
-ghost use Rattle.tape.specs.Run.{at, Gave};
+ghost use Rattle.tape.specs.Run.{Took};
 ghost use Rattle.init.specs.Initialise.{power_up, try_power_up, wait_power_up, high_capacity, class_of, same, no_card, card_of, no_blocks, counted, select, publish, identify};
 
 use crate::settings::Settings;
 use bus::response::Response;
 use bus::{command, ready};
 use tape::progress;
-use tape::progress::{Pace, Progress, Word};
-use tape::rows::Row;
+use tape::progress::{Halt, Head};
 use types::card::{Card, CardCapacity};
 use types::error::{Error, Field};
 use types::register::{BlockCount, Protection, Wide};
@@ -35,27 +33,6 @@ impl Ocr {
     pub const POWERED_UP: u32 = 0x8000_0000;
 }
 
-// A record of a card, zeros where the call has stopped.
-#[derive(Clone, Copy)]
-pub struct Known {
-    pub progress: Progress,
-    pub card: Card,
-}
-
-// A count of blocks, 0 where the call has stopped.
-#[derive(Clone, Copy)]
-pub struct Counted {
-    pub progress: Progress,
-    pub count: BlockCount,
-}
-
-// A card's address, 0 where the call has stopped.
-#[derive(Clone, Copy)]
-pub struct Published {
-    pub progress: Progress,
-    pub rca: u16,
-}
-
 // What ACMD41 asks for.
 pub fn condition(version2: bool) -> u32
     ensures { result ≡ 0x0030_0000 + cond version2 0x4000_0000 0 }
@@ -68,68 +45,56 @@ pub fn condition(version2: bool) -> u32
 }
 
 // One ACMD41: the card's OCR.
-fn power_up(p: Progress, script: &[u32], rows: &mut [u64], limit: u32, version2: bool) -> Word
-    ensures { Gave script.now ℕ 0 (power_up limit version2) (at p (rows_in rows.old)) result.word (at result.progress (rows_in rows.new)) }
+fn power_up(head: &mut Head, script: &[u32], rows: &mut [u64], limit: u32, version2: bool) -> Result<u32, Halt>
+    ensures { Took script.now ℕ 0 (power_up limit version2) head.old (rows_in rows.old) result head.new (rows_in rows.new) }
 {
     let asked = condition(version2);
-    let told = command::app_command(p, script, rows, limit, 0);
-    let answer = command::send(told, script, rows, limit, 41, asked, Response::R3);
-    let ocr = answer.words[0];
-    let good = progress::ensure(
-        answer.progress,
+    command::app_command(head, script, rows, limit, 0)?;
+    let answer = command::send(head, script, rows, limit, 41, asked, Response::R3)?;
+    let ocr = answer[0];
+    progress::ensure(
         ocr & Ocr::VOLTAGE != 0,
         Error::UnsupportedCardType(Field::Voltage),
-    );
-    progress::give_word(good, ocr)
+    )?;
+    Ok(ocr)
 }
 
 // One attempt, and a delay if the card has not powered up.
 fn try_power_up(
-    p: Progress,
+    head: &mut Head,
     script: &[u32],
     rows: &mut [u64],
     settings: Settings,
     version2: bool,
-) -> Word
-    ensures { Gave script.now ℕ 0 (try_power_up settings version2) (at p (rows_in rows.old)) result.word (at result.progress (rows_in rows.new)) }
+) -> Result<u32, Halt>
+    ensures { Took script.now ℕ 0 (try_power_up settings version2) head.old (rows_in rows.old) result head.new (rows_in rows.new) }
 {
-    let source = settings.source;
-    let answer = power_up(p, script, rows, settings.config.poll_limit, version2);
-    let ocr = answer.word;
+    let limit = settings.config.poll_limit;
+    let ocr = power_up(head, script, rows, limit, version2)?;
     if ocr & Ocr::POWERED_UP != 0 {
-        progress::give_word(answer.progress, ocr)
-    } else {
-        let waited = ready::retry_delay(answer.progress, rows, source);
-        progress::give_word(waited, ocr)
+        return Ok(ocr);
     }
+    ready::retry_delay(head, rows, settings.source)?;
+    Ok(ocr)
 }
 
 // Tries until the card has powered up: its OCR.
 pub fn wait_power_up(
-    p: Progress,
+    head: &mut Head,
     script: &[u32],
     rows: &mut [u64],
     settings: Settings,
     version2: bool,
-) -> Word
-    ensures { Gave script.now ℕ 0 (wait_power_up settings version2) (at p (rows_in rows.old)) result.word (at result.progress (rows_in rows.new)) }
+) -> Result<u32, Halt>
+    ensures { Took script.now ℕ 0 (wait_power_up settings version2) head.old (rows_in rows.old) result head.new (rows_in rows.new) }
 {
-    let attempts = settings.config.card_ready_attempts;
-    let mut q = p;
-    let mut i: u16 = 0;
-    while i < attempts {
-        let tried = try_power_up(q, script, rows, settings, version2);
-        let next = tried.progress;
-        if next.over(tried.word & Ocr::POWERED_UP != 0) {
-            return tried;
+    for _ in 0..settings.config.card_ready_attempts {
+        let ocr = try_power_up(head, script, rows, settings, version2)?;
+        if ocr & Ocr::POWERED_UP != 0 {
+            return Ok(ocr);
         }
-        q = next;
-        i = i + 1;
     }
-    Word {
-        progress: progress::refuse(q, Error::SoftwareTimeout),
-        word: 0,
-    }
+    Err(Halt::Refused(Error::SoftwareTimeout))
 }
 
 // The class of a card by its OCR.
@@ -181,54 +146,6 @@ pub fn described(ocr: u32, rca: u16, cid: [u32; 4], csd: [u32; 4], blocks: Block
     }
 }
 
-// Gives a record, unless the call has stopped.
-pub fn give_card(p: Progress, card: Card) -> Known
-    ensures { (s : List ℕ) (l : List Row) → Gave s Card no_card (give card) (at p l) result.card (at result.progress l) }
-{
-    let pace = p.pace;
-    match pace {
-        Pace::Going => Known {
-            progress: p,
-            card: card,
-        },
-        Pace::Stopped(_) => Known {
-            progress: p,
-            card: no_card(),
-        },
-    }
-}
-
-// Gives a count, unless the call has stopped.
-fn give_count(p: Progress, count: BlockCount) -> Counted
-    ensures { (s : List ℕ) (l : List Row) → Gave s BlockCount no_blocks (give count) (at p l) result.count (at result.progress l) }
-{
-    let pace = p.pace;
-    match pace {
-        Pace::Going => Counted {
-            progress: p,
-            count: count,
-        },
-        Pace::Stopped(_) => Counted {
-            progress: p,
-            count: BlockCount(0),
-        },
-    }
-}
-
-// The blocks that a CSD tells.
-fn count_blocks(p: Progress, csd: Wide) -> Counted
-    ensures { (s : List ℕ) (l : List Row) → Gave s BlockCount no_blocks (counted (count_of (wide_of csd))) (at p l) result.count (at result.progress l) }
-{
-    let answer = register::block_count(csd);
-    match answer {
-        Ok(count) => give_count(p, count),
-        Err(error) => Counted {
-            progress: progress::refuse(p, error),
-            count: BlockCount(0),
-        },
-    }
-}
-
 // Whether CSD and OCR tell of the same kind of card.
 pub fn agree(ocr: u32, csd: Wide) -> bool
     ensures { result ≡ same (high_capacity ocr) (eqb (bits (wide_of csd) 127 126) 1) }
@@ -242,7 +159,7 @@ pub fn agree(ocr: u32, csd: Wide) -> bool
 
 // Judges the CSD, and selects the card.
 fn select(
-    p: Progress,
+    head: &mut Head,
     script: &[u32],
     rows: &mut [u64],
     limit: u32,
@@ -250,27 +167,18 @@ fn select(
     rca: u16,
     cid: [u32; 4],
     csd: [u32; 4],
-) -> Known
-    ensures { Gave script.now Card no_card (select limit ocr rca cid csd) (at p (rows_in rows.old)) result.card (at result.progress (rows_in rows.new)) }
+) -> Result<Card, Halt>
+    ensures { Took script.now Card no_card (select limit ocr rca cid csd) head.old (rows_in rows.old) result head.new (rows_in rows.new) }
 {
     let told = words::response_value(csd);
-    let sound = progress::ensure(
-        p,
+    let argument = rca as u32 * 0x1_0000;
+    progress::ensure(
         agree(ocr, told),
         Error::UnsupportedCardType(Field::CsdAndOcr),
-    );
-    let counted = count_blocks(sound, told);
-    let count = counted.count;
-    let selected = command::send(
-        counted.progress,
-        script,
-        rows,
-        limit,
-        7,
-        rca as u32 * 0x1_0000,
-        Response::R1,
-    );
-    give_card(selected.progress, described(ocr, rca, cid, csd, count))
+    )?;
+    let count = register::block_count(told)?;
+    command::send(head, script, rows, limit, 7, argument, Response::R1)?;
+    Ok(described(ocr, rca, cid, csd, count))
 }
 
 // The address that a card has given itself, in the answer to CMD3.
@@ -281,36 +189,21 @@ pub fn address(published: u32) -> u16
 }
 
 // Has the card give itself an address.
-fn publish(p: Progress, script: &[u32], rows: &mut [u64], limit: u32) -> Published
-    ensures { Gave script.now ℕ 0 (publish limit) (at p (rows_in rows.old)) result.rca (at result.progress (rows_in rows.new)) }
+fn publish(head: &mut Head, script: &[u32], rows: &mut [u64], limit: u32) -> Result<u16, Halt>
+    ensures { Took script.now ℕ 0 (publish limit) head.old (rows_in rows.old) result head.new (rows_in rows.new) }
 {
-    let answer = command::send(p, script, rows, limit, 3, 0, Response::R6);
-    let word = answer.words[0];
-    let progress = answer.progress;
-    Published {
-        progress: progress,
-        rca: address(word),
-    }
+    let answer = command::send(head, script, rows, limit, 3, 0, Response::R6)?;
+    Ok(address(answer[0]))
 }
 
 // Has the card tell its CID, its address and its CSD, and selects it.
-pub fn identify(p: Progress, script: &[u32], rows: &mut [u64], limit: u32, ocr: u32) -> Known
-    ensures { Gave script.now Card no_card (identify limit ocr) (at p (rows_in rows.old)) result.card (at result.progress (rows_in rows.new)) }
+pub fn identify(head: &mut Head, script: &[u32], rows: &mut [u64], limit: u32, ocr: u32) -> Result<Card, Halt>
+    ensures { Took script.now Card no_card (identify limit ocr) head.old (rows_in rows.old) result head.new (rows_in rows.new) }
 {
-    let named = command::send(p, script, rows, limit, 2, 0, Response::R2);
-    let cid = named.words;
-    let published = publish(named.progress, script, rows, limit);
-    let rca = published.rca;
-    let addressed = progress::ensure(published.progress, rca != 0, Error::ResponseMismatch);
-    let told = command::send(
-        addressed,
-        script,
-        rows,
-        limit,
-        9,
-        rca as u32 * 0x1_0000,
-        Response::R2,
-    );
-    let csd = told.words;
-    select(told.progress, script, rows, limit, ocr, rca, cid, csd)
+    let cid = command::send(head, script, rows, limit, 2, 0, Response::R2)?;
+    let rca = publish(head, script, rows, limit)?;
+    progress::ensure(rca != 0, Error::ResponseMismatch)?;
+    let argument = rca as u32 * 0x1_0000;
+    let csd = command::send(head, script, rows, limit, 9, argument, Response::R2)?;
+    select(head, script, rows, limit, ocr, rca, cid, csd)
 }

@@ -5,7 +5,6 @@ use mathlib.Core.Bool.{Bool, true, false, cond}
 use mathlib.Core.List.{List, []}
 use native.Mathlib.Omega.{arith}
 use Rattle.std.specs.Prelude.{Result, Ok, Err, IsErrAnd}
-use Rattle.std.specs.Borrow.{Bor}
 use Rattle.types.specs.declared.error.Error.{Error}
 use Rattle.tape.specs.declared.progress.Halt.{Halt}
 use Rattle.tape.specs.declared.progress.Halt.TheVariants.{Refused}
@@ -14,7 +13,7 @@ use Rattle.tape.specs.declared.progress.Line.{Line}
 use Rattle.tape.specs.declared.rows.Row.{Row}
 use Rattle.tape.specs.Pace.{Going, Stopped}
 use Rattle.tape.specs.Plan.{Nothing, Cause, Plan, give, refuse, fail, look, handle, ensure, guard, refusing, ◌then◌}
-use Rattle.tape.specs.Run.{State, at, After, halt_of, run, next_at, stand, pace_of, value_of, going_at, left_at, words_in, Behind, Settled, Took, Went}
+use Rattle.tape.specs.Run.{State, at, After, halt_of, run, next_at, stand, pace_of, value_of, going_at, left_at, seen_as, Behind, Settled, Took, Went}
 use Rattle.tape.proofs.Behind.{some-script}
 use Rattle.tape.proofs.Laws.{from-going, from-stopped, bind, looking, grows, dry, handled, guarded}
 
@@ -48,10 +47,10 @@ pub passed : {s : List ℕ} {A : Type 0} {d : A} {p : Plan A} {h h' : Head} {l l
 passed {r = Ok v} t e = absurd t
 passed {r = Err y} t e = rw t e
 
--- the same, of lent words
-pub passed-lent : (r : Result (Bor (List ℕ)) Halt) (x : Halt) → IsErrAnd r (λ y. y ≡ x) → IsErrAnd (words_in r) (λ y. y ≡ x)
-passed-lent (Ok v) x t = absurd t
-passed-lent (Err y) x t = t
+-- the same, of one whose value is seen otherwise
+pub passed-as : {A B : Type 0} (f : A → B) (r : Result A Halt) (x : Halt) → IsErrAnd r (λ y. y ≡ x) → IsErrAnd (seen_as f r) (λ y. y ≡ x)
+passed-as f (Ok v) x t = absurd t
+passed-as f (Err y) x t = t
 
 pub stops : {s : List ℕ} {A : Type 0} {d : A} {c : Cause} {x : Halt} {h : Head} {l : List Row} → x ≡ halt_of c → Took s A d (refuse c) h l (Err x) h l
 unfolding run

@@ -140,7 +140,11 @@ pub record Took (s : List ℕ) (A : Type 0) (d : A) (p : Plan A) (h : Head) (l :
 abbrev pub Went : List ℕ → Plan Nothing → Head → List Row → Result Nothing Halt → Head → List Row → Type 0
 Went s p h l r h' l' = Took s Nothing tt p h l r h' l'
 
+-- an answer whose value is seen so
+abbrev pub seen_as : {A B : Type 0} → (A → B) → Result A Halt → Result B Halt
+seen_as f (Ok v) = Ok (f v)
+seen_as f (Err x) = Err x
+
 -- lent words, as the list that they are
 abbrev pub words_in : Result (Bor (List ℕ)) Halt → Result (List ℕ) Halt
-words_in (Ok lent) = Ok lent.now
-words_in (Err x) = Err x
+words_in r = seen_as (λ (lent : Bor (List ℕ)). lent.now) r

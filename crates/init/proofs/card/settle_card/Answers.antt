@@ -1,12 +1,27 @@
 use Rattle.init.specs.Initialise.{settle_card}
-use Rattle.tape.proofs.Laws.{seq, bind}
-use borrow.Author.Rules.{rules}
+use Rattle.tape.proofs.Took.{passed, gives, next, carry, cut}
 use Rattle.init.proofs.card.settle_card.Goals as goal
 
-pub shape_of-rows : goal.shape_of-rows
-shape_of-rows c = search (rules, c.rows-4-1.given, c.rows-3-1.given, c.rows-2-1.given, c.rows-1.given)
+pub returns-in_err-scr : goal.returns-in_err-scr
+unfolding settle_card
+returns-in_err-scr c = cut _ c.in_err-scr.ensures c.from_residual.ensures.1
+
+pub returns-in_err-set_width : goal.returns-in_err-set_width
+unfolding settle_card
+returns-in_err-set_width c = carry _ c.in_ok-scr.ensures (cut _ c.in_err-set_width.ensures c.from_residual-in_err-set_width.ensures.1)
+
+pub returns-in_err-transfer_clock : goal.returns-in_err-transfer_clock
+unfolding settle_card
+returns-in_err-transfer_clock c = rw (← c.transfer_rate-encoded.ensures)
+    (carry _ c.in_ok-scr.ensures (next c.in_ok-set_width.ensures (cut _ c.in_err-transfer_clock.ensures c.from_residual-in_err-transfer_clock.ensures.1)))
+
+pub returns-in_err-switch_speed : goal.returns-in_err-switch_speed
+unfolding settle_card
+returns-in_err-switch_speed c = rw (← c.transfer_rate-encoded.ensures)
+    (carry _ c.in_ok-scr.ensures (next c.in_ok-set_width.ensures
+    (next c.in_ok-transfer_clock.ensures (cut _ c.in_err-switch_speed.ensures c.from_residual-in_err-switch_speed.ensures.1))))
 
 pub returns : goal.returns
 unfolding settle_card
-returns c = bind _ c.read_scr-read.ensures (seq c.set_width-wide.ensures (seq (rw c.transfer_rate-encoded.ensures at c.transfer_clock-set.ensures)
-    (seq c.switch_speed-fast.ensures (rw (← c.with_scr.ensures) (c.give_card.ensures _ _)))))
+returns c = rw (c.with_scr.ensures, ← c.transfer_rate-encoded.ensures)
+    (carry _ c.in_ok-scr.ensures (next c.in_ok-set_width.ensures (next c.in_ok-transfer_clock.ensures (next c.in_ok-switch_speed.ensures gives))))

@@ -1,11 +1,23 @@
 use Rattle.init.specs.Initialise.{identify}
-use Rattle.tape.proofs.Laws.{seq, bind}
-use borrow.Author.Rules.{rules}
+use Rattle.tape.proofs.Took.{carry, cut, next}
 use Rattle.init.proofs.identify.identify.Goals as goal
 
-pub shape_of-rows : goal.shape_of-rows
-shape_of-rows c = search (rules, c.rows-4-1.given, c.rows-3-1.given, c.rows-2-1.given, c.rows-1.given)
+pub returns-in_err-cid : goal.returns-in_err-cid
+unfolding identify
+returns-in_err-cid c = cut _ (c.in_err-cid.ensures) c.from_residual.ensures.1
+
+pub returns-in_err-rca : goal.returns-in_err-rca
+unfolding identify
+returns-in_err-rca c = carry _ (c.in_ok-cid.ensures) (cut _ (c.in_err-rca.ensures) c.from_residual-in_err-rca.ensures.1)
+
+pub returns-in_err-ensure : goal.returns-in_err-ensure
+unfolding identify
+returns-in_err-ensure c = carry _ (c.in_ok-cid.ensures) (carry _ (c.in_ok-rca.ensures) (cut _ (c.in_err-ensure.ensures _ _ _) c.from_residual-in_err-ensure.ensures.1))
+
+pub returns-in_err-csd : goal.returns-in_err-csd
+unfolding identify
+returns-in_err-csd c = carry _ (c.in_ok-cid.ensures) (carry _ (c.in_ok-rca.ensures) (next (c.in_ok-ensure.ensures _ _ _) (cut _ (c.in_err-csd.ensures) c.from_residual-in_err-csd.ensures.1)))
 
 pub returns : goal.returns
 unfolding identify
-returns c = bind _ c.send-named.ensures (bind _ c.publish-published.ensures (seq (c.ensure-addressed.ensures _ _) (bind _ c.send-told.ensures c.select.ensures)))
+returns c = carry _ (c.in_ok-cid.ensures) (carry _ (c.in_ok-rca.ensures) (next (c.in_ok-ensure.ensures _ _ _) (carry _ (c.in_ok-csd.ensures) (c.select.ensures))))

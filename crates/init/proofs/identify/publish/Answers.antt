@@ -1,9 +1,11 @@
-use Prim.Native.Nat.{◌/◌, ◌^◌}
-use Rattle.bus.specs.Command.{first_of}
 use Rattle.init.specs.Initialise.{publish}
-use Rattle.tape.proofs.Laws.{mapped}
+use Rattle.tape.proofs.Took.{gives, carry, cut}
 use Rattle.init.proofs.identify.publish.Goals as goal
+
+pub returns-in_err-answer : goal.returns-in_err-answer
+unfolding publish
+returns-in_err-answer c = cut _ c.in_err-answer.ensures c.from_residual.ensures.1
 
 pub returns : goal.returns
 unfolding publish
-returns c = rw c.address.ensures (mapped (λ ws. first_of ws / 2 ^ 16) c.send-answer.ensures)
+returns c = carry _ c.in_ok-answer.ensures (rw c.address.ensures gives)

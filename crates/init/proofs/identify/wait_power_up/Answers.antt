@@ -1,30 +1,25 @@
-use mathlib.Core.Path.{refl, sym, ◌∙◌}
-use native.Mathlib.Omega.{arith}
+use mathlib.Core.Bool.{not}
+use mathlib.Core.Path.{ap}
+use borrow.Author.Tests.{eq-eqb, ne_eqb}
 use Rattle.init.specs.Initialise.{wait_power_up}
-use Rattle.tape.proofs.Laws.{refusal}
-use Rattle.tape.proofs.Loops.{no_turn, next-turn, last_turn, out-of-turns}
-use borrow.Author.Rules.{rules}
+use Rattle.tape.proofs.Took.{passed}
+use Rattle.tape.proofs.Tries.{none_tried, enough-now, stopped-now, once-more, spent}
 use Rattle.init.proofs.identify.wait_power_up.Goals as goal
 
-pub loop-i-init : goal.loop-i-init
-loop-i-init c = record { room = refl; turned = no_turn }
+pub loop-init : goal.loop-init
+loop-init c = none_tried
 
-pub returns-then-over : goal.returns-then-over
+pub returns-in_err-ocr : goal.returns-in_err-ocr
 unfolding wait_power_up
-returns-then-over c = last_turn c.loop-i.invariant.turned c.loop-i-test.true c.try_power_up-tried.ensures (sym c.over.ensures ∙ c.if-over.true)
+returns-in_err-ocr c = passed c.from_residual.ensures.1 (stopped-now c.loop.invariant c.loop-test.true c.in_err-ocr.ensures)
 
-pub loop-i-preserved : goal.loop-i-preserved
-loop-i-preserved c = record {
-  room = search rules;
-  turned = next-turn c.loop-i.invariant.turned c.loop-i-test.true c.try_power_up-tried.ensures (sym c.over.ensures ∙ c.if-over.false);
-}
+pub returns-then-ocr-ne0 : goal.returns-then-ocr-ne0
+unfolding wait_power_up
+returns-then-ocr-ne0 c = enough-now c.loop.invariant c.loop-test.true c.in_ok-ocr.ensures (ap not (ne_eqb _ _ c.if-ocr-ne0.true))
+
+pub loop-preserved : goal.loop-preserved
+loop-preserved c = once-more c.loop.invariant c.loop-test.true c.in_ok-ocr.ensures (ap not (eq-eqb _ _ c.if-ocr-ne0.false))
 
 pub returns : goal.returns
 unfolding wait_power_up
-returns c = out-of-turns c.loop-i.invariant.turned c.loop-i-test.false (refusal (c.refuse.ensures _ _))
-
-pub overflow_add-i : goal.overflow_add-i
-overflow_add-i c = omega (arith, c.well_formed.1.1.1.0)
-
-pub loop-i-smaller : goal.loop-i-smaller
-loop-i-smaller c = omega arith
+returns c = spent c.loop.invariant c.loop-test.false

@@ -25,24 +25,12 @@ module _ (ws z : List ℕ) (sixteen : length z ≡ 16) where
   all : over (sixteen_of ws) z 16 ≡ sixteen_of ws
   all = ap (λ (l : List ℕ). l ++ drop 16 z) (take_all 16 (sixteen_of ws) (omega (arith, long))) ∙ ap (λ (l : List ℕ). sixteen_of ws ++ l) (drop_of_length-le z {i = 16} (omega arith)) ∙ append-nil (sixteen_of ws)
 
-pub loop-i-init : goal.loop-i-init
-loop-i-init c = (refl, omega arith)
+pub loop-k-init : goal.loop-k-init
+loop-k-init c = refl
 
-pub loop-i-preserved : goal.loop-i-preserved
-loop-i-preserved c = (rw c.loop-i.invariant.0 (step _ _ refl c.loop-i.i _ c.loop-i-test.true c.word.ensures), omega arith)
+pub loop-k-preserved : goal.loop-k-preserved
+loop-k-preserved c = rw c.loop-k.invariant (step _ _ refl c.loop-k.k _ c.loop-k-test.true c.word.ensures)
 
 pub returns : goal.returns
-returns c = let done : c.loop-i.i ≡ 16 = omega arith in
-    rw (c.loop-i.invariant.0, done) (all _ (replicate 16 0) refl)
-
-pub offset_bounds-words-i : goal.offset_bounds-words-i
-offset_bounds-words-i c = omega arith
-
-pub bounds-words-i : goal.bounds-words-i
-bounds-words-i c = omega arith
-
-pub overflow_add-i : goal.overflow_add-i
-overflow_add-i c = omega arith
-
-pub loop-i-smaller : goal.loop-i-smaller
-loop-i-smaller c = omega arith
+returns c = let done : c.loop-k.k ≡ 16 = omega arith in
+    rw (c.loop-k.invariant, done) (all _ (replicate 16 0) refl)
