@@ -18,13 +18,16 @@ use Rattle.tape.specs.Pace.{Going, Stopped}
 use Rattle.tape.specs.Pace.{Progress}
 use Rattle.tape.specs.declared.rows.Row.{Row}
 use Rattle.tape.specs.Plan.{Nothing, Plan}
-use Rattle.tape.specs.Run.{State, at, After, kept_at, run, run_from, does_at, Gave}
+use Rattle.tape.specs.Run.{State, at, going_at, After, kept_at, run, run_from, does_at, Gave}
 use Rattle.bus.specs.Command.{app_command}
 use Rattle.init.specs.Initialise.{limit_of}
 use Rattle.host.specs.declared.host.Called.{Called}
 use Rattle.host.specs.declared.host.Sdmmc.{Sdmmc}
 use Rattle.types.specs.Words.{sd_status_of}
+use Rattle.types.specs.declared.error.Answer.TheVariants as Answered
+use Rattle.tape.specs.declared.progress.Head.{Head}
 use Rattle.tape.proofs.Laws.{by_cases}
+use Rattle.tape.proofs.Laws.{kept as given_where}
 use Rattle.host.specs.Calls.{Came, called_of, ends, dropped, kept, transferred, approached, served, blocks_judged}
 use Rattle.host.specs.Calls.{status_plan, status_next, status_came, status_given, status_read_of}
 
@@ -68,21 +71,12 @@ ends-taken host refused accepted words (Stopped (Refused x)) w e = sym e
 ends-taken host refused accepted words (Stopped ScriptEnded) w e = sym e
 ends-taken host refused accepted words (Stopped TraceFull) w e = sym e
 
--- of the two next hosts that are named, only one is asked for
-pub none-refused : (host refused refused' accepted : Sdmmc) (words : List ℕ) (q : Pace) (w : State) → q ≡ Going
-    → ends host refused accepted words q w ≡ ends host refused' accepted words q w
+-- a call that was accepted, from the head that its plan left
+pub accepted-told : (host refused accepted : Sdmmc) (words : List ℕ) (h : Head) (l : List Row) {r : Called}
+    → r ≡ record { answer = Answered.Accepted; words = h.used; rows = h.rows; host = accepted }
+    → r ≡ called_of (ends host refused accepted words Going (going_at h l))
 unfolding ends
-none-refused host refused refused' accepted words q w going = rw going
-
-pub none-accepted : (host refused accepted accepted' : Sdmmc) (words : List ℕ) (q : Pace) (h : Halt) (w : State) → q ≡ Stopped h
-    → ends host refused accepted words q w ≡ ends host refused accepted' words q w
-unfolding ends
-none-accepted host refused accepted accepted' words q h w stopped = rw stopped (by h)
-  where
-    by : (h : Halt) → ends host refused accepted words (Stopped h) w ≡ ends host refused accepted' words (Stopped h) w
-    by (Refused e) = refl
-    by ScriptEnded = refl
-    by TraceFull = refl
+accepted-told host refused accepted words h l e = e
 
 pub kept-none : (q : Pace) → ◌≡◌ {A = List ℕ} [] (kept_at [] [] q)
 unfolding kept_at
@@ -107,6 +101,12 @@ module _ (host : Sdmmc) (transfer : Plan (List ℕ)) (next : State → List ℕ 
     told ∙ ap called_of (data_done g e),
     sym (ends-list host (dropped host w') (next w' v) v w'.progress.pace w') ∙ ap (λ (x : Came). x.list) (data_done g e),
   )
+
+  -- and the data words are those that its plan gave
+  pub data-taken : {w w' : State} {v : List ℕ} → w.progress.pace ≡ Going → Gave s (List ℕ) [] transfer w v w'
+      → v ≡ (transferred host transfer next s w).taken
+  data-taken {w} {w'} {v} g e =
+      sym (ends-taken host (dropped host w') (next w' v) v w'.progress.pace w' (given_where e)) ∙ ap (λ (x : Came). x.taken) (data_done g e)
 
   at-going : (w : State) {q : Pace} → q ≡ Going → transferred host transfer next s w ≡ approached host transfer next s q w
   unfolding approached

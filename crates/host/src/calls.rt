@@ -1,9 +1,10 @@
 // The calls on a host: initialise, SD status, read and write blocks.
-ghost use Rattle.std.specs.Prelude.{◌≡◌, List, [], ◌&&◌, ℕ, ◌*◌, ◌≤◌, length, Ok};
+ghost use Rattle.std.specs.Prelude.{◌≡◌, List, [], ◌&&◌, cond, ℕ, ◌*◌, ◌≤◌, length, Ok};
 ghost use Rattle.types.specs.Leaf.{stops_writes};
 ghost use Rattle.types.specs.Words.{words_of};
 ghost use Rattle.tape.specs.Layout.{rows_in};
-ghost use Rattle.tape.specs.Run.{at};
+ghost use Rattle.tape.specs.Pace.{Stopped};
+ghost use Rattle.tape.specs.Run.{at, stand, going_at};
 ghost use Rattle.bus.specs.Transfer.{incoming, outgoing};
 ghost use Rattle.host.specs.Calls.{called_of, kept, dropped, ends, init_from, initialised, blocks_index, blocks_transfer, blocks_data, blocks_from, blocks_judged, read_came, buffer_of, write_came, with_status, status_data, status_from, status_came, status_given, status_read_of};
 
@@ -12,7 +13,7 @@ use crate::{blocks, host};
 use bus::transfer::Transfer;
 use bus::{command, ready, transfer};
 use init::{card, identify, lent};
-use tape::progress::{Pace, Progress};
+use tape::progress::{Halt, Head};
 use tape::rows::Row;
 use types::card::{Card, block_address};
 use types::clock::{Clock, Hertz, clock_setting};
@@ -42,51 +43,32 @@ pub fn given_status(answer: Answer, status: [u32; 16]) -> [u32; 16]
     }
 }
 
-// CMD17 for one block, CMD18 for more.
-fn read_index(blocks: u16) -> u8
-    ensures { result ≡ blocks_index incoming blocks }
+// CMD17 for one block, CMD18 for more; of a write CMD24 and CMD25.
+fn blocks_index(sends: bool, blocks: u16) -> u8
+    ensures { (ws : List ℕ) → result ≡ blocks_index (cond sends (outgoing ws) incoming) blocks }
 {
-    if blocks == 1 { 17 } else { 18 }
-}
-
-// CMD24 for one block, CMD25 for more.
-fn write_index(blocks: u16) -> u8
-    ensures { (ws : List ℕ) → result ≡ blocks_index (outgoing ws) blocks }
-{
-    if blocks == 1 { 24 } else { 25 }
+    match (sends, blocks == 1) {
+        (false, true) => 17,
+        (false, false) => 18,
+        (true, true) => 24,
+        (true, false) => 25,
+    }
 }
 
 // A card that is protected bars a write, and nothing else.
 fn barred(sends: bool, protection: Protection) -> bool
     ensures { result ≡ (sends && stops_writes protection) }
 {
-    if sends {
-        protection.stops_writes()
-    } else {
-        false
-    }
+    sends && protection.stops_writes()
 }
 
-// What a read of so many blocks asks for.
-fn read_transfer(address: u32, blocks: u16) -> Transfer
+// What a read or a write of so many blocks asks for.
+fn blocks_transfer(sends: bool, address: u32, blocks: u16) -> Transfer
     requires { blocks ≤ 511 }
-    ensures { result ≡ blocks_transfer incoming address blocks }
+    ensures { (ws : List ℕ) → result ≡ blocks_transfer (cond sends (outgoing ws) incoming) address blocks }
 {
     Transfer {
-        index: read_index(blocks),
-        argument: address,
-        block_size: 9,
-        words: 128 * blocks,
-    }
-}
-
-// And a write of so many.
-fn write_transfer(address: u32, blocks: u16) -> Transfer
-    requires { blocks ≤ 511 }
-    ensures { (ws : List ℕ) → result ≡ blocks_transfer (outgoing ws) address blocks }
-{
-    Transfer {
-        index: write_index(blocks),
+        index: blocks_index(sends, blocks),
         argument: address,
         block_size: 9,
         words: 128 * blocks,
@@ -95,12 +77,11 @@ fn write_transfer(address: u32, blocks: u16) -> Transfer
 
 impl Sdmmc {
     // How a call ends that began with the card itself and did not come through: a refusal leaves no record.
-    fn ends_without(self, p: Progress) -> Called
-        ensures { (words : List ℕ) (l : List Row) → result ≡ called_of (ends self (dropped self (at p l)) self words p.pace (at p l)) }
+    fn ends_without(self, head: Head, halt: Halt) -> Called
+        ensures { (accepted : Sdmmc) (words : List ℕ) (l : List Row) → result ≡ called_of (ends self (dropped self (at (stand (Stopped halt) head) l)) accepted words (Stopped halt) (at (stand (Stopped halt) head) l)) }
     {
-        let line = p.line;
-        let none = self.with(line, false, identify::no_card());
-        self.ends(p, none, self)
+        let none = self.with(head.line, false, identify::no_card());
+        self.ends(head, halt, none)
     }
 
     // An initialisation with this clock of identification.
@@ -108,19 +89,11 @@ impl Sdmmc {
         ensures answered { result ≡ called_of (init_from self frequency.0 (Ok initial) script.now (rows_in rows.old)) }
         ensures listed { rows_in rows.new ≡ (init_from self frequency.0 (Ok initial) script.now (rows_in rows.old)).list }
     {
-        let settings = self.settings;
-        let clock = initial.frequency;
-        let begun = host::start(host::fresh_line(clock));
-        let done = card::initialise(begun, script, rows, settings, initial, frequency);
-        let progress = done.progress;
-        let line = progress.line;
-        let pace = progress.pace;
-        let Pace::Going = pace else {
-            return self.ends_without(progress);
-        };
-        let found = done.card;
-        let next = self.with(line, true, found);
-        self.ends(progress, self, next)
+        let mut head = host::start(host::fresh_line(initial.frequency));
+        match card::initialise(&mut head, script, rows, self.settings, initial, frequency) {
+            Ok(found) => self.with(head.line, true, found).called(Answer::Accepted, head),
+            Err(halt) => self.ends_without(head, halt),
+        }
     }
 
     // Initialises the card: its record, and the clock and signalling for it.
@@ -144,20 +117,17 @@ impl Sdmmc {
     }
 
     // A call that stopped before its data phase: the record stays.
-    fn ends_before(self, p: Progress) -> Called
-        ensures { (l : List Row) → result ≡ called_of (ends self (kept self (at p l)) self [] p.pace (at p l)) }
+    fn ends_before(self, head: Head, halt: Halt) -> Called
+        ensures { (l : List Row) → result ≡ called_of (ends self (kept self (at (stand (Stopped halt) head) l)) self [] (Stopped halt) (at (stand (Stopped halt) head) l)) }
     {
-        let line = p.line;
-        let card = self.card;
-        let kept = self.with(line, self.known, card);
-        self.ends(p, kept, self)
+        let kept = self.with(head.line, self.known, self.card);
+        self.ends(head, halt, kept)
     }
 
     // The data phase of a status call.
-    fn status_data(self, p: Progress, script: &[u32], rows: &mut [u64]) -> Called
-        requires { p.pace ≡ Pace.Going }
-        ensures answered { result ≡ called_of (status_data self script.now (at p (rows_in rows.old))) }
-        ensures listed { rows_in rows.new ≡ (status_data self script.now (at p (rows_in rows.old))).list }
+    fn status_data(self, mut head: Head, script: &[u32], rows: &mut [u64]) -> Called
+        ensures answered { result ≡ called_of (status_data self script.now (going_at head (rows_in rows.old))) }
+        ensures listed { rows_in rows.new ≡ (status_data self script.now (going_at head (rows_in rows.old))).list }
     {
         let source = self.settings.source;
         let config = self.settings.config;
@@ -168,16 +138,14 @@ impl Sdmmc {
             block_size: 6,
             words: 16,
         };
-        let read = transfer::blocking_data(p, script, rows, source, config, asked, card.rca);
-        let progress = read.progress;
-        let line = progress.line;
-        let pace = progress.pace;
-        let Pace::Going = pace else {
-            return self.ends_without(progress);
-        };
-        let status = words::sd_status(lent::sixteen(script, read.place, read.count));
-        let next = self.with(line, true, with_status(card, status));
-        self.ends(progress, self, next)
+        match transfer::blocking_data(&mut head, script, rows, source, config, asked, card.rca) {
+            Ok(words) => {
+                let status = words::sd_status(lent::sixteen(words));
+                let next = self.with(head.line, true, with_status(card, status));
+                next.called(Answer::Accepted, head)
+            }
+            Err(halt) => self.ends_without(head, halt),
+        }
     }
 
     // A status call on a host that has a card.
@@ -186,13 +154,10 @@ impl Sdmmc {
         ensures listed { rows_in rows.new ≡ (status_from self script.now (rows_in rows.old)).list }
     {
         let limit = self.settings.config.poll_limit;
-        let line = self.line;
-        let card = self.card;
-        let told = command::app_command(host::start(line), script, rows, limit, card.rca);
-        let pace = told.pace;
-        match pace {
-            Pace::Going => self.status_data(told, script, rows),
-            Pace::Stopped(_) => self.ends_before(told),
+        let mut head = host::start(self.line);
+        match command::app_command(&mut head, script, rows, limit, self.card.rca) {
+            Ok(()) => self.status_data(head, script, rows),
+            Err(halt) => self.ends_before(head, halt),
         }
     }
 
@@ -214,50 +179,43 @@ impl Sdmmc {
         ensures listed { rows_in rows.new ≡ (status_came self script.now (rows_in rows.old)).list }
     {
         let called = self.status_called(script, rows);
-        let answer = called.answer;
         let host = called.host;
         let card = host.card;
-        let read = card.status;
-        let status = given_status(answer, read);
         StatusRead {
-            answer: answer,
+            answer: called.answer,
             words: called.words,
             rows: called.rows,
-            status: status,
-            host: host,
+            status: given_status(called.answer, card.status),
+            host,
         }
     }
 
     // The data phase of a read; the buffer is filled from the words that it took, and it takes none unless it is accepted.
     fn read_data(
         self,
-        p: Progress,
+        mut head: Head,
         script: &[u32],
         rows: &mut [u64],
         buffer: &mut [u8],
         address: u32,
         blocks: u16,
     ) -> Called
-        requires { (p.pace ≡ Pace.Going) × (blocks ≤ 511) }
-        ensures answered { result ≡ called_of (blocks_data self incoming address blocks script.now (at p (rows_in rows.old))) }
-        ensures listed { rows_in rows.new ≡ (blocks_data self incoming address blocks script.now (at p (rows_in rows.old))).list }
-        ensures filled { buffer.new ≡ buffer_of (blocks_data self incoming address blocks script.now (at p (rows_in rows.old))) buffer.old }
+        requires { blocks ≤ 511 }
+        ensures answered { result ≡ called_of (blocks_data self incoming address blocks script.now (going_at head (rows_in rows.old))) }
+        ensures listed { rows_in rows.new ≡ (blocks_data self incoming address blocks script.now (going_at head (rows_in rows.old))).list }
+        ensures filled { buffer.new ≡ buffer_of (blocks_data self incoming address blocks script.now (going_at head (rows_in rows.old))) buffer.old }
     {
         let source = self.settings.source;
         let config = self.settings.config;
         let card = self.card;
-        let asked = read_transfer(address, blocks);
-        let read = transfer::blocking_data(p, script, rows, source, config, asked, card.rca);
-        let words = blocks::part(script, read.place, read.count);
-        blocks::fill_blocks(buffer, words);
-        let progress = read.progress;
-        let line = progress.line;
-        let pace = progress.pace;
-        let Pace::Going = pace else {
-            return self.ends_without(progress);
-        };
-        let next = self.with(line, self.known, card);
-        self.ends(progress, self, next)
+        let asked = blocks_transfer(false, address, blocks);
+        match transfer::blocking_data(&mut head, script, rows, source, config, asked, card.rca) {
+            Ok(words) => {
+                blocks::fill_blocks(buffer, words);
+                self.with(head.line, self.known, card).called(Answer::Accepted, head)
+            }
+            Err(halt) => self.ends_without(head, halt),
+        }
     }
 
     // A read from an address that was judged, of so many blocks.
@@ -276,13 +234,10 @@ impl Sdmmc {
     {
         let source = self.settings.source;
         let config = self.settings.config;
-        let line = self.line;
-        let card = self.card;
-        let ready = ready::wait_ready(host::start(line), script, rows, source, config, card.rca);
-        let pace = ready.pace;
-        match pace {
-            Pace::Going => self.read_data(ready, script, rows, buffer, address, blocks),
-            Pace::Stopped(_) => self.ends_before(ready),
+        let mut head = host::start(self.line);
+        match ready::wait_ready(&mut head, script, rows, source, config, self.card.rca) {
+            Ok(()) => self.read_data(head, script, rows, buffer, address, blocks),
+            Err(halt) => self.ends_before(head, halt),
         }
     }
 
@@ -330,29 +285,25 @@ impl Sdmmc {
     // The data phase of a write.
     fn write_data(
         self,
-        p: Progress,
+        mut head: Head,
         script: &[u32],
         rows: &mut [u64],
         data: &[u8],
         address: u32,
         blocks: u16,
     ) -> Called
-        requires { (p.pace ≡ Pace.Going) × (blocks ≤ 511) × (length «data».now ≡ 512 * blocks) }
-        ensures answered { result ≡ called_of (blocks_data self (outgoing (words_of «data».now)) address blocks script.now (at p (rows_in rows.old))) }
-        ensures listed { rows_in rows.new ≡ (blocks_data self (outgoing (words_of «data».now)) address blocks script.now (at p (rows_in rows.old))).list }
+        requires { (blocks ≤ 511) × (length «data».now ≡ 512 * blocks) }
+        ensures answered { result ≡ called_of (blocks_data self (outgoing (words_of «data».now)) address blocks script.now (going_at head (rows_in rows.old))) }
+        ensures listed { rows_in rows.new ≡ (blocks_data self (outgoing (words_of «data».now)) address blocks script.now (going_at head (rows_in rows.old))).list }
     {
         let source = self.settings.source;
         let config = self.settings.config;
         let card = self.card;
-        let asked = write_transfer(address, blocks);
-        let sent = transfer::blocking_send(p, script, rows, source, config, asked, card.rca, data);
-        let line = sent.line;
-        let pace = sent.pace;
-        let Pace::Going = pace else {
-            return self.ends_without(sent);
-        };
-        let next = self.with(line, self.known, card);
-        self.ends(sent, self, next)
+        let asked = blocks_transfer(true, address, blocks);
+        match transfer::blocking_send(&mut head, script, rows, source, config, asked, card.rca, data) {
+            Ok(()) => self.with(head.line, self.known, card).called(Answer::Accepted, head),
+            Err(halt) => self.ends_without(head, halt),
+        }
     }
 
     // A write to an address that was judged, of so many blocks.
@@ -370,13 +321,10 @@ impl Sdmmc {
     {
         let source = self.settings.source;
         let config = self.settings.config;
-        let line = self.line;
-        let card = self.card;
-        let waited = ready::wait_ready(host::start(line), script, rows, source, config, card.rca);
-        let pace = waited.pace;
-        match pace {
-            Pace::Going => self.write_data(waited, script, rows, data, address, blocks),
-            Pace::Stopped(_) => self.ends_before(waited),
+        let mut head = host::start(self.line);
+        match ready::wait_ready(&mut head, script, rows, source, config, self.card.rca) {
+            Ok(()) => self.write_data(head, script, rows, data, address, blocks),
+            Err(halt) => self.ends_before(head, halt),
         }
     }
 

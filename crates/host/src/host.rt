@@ -1,12 +1,13 @@
 // The host, making one, and how a call ends.
 ghost use Rattle.std.specs.Prelude.{◌≡◌, false, List, ℕ};
 ghost use Rattle.types.specs.Leaf.{clock_of};
-ghost use Rattle.tape.specs.Run.{at};
+ghost use Rattle.tape.specs.Pace.{Stopped};
+ghost use Rattle.tape.specs.Run.{at, stand};
 ghost use Rattle.host.specs.Calls.{fresh_line, host_of, no_host, clocked_host, made, ends, called_of, untouched, held_of};
 
 use init::identify;
 use init::settings::Settings;
-use tape::progress::{Halt, Line, Pace, Progress};
+use tape::progress::{Halt, Head, Line};
 use tape::rows::Row;
 use types::card::{Card, Signalling};
 use types::clock::{Hertz, clock_setting};
@@ -89,15 +90,14 @@ fn no_host() -> Sdmmc
     }
 }
 
-// A progress before the first step of a call.
-pub fn start(line: Line) -> Progress
-    ensures { result ≡ record { pace = Pace.Going; used = 0; rows = 0; line = line } }
+// The head of the tape before the first step of a call.
+pub fn start(line: Line) -> Head
+    ensures { result ≡ record { used = 0; rows = 0; line = line } }
 {
-    Progress {
-        pace: Pace::Going,
+    Head {
         used: 0,
         rows: 0,
-        line: line,
+        line,
     }
 }
 
@@ -207,40 +207,27 @@ impl Sdmmc {
         }
     }
 
-    // How a call ends that came so far: with the next host if it was accepted, another if it was refused, and this one
-    // at the end of the script or of the list. A host is copied, so a caller that knows which it is makes that one, and
-    // names this one for the other.
-    pub fn ends(self, p: Progress, refused: Sdmmc, accepted: Sdmmc) -> Called
-        ensures { (words : List ℕ) (l : List Row) → result ≡ called_of (ends self refused accepted words p.pace (at p l)) }
+    // How a call ends that stopped so: with another host if it was refused or the script ended, and with this one where there
+    // was no room.
+    pub fn ends(self, head: Head, halt: Halt, refused: Sdmmc) -> Called
+        ensures { (accepted : Sdmmc) (words : List ℕ) (l : List Row) → result ≡ called_of (ends self refused accepted words (Stopped halt) (at (stand (Stopped halt) head) l)) }
     {
-        let pace = p.pace;
-        match pace {
-            Pace::Going => Called {
-                answer: Answer::Accepted,
-                words: p.used,
-                rows: p.rows,
-                host: accepted,
-            },
-            Pace::Stopped(halt) => match halt {
-                Halt::Refused(e) => Called {
-                    answer: Answer::Refused(e),
-                    words: p.used,
-                    rows: p.rows,
-                    host: refused,
-                },
-                Halt::ScriptEnded => Called {
-                    answer: Answer::ScriptEnded,
-                    words: p.used,
-                    rows: p.rows,
-                    host: refused,
-                },
-                Halt::TraceFull => Called {
-                    answer: Answer::TraceFull,
-                    words: p.used,
-                    rows: p.rows,
-                    host: self,
-                },
-            },
+        match halt {
+            Halt::Refused(e) => refused.called(Answer::Refused(e), head),
+            Halt::ScriptEnded => refused.called(Answer::ScriptEnded, head),
+            Halt::TraceFull => self.called(Answer::TraceFull, head),
+        }
+    }
+
+    // A call that came so far, was answered so, and leaves this host.
+    pub fn called(self, answer: Answer, head: Head) -> Called
+        ensures { result ≡ record { answer = answer; words = head.used; rows = head.rows; host = self } }
+    {
+        Called {
+            answer,
+            words: head.used,
+            rows: head.rows,
+            host: self,
         }
     }
 }

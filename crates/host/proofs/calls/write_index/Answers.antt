@@ -1,8 +1,0 @@
-use borrow.Author.Tests.{eq-eqb, ne_eqb}
-use Rattle.host.proofs.calls.write_index.Goals as goal
-
-pub returns-then-blocks-eq1 : goal.returns-then-blocks-eq1
-returns-then-blocks-eq1 c = λ ws. rw (eq-eqb _ _ c.if-blocks-eq1.true)
-
-pub returns-else-blocks-eq1 : goal.returns-else-blocks-eq1
-returns-else-blocks-eq1 c = λ ws. rw (ne_eqb _ _ c.if-blocks-eq1.false)
