@@ -86,16 +86,19 @@ module _ (w n d i k both : ℕ) (all : k + suc i ≡ w) (at : Divided n d i (suc
         few = omega (arith, at.few, wider);
       }
 
--- the same of w steps, of which i are done
-module _ (w n d i both : ℕ) (more : i < w) (at : Divided n d i (w - i) both) where
-  this : Divided n d i (suc (w - suc i)) both
-  this = let e : suc (w - suc i) ≡ w - i = omega arith in rw e at
+-- the same with the steps counted down
+module _ (w n d left both : ℕ) (some : 1 ≤ left) (most : left ≤ w) (at : Divided n d (w - left) left both) where
+  this : Divided n d (w - left) (suc (left - 1)) both
+  this = let e : suc (left - 1) ≡ left = omega arith in rw e at
 
-  pub step-taken : d * 2 ^ w ≤ both + both → Divided n d (i + 1) (w - (i + 1)) (both + both - d * 2 ^ w + 1)
-  step-taken h = rw add-one (taken w n d i (w - suc i) both (omega arith) this h)
+  next : (b : ℕ) → Divided n d (suc (w - left)) (left - 1) b → Divided n d (w - (left - 1)) (left - 1) b
+  next b h = let e : w - (left - 1) ≡ suc (w - left) = omega arith in rw e h
 
-  pub step_kept : both + both < d * 2 ^ w → Divided n d (i + 1) (w - (i + 1)) (both + both)
-  step_kept h = rw add-one (kept w n d i (w - suc i) both (omega arith) this h)
+  pub step-taken : d * 2 ^ w ≤ both + both → Divided n d (w - (left - 1)) (left - 1) (both + both - d * 2 ^ w + 1)
+  step-taken h = next _ (taken w n d (w - left) (left - 1) both (omega arith) this h)
+
+  pub step_kept : both + both < d * 2 ^ w → Divided n d (w - (left - 1)) (left - 1) (both + both)
+  step_kept h = next _ (kept w n d (w - left) (left - 1) both (omega arith) this h)
 
 -- before the first step
 pub begun : (w n d : ℕ) → n < d * 2 ^ w → Divided n d 0 w n

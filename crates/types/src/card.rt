@@ -8,13 +8,13 @@ use crate::register::{BlockCount, Protection, Wide};
 use crate::status::Scr;
 
 // SDSC cards are addressed by byte, all later ones (SDHC, SDXC) by block.
-#[derive(Clone, Copy)]
+#[derive(Clone, Copy, Debug, PartialEq, Eq)]
 pub enum CardCapacity {
     SDSC,
     SDHC,
 }
 
-#[derive(Clone, Copy)]
+#[derive(Clone, Copy, Debug, PartialEq, Eq)]
 pub enum Signalling {
     SDR12,
     SDR25,

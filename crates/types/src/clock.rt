@@ -29,40 +29,41 @@ impl Clock {
 fn divisor_for(source: Hertz, requested: Hertz) -> Option<u32>
     ensures { Searched source.0 requested.0 result }
 {
-    let s = source.0;
-    let q = requested.0;
-    let mut sum = q;
-    let mut divisor: u32 = 2;
-    while divisor <= Clock::LARGEST_DIVISOR {
-        let next = sum as u64 + q as u64;
+    let mut sum = requested.0;
+    for divisor in 2..=Clock::LARGEST_DIVISOR {
+        let next = sum as u64 + requested.0 as u64;
         // what is over 32 bits is over every source
         if next > 0xffff_ffff {
             return Some(divisor);
         }
         sum = next as u32;
-        if s <= sum {
+        if source.0 <= sum {
             return Some(divisor);
         }
-        divisor += 1;
     }
     None
 }
 
 // A whole quotient in 32 steps, as by hand in base 2: the number is doubled into the upper half, the divisor is taken away
 // there wherever it fits, and the quotient's bits follow in the lower half.
+// The steps are counted by hand: a `for` over 0..32 takes two bytes more of the boot stage's flash.
 fn quotient(number: u32, divisor: u32) -> u32
     requires { (1 ≤ divisor) × (divisor ≤ 257) }
     ensures { result ≡ number / divisor }
 {
     let place = (divisor as u64) << 32;
     let mut both = number as u64;
-    for _ in 0..32u32 {
+    let mut left: u32 = 32;
+    loop {
         both = both + both;
         if place <= both {
             both = both - place + 1;
         }
+        left -= 1;
+        if left == 0 {
+            return (both & 0xffff_ffff) as u32;
+        }
     }
-    (both & 0xffff_ffff) as u32
 }
 
 // Whether the source itself may be the clock.
@@ -89,7 +90,9 @@ pub fn clock_setting(source: Hertz, requested: Hertz, allow_bypass: bool) -> Res
             frequency: source,
         });
     }
-    let divisor = divisor_for(source, requested).ok_or(Error::BadClock)?;
+    let Some(divisor) = divisor_for(source, requested) else {
+        return Err(Error::BadClock);
+    };
     Ok(Clock {
         divisor: (divisor - 2) as u8,
         bypass: false,

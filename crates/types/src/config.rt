@@ -28,18 +28,6 @@ impl Config {
 
     pub const MOST_SOURCE: u32 = 102_800_000;
 
-    pub fn default() -> Config
-        ensures { result ≡ defaults }
-    {
-        Config {
-            data_transfer_timeout: Config::DATA_TRANSFER_TIMEOUT,
-            software_timeout_ms: Config::SOFTWARE_TIMEOUT_MS,
-            poll_limit: Config::POLL_LIMIT,
-            card_ready_attempts: Config::CARD_READY_ATTEMPTS,
-            allow_clock_bypass: false,
-        }
-    }
-
     // Whether a host can be made of this source and these settings, or why not.
     #[tactic(auto, using(std::proofs::lemmas::Bool::Decides::nat_tests), unfolding(crate::specs::Settings::made_of))]
     pub fn judge(self, source: Hertz) -> Result<(), Error>
@@ -57,5 +45,19 @@ impl Config {
             return Err(Error::BadClock);
         }
         Ok(())
+    }
+}
+
+impl Default for Config {
+    fn default() -> Config
+        ensures { result ≡ defaults }
+    {
+        Config {
+            data_transfer_timeout: Config::DATA_TRANSFER_TIMEOUT,
+            software_timeout_ms: Config::SOFTWARE_TIMEOUT_MS,
+            poll_limit: Config::POLL_LIMIT,
+            card_ready_attempts: Config::CARD_READY_ATTEMPTS,
+            allow_clock_bypass: false,
+        }
     }
 }

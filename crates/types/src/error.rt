@@ -3,7 +3,7 @@ ghost use Rattle.std.specs.Prelude.{◌≡◌};
 ghost use Rattle.types.specs.Answer.{field_number, error_told, answer_told, carried};
 
 // What made a card unsupported: a field of its CSD, its CSD and OCR, its voltages, or that it takes no application command.
-#[derive(Clone, Copy)]
+#[derive(Clone, Copy, Debug, PartialEq, Eq)]
 pub enum Field {
     CsdVersion = 1,
     BlockLength,
@@ -15,7 +15,7 @@ pub enum Field {
     AppCommand,
 }
 
-#[derive(Clone, Copy)]
+#[derive(Clone, Copy, Debug, PartialEq, Eq)]
 pub enum Error {
     Timeout,
     SoftwareTimeout,
@@ -43,7 +43,7 @@ pub enum Error {
 
 // What a call comes to. The last three are not the driver's: the script had no word left, the row list no room, or the
 // book that holds the call is none.
-#[derive(Clone, Copy)]
+#[derive(Clone, Copy, Debug, PartialEq, Eq)]
 pub enum Answer {
     Accepted,
     Refused(Error),

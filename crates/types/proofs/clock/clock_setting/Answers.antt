@@ -1,13 +1,11 @@
 use Prim.Native.Nat.{ℕ, zero, suc, ◌*◌, ◌-◌, ◌/◌, ◌≤◌}
 use mathlib.Core.Bool.{Bool, false, ◌&&◌}
-use mathlib.Core.Path.{◌≡◌, ap, sym, ◌∙◌}
+use mathlib.Core.Path.{◌≡◌, sym, ◌∙◌}
 use native.Mathlib.Nat.{mul-zero}
 use native.Mathlib.Omega.{arith}
 use lib.Dec.{leb}
-use borrow.Author.Rules.{rules}
 use borrow.Author.Tests.{ne_eqb, lt-ltb, le-ltb}
 use Rattle.std.specs.Prelude.{Option, Some, None, Result, Ok, Err}
-use Rattle.std.specs.Result.{result_ok}
 use Rattle.types.specs.declared.clock.Clock.{Clock}
 use Rattle.types.specs.declared.error.Error.{Error}
 use Rattle.types.specs.declared.error.Error.TheVariants.{BadClock}
@@ -37,20 +35,17 @@ searched s q allowed (Some d) h high divided least =
     let divisor = found s q h low high d least in
     rw (ne_eqb s 0 (λ e. omega arith), ne_eqb q 0 (λ e. omega arith), le-ltb 80_000_000 q high, divided, ← divisor, le-ltb 257 d least.enough.to257)
 
-pub returns-in_err-divisor : goal.returns-in_err-divisor
+pub returns-in_default : goal.returns-in_default
 unfolding answer
-returns-in_err-divisor c =
+returns-in_default c =
     let args = c.args in
-    let none : c.divisor_for.result ≡ None = c.ok_or.ensures.ok_part ∙ ap result_ok c.in_err-divisor.was in
-    let refused : c.from_residual.result ≡ Err BadClock = search rules in
     let divided : (args.allow_bypass && leb args.source.0 args.requested.0) ≡ false = sym c.may_bypass.ensures ∙ c.if-may_bypass.false in
-    refused ∙ sym (searched args.source.0 args.requested.0 args.allow_bypass None (omega arith) c.if-requested-gt-MOST.false divided (rw none at c.divisor_for.ensures))
+    sym (searched args.source.0 args.requested.0 args.allow_bypass None (omega arith) c.if-requested-gt-MOST.false divided (rw c.in_default.is at c.divisor_for.ensures))
 
 pub returns : goal.returns
 unfolding answer
 returns c =
     let args = c.args in
-    let some : c.divisor_for.result ≡ Some c.in_ok-divisor.divisor = c.ok_or.ensures.ok_part ∙ ap result_ok c.in_ok-divisor.was in
     let divided : (args.allow_bypass && leb args.source.0 args.requested.0) ≡ false = sym c.may_bypass.ensures ∙ c.if-may_bypass.false in
     rw c.quotient.ensures
-    (sym (searched args.source.0 args.requested.0 args.allow_bypass (Some c.in_ok-divisor.divisor) (omega arith) c.if-requested-gt-MOST.false divided (rw some at c.divisor_for.ensures)))
+    (sym (searched args.source.0 args.requested.0 args.allow_bypass (Some c.in-Some.divisor) (omega arith) c.if-requested-gt-MOST.false divided (rw c.in-Some.is at c.divisor_for.ensures)))

@@ -1,13 +1,11 @@
 use Prim.Native.Nat.{ℕ, suc, ◌+◌, ◌*◌, ◌<◌, ◌≤◌}
 use mathlib.Core.Path.{◌≡◌}
-use native.Mathlib.Nat.{suc-mul, add-mul, one-mul, mul-le-mul_right, le_of_suc-le-suc}
+use native.Mathlib.Nat.{suc-mul, mul-le-mul_right, le_of_suc-le-suc}
 use native.Mathlib.Omega.{arith, not-le}
-use borrow.Author.Rules.{rules}
 use Rattle.types.specs.Least.{Enough, Least, Searched}
 use Rattle.types.proofs.clock.divisor_for.Goals as goal
 
--- Whenever the loop's test is reached, the sum and one request more are the divisor's multiple, and past 2 the sum, the multiple
--- before, is below the source. At most 256 turns: the measure starts there.
+-- At each turn the sum and one request more are the divisor's multiple, and past 2 the sum, the multiple before, is below the source.
 -- a divisor that is enough is the least where the multiple before is not
 first : (s q sum d : ℕ) → 2 ≤ d → d ≤ 257 → sum + q ≡ d * q → (2 < d → sum < s) → s ≤ d * q → Least s q d
 first s q sum d from2 to257 multiple low slow =
@@ -23,26 +21,18 @@ first s q sum d from2 to257 multiple low slow =
 none : (s q sum : ℕ) → sum + q ≡ 258 * q → sum < s → (d : ℕ) → Enough s q d → ⊥
 none s q sum multiple low d h = omega (arith, h.slow, mul-le-mul_right q h.to257)
 
-pub loop-divisor-init : goal.loop-divisor-init
-loop-divisor-init c = (search rules, search rules, omega arith, λ h. omega arith, search rules)
-
 pub returns-then-next-gt4294967295 : goal.returns-then-next-gt4294967295
 unfolding Searched
-returns-then-next-gt4294967295 c = let at = c.loop-divisor.invariant in
-    first _ _ _ _ at.0 (omega arith) at.2 at.3 (omega arith)
+returns-then-next-gt4294967295 c = let at = c.loop-divisor in
+    first c.args.source.0 c.args.requested.0 at.sum at.divisor (omega arith) (omega arith) at.invariant.0 at.invariant.1 (omega (arith, at.invariant.0))
 
-pub returns-then-s-sum : goal.returns-then-s-sum
+pub returns-then-source-sum : goal.returns-then-source-sum
 unfolding Searched
-returns-then-s-sum c = let at = c.loop-divisor.invariant in
-    first _ _ _ _ at.0 (omega arith) at.2 at.3 (omega arith)
-
-pub loop-divisor-preserved : goal.loop-divisor-preserved
-loop-divisor-preserved c = let divisor = c.loop-divisor.divisor in
-    let q = c.args.requested.0 in
-    (search rules, search rules, omega (arith, add-mul divisor 1 q, one-mul q), λ h. omega arith, search rules)
+returns-then-source-sum c = let at = c.loop-divisor in
+    first c.args.source.0 c.args.requested.0 at.sum at.divisor (omega arith) (omega arith) at.invariant.0 at.invariant.1 (omega (arith, at.invariant.0))
 
 pub returns : goal.returns
 unfolding Searched
 returns c = let at = c.loop-divisor in
     let last : at.divisor ≡ 258 = omega arith in
-    none _ _ _ (rw last at at.invariant.2) (at.invariant.3 (omega arith))
+    none c.args.source.0 c.args.requested.0 at.sum (rw last at at.invariant.0) (at.invariant.1 (omega arith))
