@@ -23,7 +23,6 @@ use Rattle.tape.specs.declared.progress.Line.{Line}
 use Rattle.tape.specs.declared.rows.Row.{Row}
 use Rattle.tape.specs.Plan.{Nothing, Plan, give, refuse, fail, handle, ensure, until}
 use Rattle.tape.specs.Steps.{row, hold_clock, hold_gated, hold_signalling}
-use Rattle.bus.specs.declared.clock.DelayAnswer.TheVariants as Delay
 use Rattle.bus.specs.declared.response.Response.TheVariants.{None, R1, R2, R3, R6, R7}
 use Rattle.bus.specs.Clock.{configure_clock, clock_delay, delayed}
 use Rattle.bus.specs.Command.{app_command}
@@ -348,12 +347,12 @@ module _ (j : Job) (k : Known) (h : Line) where
     unfolding gets_site ensure handle plug next
     switch_done l e = rw e
 
-    pub switch_spins : (l : List ℕ) (v : ℕ) → switched l ≡ true → delayed (Delay.Spins v) ≡ clock_delay source h.clock.0 8
+    pub switch_spins : (l : List ℕ) (v : ℕ) → switched l ≡ true → delayed (Ok v) ≡ clock_delay source h.clock.0 8
         → follows k ws (F.Tells (R.Settle v)) ≡ next (plug (gets_site j k G.Switch) (give l)) h
     unfolding follow_plan writes_plan delayed
     switch_spins l v e d = ap (λ (p : Plan Nothing). next (plug (Sites.switch_delay j.host initial frequency card k.scr) p) h) d ∙ switch_done l e
 
-    pub switch_refused : (l : List ℕ) (x : Error) → switched l ≡ true → delayed (Delay.Refused x) ≡ clock_delay source h.clock.0 8
+    pub switch_refused : (l : List ℕ) (x : Error) → switched l ≡ true → delayed (Err x) ≡ clock_delay source h.clock.0 8
         → follows k ws (F.Refuses (Y.Failed x)) ≡ next (plug (gets_site j k G.Switch) (give l)) h
     unfolding follow_plan refusal delayed handle plug
     switch_refused l x e d = ap (λ (p : Plan Nothing). next (plug (Sites.switch_delay j.host initial frequency card k.scr) p) h) d ∙ switch_done l e
@@ -363,12 +362,12 @@ module _ (j : Job) (k : Known) (h : Line) where
     own-got l = refl
 
     -- 80 cycles of the initial clock
-    pub open_spins : (v : ℕ) → delayed (Delay.Spins v) ≡ clock_delay source initial.frequency.0 80
+    pub open_spins : (v : ℕ) → delayed (Ok v) ≡ clock_delay source initial.frequency.0 80
         → follows k ws (F.Tells (R.Delay v)) ≡ next (plug (Sites.opened j.host initial frequency) (give tt)) h
     unfolding follow_plan writes_plan delayed handle plug
     open_spins v e = ap (λ (p : Plan Nothing). next (plug (Sites.powered_on j.host initial frequency) p) h) e
 
-    pub open_refused : (x : Error) → delayed (Delay.Refused x) ≡ clock_delay source initial.frequency.0 80
+    pub open_refused : (x : Error) → delayed (Err x) ≡ clock_delay source initial.frequency.0 80
         → follows k ws (F.Refuses (Y.Failed x)) ≡ next (plug (Sites.opened j.host initial frequency) (give tt)) h
     unfolding follow_plan refusal delayed handle plug
     open_refused x e = ap (λ (p : Plan Nothing). next (plug (Sites.powered_on j.host initial frequency) p) h) e

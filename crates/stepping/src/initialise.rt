@@ -15,7 +15,6 @@ ghost use Rattle.stepping.specs.Ahead.{card_by, initial_of, frequency_of, excuse
 
 use crate::call::{Change, End, Follow, Gets, Job, Known, Sent, Then, Waiting, Writes};
 use bus::clock;
-use bus::clock::DelayAnswer;
 use bus::response::Response;
 use init::begin::Interface;
 use init::identify::Ocr;
@@ -276,8 +275,8 @@ impl Job {
         match answer {
             Ok(rate) => {
                 let asked = self.asked;
-                let slow = speed::lesser(asked.frequency(), Switch::SDR12);
-                self.transfers_at(known, speed::lesser(slow, rate))
+                let slow = asked.frequency().min(Switch::SDR12);
+                self.transfers_at(known, slow.min(rate))
             }
             Err(error) => known.and(Follow::Refuses(Why::Failed(error))),
         }
@@ -288,7 +287,7 @@ impl Job {
         ensures { (ws : Lent) (h : Line) → then_next self ws result h ≡ next (plug (switch_delay self.host (initial_of self.asked) (frequency_of self.asked) (card_by known) known.scr) (give tt)) h }
     {
         let asked = self.asked;
-        let answer = self.clocks(speed::lesser(asked.frequency(), Switch::SDR25));
+        let answer = self.clocks(asked.frequency().min(Switch::SDR25));
         match answer {
             Ok(clock) => {
                 let mut found = known;
@@ -367,8 +366,8 @@ impl Job {
         if took(held) {
             let answer = clock::delay(self.host.settings.source, clock, 8);
             match answer {
-                DelayAnswer::Spins(spins) => Follow::Tells(Writes::Settle(spins)),
-                DelayAnswer::Refused(error) => Follow::Refuses(Why::Failed(error)),
+                Ok(spins) => Follow::Tells(Writes::Settle(spins)),
+                Err(error) => Follow::Refuses(Why::Failed(error)),
             }
         } else {
             Follow::Refuses(Why::Failed(Error::SignalingSwitchFailed))
@@ -407,8 +406,8 @@ impl Job {
         let initial = asked.initial();
         let answer = clock::delay(self.host.settings.source, initial.frequency, 80);
         match answer {
-            DelayAnswer::Spins(spins) => Follow::Tells(Writes::Delay(spins)),
-            DelayAnswer::Refused(error) => Follow::Refuses(Why::Failed(error)),
+            Ok(spins) => Follow::Tells(Writes::Delay(spins)),
+            Err(error) => Follow::Refuses(Why::Failed(error)),
         }
     }
 

@@ -5,8 +5,6 @@ use mathlib.Core.Path.{◌≡◌, refl, ap, ◌∙◌}
 use Rattle.tape.specs.Plan.{Nothing, Plan, give, refuse, read, write, look, hold, failed, ended}
 use Rattle.tape.specs.Run.{After}
 use Rattle.tape.specs.Steps.{row}
-use Rattle.bus.specs.declared.clock.DelayAnswer.{DelayAnswer}
-use Rattle.bus.specs.declared.clock.DelayAnswer.TheVariants as Delay
 use Rattle.bus.specs.declared.response.Words.{Words}
 use Rattle.bus.specs.Clock.{delayed}
 use Rattle.bus.proofs.clock
@@ -29,19 +27,19 @@ clock-clock-delay : Unique clock.clock_delay.Kinds.ps clock.clock_delay.Kinds.r 
 clock-clock-delay = determined _ λ _ _ _ p. listed to_progress (p []).same
 
 -- the answer that a delay's plan tells
-abbrev delay_in : Plan Nothing → DelayAnswer
-delay_in (write r _) = Delay.Spins r.value
-delay_in (refuse (failed e)) = Delay.Refused e
-delay_in (refuse ended) = Delay.Spins 0
-delay_in (give _) = Delay.Spins 0
-delay_in (read _ _ _) = Delay.Spins 0
-delay_in (look _) = Delay.Spins 0
-delay_in (hold _ _) = Delay.Spins 0
+abbrev delay_in : Plan Nothing → Result ℕ Error
+delay_in (write r _) = Ok r.value
+delay_in (refuse (failed e)) = Err e
+delay_in (refuse ended) = Ok 0
+delay_in (give _) = Ok 0
+delay_in (read _ _ _) = Ok 0
+delay_in (look _) = Ok 0
+delay_in (hold _ _) = Ok 0
 
-delay-told : (x : DelayAnswer) → x ≡ delay_in (delayed x)
+delay-told : (x : Result ℕ Error) → x ≡ delay_in (delayed x)
 unfolding delayed row
-delay-told (Delay.Spins n) = refl
-delay-told (Delay.Refused e) = refl
+delay-told (Ok n) = refl
+delay-told (Err e) = refl
 
 clock-delay : Unique clock.delay.Kinds.ps clock.delay.Kinds.r clock.delay.Reads.Learnt
 clock-delay = determined _ λ _ _ x p. delay-told x.0 ∙ ap delay_in p
