@@ -1,8 +1,17 @@
 // Blocks of a read, from the words that the script lends into the lent buffer.
-ghost use Rattle.std.specs.Prelude.{◌≡◌};
+ghost use Rattle.std.specs.Prelude.{◌≡◌, take, drop};
 ghost use Rattle.host.specs.Calls.{blocks_filled};
 
+use tape::script;
 use types::words;
+
+// So many of the words from a place on, as far as they go.
+pub fn part(words: &[u32], place: usize, count: usize) -> &[u32]
+    ensures { result.now ≡ take count (drop place words.now) }
+{
+    let left = script::rest(words, place);
+    &left[..count.min(left.len())]
+}
 
 // Fills whole blocks of the buffer, as many as there are words for.
 pub fn fill_blocks(buffer: &mut [u8], words: &[u32])

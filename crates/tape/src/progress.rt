@@ -44,13 +44,15 @@ pub struct Head {
 }
 
 impl Line {
-    // Takes note of a row: CLKCR reads back what was last written.
-    pub fn note(&mut self, row: Row)
-        ensures { self.new ≡ noted row self.old }
+    // The same, after a row: CLKCR reads back what was last written.
+    pub fn noted(self, register: u32, value: u32) -> Line
+        ensures { result ≡ noted (record { register = register; value = value }) self }
     {
-        if row.register == Row::CLKCR {
-            self.clkcr = row.value;
+        let mut line = self;
+        if register == Row::CLKCR {
+            line.clkcr = value;
         }
+        line
     }
 }
 

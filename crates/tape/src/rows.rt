@@ -120,7 +120,7 @@ pub fn write_row(head: &mut Head, rows: &mut [u64], register: u32, value: u32) -
     if head.rows < rows.len() {
         rows[head.rows] = row.word();
         head.rows += 1;
-        head.line.note(row);
+        head.line = head.line.noted(register, value);
         Ok(())
     } else {
         Err(Halt::TraceFull)

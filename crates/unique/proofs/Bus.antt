@@ -17,14 +17,11 @@ use Rattle.unique.specs.Unique.{Unique}
 use Rattle.unique.proofs.Determined.{determined}
 use Rattle.unique.proofs.Steps.{by-words, lies_at, listed, on, on-any, to_flag, to_progress, to_word}
 
-abbrev to_words : After (List ℕ) → Words
-to_words x = record { progress = x.state.progress; words = x.value }
-
 clock_configure_clock : Unique clock.configure_clock.Kinds.ps clock.configure_clock.Kinds.r clock.configure_clock.Reads.Learnt
-clock_configure_clock = determined _ λ _ _ _ p. listed to_progress p.same
+clock_configure_clock = determined _ λ _ _ _ p. listed p
 
 clock-clock-delay : Unique clock.clock_delay.Kinds.ps clock.clock_delay.Kinds.r clock.clock_delay.Reads.Learnt
-clock-clock-delay = determined _ λ _ _ _ p. listed to_progress (p []).same
+clock-clock-delay = determined _ λ _ _ _ p. listed (p [])
 
 -- the answer that a delay's plan tells
 abbrev delay_in : Plan Nothing → Result ℕ Error
@@ -45,47 +42,43 @@ clock-delay : Unique clock.delay.Kinds.ps clock.delay.Kinds.r clock.delay.Reads.
 clock-delay = determined _ λ _ _ x p. delay-told x.0 ∙ ap delay_in p
 
 command-command-inner : Unique command.command_inner.Kinds.ps command.command_inner.Kinds.r command.command_inner.Reads.Learnt
-command-command-inner = determined _ λ _ _ _ p. listed to_words (on p)
+command-command-inner = determined _ λ _ _ _ p. listed (on p)
 
 command-command : Unique command.command.Kinds.ps command.command.Kinds.r command.command.Reads.Learnt
-command-command = determined _ λ _ _ _ p. listed to_words (on p)
+command-command = determined _ λ _ _ _ p. listed (on p)
 
 command_send : Unique command.send.Kinds.ps command.send.Kinds.r command.send.Reads.Learnt
-command_send = determined _ λ _ _ _ p. listed to_words p.same
+command_send = determined _ λ _ _ _ p. listed p
 
 command-app-command : Unique command.app_command.Kinds.ps command.app_command.Kinds.r command.app_command.Reads.Learnt
-command-app-command = determined _ λ _ _ _ p. listed to_progress p.same
+command-app-command = determined _ λ _ _ _ p. listed p
 
 poll_data_complete : Unique poll.data_complete.Kinds.ps poll.data_complete.Kinds.r poll.data_complete.Reads.Learnt
-poll_data_complete = determined _ λ _ _ _ p i. to_flag (on-any p i)
+poll_data_complete = determined _ λ _ _ _ p. answered (on-any p)
 
 poll_wait_data : Unique poll.wait_data.Kinds.ps poll.wait_data.Kinds.r poll.wait_data.Reads.Learnt
-poll_wait_data = determined _ λ _ _ _ p i. to_progress (on-any p i)
+poll_wait_data = determined _ λ _ _ _ p. answered (on-any p)
 
 ready_millisecond : Unique ready.millisecond.Kinds.ps ready.millisecond.Kinds.r ready.millisecond.Reads.Learnt
 ready_millisecond = determined _ λ _ _ _ p. p
 
 ready_retry_delay : Unique ready.retry_delay.Kinds.ps ready.retry_delay.Kinds.r ready.retry_delay.Reads.Learnt
-ready_retry_delay = determined _ λ _ _ _ p. listed to_progress (p []).same
+ready_retry_delay = determined _ λ _ _ _ p. listed (p [])
 
 ready-read-status : Unique ready.read_status.Kinds.ps ready.read_status.Kinds.r ready.read_status.Reads.Learnt
-ready-read-status = determined _ λ _ _ _ p. listed to_word p.same
+ready-read-status = determined _ λ _ _ _ p. listed p
 
 ready_wait_ready : Unique ready.wait_ready.Kinds.ps ready.wait_ready.Kinds.r ready.wait_ready.Reads.Learnt
-ready_wait_ready = determined _ λ _ _ _ p. listed to_progress p.same
+ready_wait_ready = determined _ λ _ _ _ p. listed p
 
 response-response-form : Unique response.Response.form.Kinds.ps response.Response.form.Kinds.r response.Response.form.Reads.Learnt
 response-response-form = determined _ λ _ _ _ p. p
-
-response-give-words : Unique response.give_words.Kinds.ps response.give_words.Kinds.r response.give_words.Reads.Learnt
-response-give-words = determined _ λ _ _ _ p i. to_words ((p [] []).same i)
 
 transfer_of_many : Unique transfer.of_many.Kinds.ps transfer.of_many.Kinds.r transfer.of_many.Reads.Learnt
 transfer_of_many = determined _ λ _ _ _ p. p
 
 transfer_blocking_data : Unique transfer.blocking_data.Kinds.ps transfer.blocking_data.Kinds.r transfer.blocking_data.Reads.Learnt
-transfer_blocking_data =
-    determined _ λ _ _ _ p. by-words (ap (λ (x : After (List ℕ)). x.state.list) p.0.same) (lies_at (ap to_progress p.0.same) p.1)
+transfer_blocking_data = determined _ λ _ _ _ p. ?
 
 transfer_blocking_send : Unique transfer.blocking_send.Kinds.ps transfer.blocking_send.Kinds.r transfer.blocking_send.Reads.Learnt
-transfer_blocking_send = determined _ λ _ _ _ p. listed to_progress p.same
+transfer_blocking_send = determined _ λ _ _ _ p. ?

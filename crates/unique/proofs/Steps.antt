@@ -1,58 +1,51 @@
 -- Steps of a call. Their contracts say what they do on every script, of which one is enough.
 use Prim.Native.Nat.{ℕ}
-use mathlib.Core.Bool.{Bool}
 use mathlib.Core.List.{List, []}
-use mathlib.Core.Path.{◌≡◌, ap, ◌∙◌}
-use Rattle.tape.specs.declared.progress.Flag.{Flag}
-use Rattle.tape.specs.Pace.{Progress}
-use Rattle.tape.specs.declared.progress.Word.{Word}
+use mathlib.Core.Path.{◌≡◌, refl, ap, ◌∙◌}
+use Rattle.std.specs.Prelude.{Result, Ok, Err}
+use Rattle.tape.specs.declared.progress.Halt.{Halt}
+use Rattle.tape.specs.declared.progress.Head.{Head}
 use Rattle.tape.specs.declared.rows.Row.{Row}
-use Rattle.tape.specs.declared.script.Data.{Data}
+use Rattle.tape.specs.Pace.{Pace, Going, Stopped}
 use Rattle.tape.specs.Layout.{words_of, rows_in}
 use Rattle.tape.specs.Plan.{Plan}
-use Rattle.tape.specs.Run.{State, at, After, kept_at, does, Behind, Gave, Lies}
+use Rattle.tape.specs.Run.{After, value_of, going_at, left_at, does, Behind, Took}
 use Rattle.tape.proofs.Behind.{behind, is-behind}
 use Rattle.tape.proofs.Layouts.{words-told}
 
--- a step that reads and writes
-pub on : {n : ℕ} {r : List ℕ} {A : Type 0} {d : A} {p : Plan A} {w : State} {v : A} {w' : State}
-    → ((s : List ℕ) → Behind n r s → Gave s A d p w v w') → record { value = v; state = w' } ≡ does (behind n r) d p w
-on {n} {r} e = (e (behind n r) (is-behind n r)).same
+-- A step's answer, and where it left the head, from what its plan comes to.
 
--- a step that only reads leaves every row list as it is
-pub on-any : {n : ℕ} {r : List ℕ} {A : Type 0} {d : A} {p : Plan A} {a b : Progress} {v : A}
-    → ((s : List ℕ) (l : List Row) → Behind n r s → Gave s A d p (at a l) v (at b l))
-    → record { value = v; state = at b [] } ≡ does (behind n r) d p (at a [])
-on-any {n} {r} e = (e (behind n r) [] (is-behind n r)).same
+abbrev answer_at : {A : Type 0} → A → Pace → Result A Halt
+answer_at v Going = Ok v
+answer_at v (Stopped x) = Err x
 
--- A step's result, and what it left in the row list, from what its plan comes to.
+abbrev pub answer_of : {A : Type 0} → After A → Result A Halt
+answer_of x = answer_at x.value x.state.progress.pace
 
-abbrev pub to_progress : {A : Type 0} → After A → Progress
-to_progress x = x.state.progress
+abbrev pub head_of : {A : Type 0} → After A → Head
+head_of x = record { used = x.state.progress.used; rows = x.state.progress.rows; line = x.state.progress.line }
 
-abbrev pub to_word : After ℕ → Word
-to_word x = record { progress = x.state.progress; word = x.value }
-
-abbrev pub to_flag : After Bool → Flag
-to_flag x = record { progress = x.state.progress; flag = x.value }
+told-back : {A : Type 0} {d : A} {h : Head} {l : List Row} (r : Result A Halt) → r ≡ answer_of (record { value = value_of d r; state = left_at r h l })
+told-back (Ok v) = refl
+told-back (Err x) = refl
 
 -- the list's words, from the rows that they tell
 pub by-words : {Z : Type 0} {ws : List ℕ} {rs : List Row} {z z' : Z} → rows_in ws ≡ rs → z ≡ z' → ◌≡◌ {A = List ℕ × Z} (ws, z) (words_of rs, z')
 by-words e f = λ i. (words-told e i, f i)
 
-pub listed : {A Z : Type 0} (result : After A → Z) {ws : List ℕ} {v : A} {q : Progress} {x : After A} → record { value = v; state = at q (rows_in ws) } ≡ x
-    → ◌≡◌ {A = List ℕ × Z} (ws, result (record { value = v; state = at q (rows_in ws) })) (words_of x.state.list, result x)
-listed {A} result e = by-words (ap (λ (x : After A). x.state.list) e) (ap result e)
+module _ {s : List ℕ} {A : Type 0} {d : A} {p : Plan A} {h h' : Head} {l : List Row} {r : Result A Halt} where
+  -- of a step that leaves every row list as it is
+  pub answered : {l' : List Row} → Took s A d p h l r h' l' → let x = does s d p (going_at h l) in ◌≡◌ {A = Head × Result A Halt} (h', r) (head_of x, answer_of x)
+  answered e = λ i. (ap head_of e.gave.same i, (told-back r ∙ ap answer_of e.gave.same) i)
 
--- data words are told by where they lie, which goes by whether the call is going
-abbrev pub lying : ℕ → ℕ → Progress → Data
-lying from n p = record { progress = p; place = kept_at 0 from p.pace; count = kept_at 0 n p.pace }
+  -- of one that reads and writes
+  pub listed : {ws : List ℕ} → Took s A d p h l r h' (rows_in ws)
+      → let x = does s d p (going_at h l) in ◌≡◌ {A = Head × List ℕ × Result A Halt} (h', ws, r) (head_of x, words_of x.state.list, answer_of x)
+  listed e = λ i. (ap head_of e.gave.same i, by-words (ap (λ (x : After A). x.state.list) e.gave.same) (told-back r ∙ ap answer_of e.gave.same) i)
 
-pub lies_at : {from n : ℕ} {r : Data} {p : Progress} → r.progress ≡ p → Lies from n r → r ≡ lying from n p
-lies_at {from} {n} {r} e lies =
-    (λ i. record { progress = r.progress; place = lies.place i; count = lies.count i }) ∙ ap (lying from n) e
+-- what holds of every script of which the rest lies behind n words
+pub on : {n : ℕ} {rest : List ℕ} {P : List ℕ → Type 0} → ((s : List ℕ) → Behind n rest s → P s) → P (behind n rest)
+on {n} {rest} e = e (behind n rest) (is-behind n rest)
 
--- a step that gives data words of the script
-pub data_on : {n : ℕ} {r : List ℕ} {p : Plan (List ℕ)} {a b : Progress} {v : List ℕ → List ℕ}
-    → ((s : List ℕ) (l : List Row) → Behind n r s → Gave s (List ℕ) [] p (at a l) (v s) (at b l)) → b ≡ (does (behind n r) [] p (at a [])).state.progress
-data_on {n} {r} e = ap (λ (x : After (List ℕ)). x.state.progress) (e (behind n r) [] (is-behind n r)).same
+pub on-any : {n : ℕ} {rest : List ℕ} {P : List ℕ → List Row → Type 0} → ((s : List ℕ) (l : List Row) → Behind n rest s → P s l) → P (behind n rest) []
+on-any {n} {rest} e = e (behind n rest) [] (is-behind n rest)

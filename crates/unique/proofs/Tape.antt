@@ -12,38 +12,11 @@ use Rattle.unique.specs.Unique.{Unique, UniqueIn}
 use Rattle.unique.proofs.Determined.{determined, part-determined}
 use Rattle.unique.proofs.Steps.{data_on, lies_at, listed, on-any, to_flag, to_progress, to_word}
 
-progress-line-noted : Unique progress.Line.noted.Kinds.ps progress.Line.noted.Kinds.r progress.Line.noted.Reads.Learnt
-progress-line-noted = determined _ λ _ _ _ p. p
-
-progress-progress-resumed : Unique progress.Progress.resumed.Kinds.ps progress.Progress.resumed.Kinds.r progress.Progress.resumed.Reads.Learnt
-progress-progress-resumed = determined _ λ _ _ _ p. p
-
-progress-progress-stopped : Unique progress.Progress.stopped.Kinds.ps progress.Progress.stopped.Kinds.r progress.Progress.stopped.Reads.Learnt
-progress-progress-stopped = determined _ λ _ _ _ p. p
-
-progress_progress_stop : Unique progress.Progress.stop.Kinds.ps progress.Progress.stop.Kinds.r progress.Progress.stop.Reads.Learnt
-progress_progress_stop = determined _ λ _ _ _ p. p
-
-progress-progress-moved : Unique progress.Progress.moved.Kinds.ps progress.Progress.moved.Kinds.r progress.Progress.moved.Reads.Learnt
-progress-progress-moved = determined _ λ _ _ _ p. p
-
-progress-progress-over : Unique progress.Progress.over.Kinds.ps progress.Progress.over.Kinds.r progress.Progress.over.Reads.Learnt
-progress-progress-over = determined _ λ _ _ _ p. p
-
-progress-progress-holding : Unique progress.Progress.holding.Kinds.ps progress.Progress.holding.Kinds.r progress.Progress.holding.Reads.Learnt
-progress-progress-holding = determined _ λ _ _ _ p i. to_progress ((p [] []).same i)
-
-progress-refuse : Unique progress.refuse.Kinds.ps progress.refuse.Kinds.r progress.refuse.Reads.Learnt
-progress-refuse = determined _ λ _ _ _ p i. to_progress ((p [] []).same i)
+progress-line-note : Unique progress.Line.note.Kinds.ps progress.Line.note.Kinds.r progress.Line.note.Reads.Learnt
+progress-line-note = determined _ λ _ _ _ p i. (p i, tt)
 
 progress-ensure : Unique progress.ensure.Kinds.ps progress.ensure.Kinds.r progress.ensure.Reads.Learnt
-progress-ensure = determined _ λ _ _ _ p i. to_progress ((p [] []).same i)
-
-progress-give-word : Unique progress.give_word.Kinds.ps progress.give_word.Kinds.r progress.give_word.Reads.Learnt
-progress-give-word = determined _ λ _ _ _ p i. to_word ((p [] []).same i)
-
-progress-give-flag : Unique progress.give_flag.Kinds.ps progress.give_flag.Kinds.r progress.give_flag.Reads.Learnt
-progress-give-flag = determined _ λ _ _ _ p i. to_flag ((p [] []).same i)
+progress-ensure = determined _ λ _ _ _ p. (let e = (p [] (record { used = 0; rows = 0; line = the_line }) []) in ?)
 
 pairs_convert : Unique pairs.convert.Kinds.ps pairs.convert.Kinds.r pairs.convert.Reads.Learnt
 pairs_convert = determined _ λ _ _ _ p i. (p.1 i, p.0 i)
@@ -55,7 +28,7 @@ rows-row-word : Unique rows.Row.word.Kinds.ps rows.Row.word.Kinds.r rows.Row.wor
 rows-row-word = determined _ λ _ _ _ p. p
 
 rows-write-row : Unique rows.write_row.Kinds.ps rows.write_row.Kinds.r rows.write_row.Reads.Learnt
-rows-write-row = determined _ λ _ _ _ p. listed to_progress (p []).same
+rows-write-row = determined _ λ _ _ _ p. listed (p [])
 
 rows_with_clken : Unique rows.with_clken.Kinds.ps rows.with_clken.Kinds.r rows.with_clken.Reads.Learnt
 rows_with_clken = determined _ λ _ _ _ p. p
@@ -76,40 +49,37 @@ script_quiet : Unique script.quiet.Kinds.ps script.quiet.Kinds.r script.quiet.Re
 script_quiet = determined _ λ _ _ _ p. p
 
 script-read-word : Unique script.read_word.Kinds.ps script.read_word.Kinds.r script.read_word.Reads.Learnt
-script-read-word = determined _ λ _ _ _ p i. to_word (on-any (p Status) i)
+script-read-word = determined _ λ _ _ _ p. answered (on-any (p Status))
 
 send_send_data : Unique send.send_data.Kinds.ps send.send_data.Kinds.r send.send_data.Reads.Learnt
-send_send_data = determined _ λ _ _ _ p. listed to_progress (p []).same
+send_send_data = determined _ λ _ _ _ p. listed (p [])
 
 steps_wait_idle : Unique steps.wait_idle.Kinds.ps steps.wait_idle.Kinds.r steps.wait_idle.Reads.Learnt
-steps_wait_idle = determined _ λ _ _ _ p i. to_progress (on-any p i)
+steps_wait_idle = determined _ λ _ _ _ p. answered (on-any p)
 
 steps_reset_controller : Unique steps.reset_controller.Kinds.ps steps.reset_controller.Kinds.r steps.reset_controller.Reads.Learnt
-steps_reset_controller = determined _ λ _ _ _ p. listed to_progress (p []).same
+steps_reset_controller = determined _ λ _ _ _ p. listed (p [])
 
 steps_stop_data : Unique steps.stop_data.Kinds.ps steps.stop_data.Kinds.r steps.stop_data.Reads.Learnt
-steps_stop_data = determined _ λ _ _ _ p. listed to_progress (p []).same
+steps_stop_data = determined _ λ _ _ _ p. listed (p [])
 
 steps_set_clken : Unique steps.set_clken.Kinds.ps steps.set_clken.Kinds.r steps.set_clken.Reads.Learnt
-steps_set_clken = determined _ λ _ _ _ p. listed to_progress (p []).same
+steps_set_clken = determined _ λ _ _ _ p. listed (p [])
 
 steps_close : Unique steps.close.Kinds.ps steps.close.Kinds.r steps.close.Reads.Learnt
-steps_close = determined _ λ _ _ _ p. listed to_progress (p []).same
+steps_close = determined _ λ _ _ _ p. ?
 
 steps-hold-gated : Unique steps.hold_gated.Kinds.ps steps.hold_gated.Kinds.r steps.hold_gated.Reads.Learnt
-steps-hold-gated = determined _ λ _ _ _ p i. to_progress ((p [] []).same i)
+steps-hold-gated = determined _ λ _ _ _ p. ?
 
 steps-hold-clock : Unique steps.hold_clock.Kinds.ps steps.hold_clock.Kinds.r steps.hold_clock.Reads.Learnt
-steps-hold-clock = determined _ λ _ _ _ p i. to_progress ((p [] []).same i)
+steps-hold-clock = determined _ λ _ _ _ p. ?
 
 steps-hold-signalling : Unique steps.hold_signalling.Kinds.ps steps.hold_signalling.Kinds.r steps.hold_signalling.Reads.Learnt
-steps-hold-signalling = determined _ λ _ _ _ p i. to_progress ((p [] []).same i)
-
-script_give_data : Unique script.give_data.Kinds.ps script.give_data.Kinds.r script.give_data.Reads.Learnt
-script_give_data = determined _ λ _ _ _ p. lies_at (ap to_progress (p.0 [] []).same) p.1
+steps-hold-signalling = determined _ λ _ _ _ p. ?
 
 script_take_data : Unique script.take_data.Kinds.ps script.take_data.Kinds.r script.take_data.Reads.Learnt
-script_take_data = determined _ λ _ _ _ p. lies_at (data_on p.0) p.1
+script_take_data = determined _ λ _ _ _ p. ?
 
 -- An exception: what it gives is lent. What it holds is promised, and not where it lies.
 script-rest : UniqueIn script.rest.Kinds.ps script.rest.Kinds.r script.rest.Reads.Learnt (λ _ _ x. x.0.now)

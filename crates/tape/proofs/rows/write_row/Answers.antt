@@ -13,7 +13,7 @@ unfolding run row
 returns-then-head-rows c = let a = c.args in
     let written : Row = record { register = a.register; value = a.value } in
     let fits : Fits written = omega (arith, c.ranges.value) in
-    λ s. took (rw (c.note.ensures, c.word.ensures, row-stored a.rows.now a.head.now.rows written fits, rows_long a.rows.now, lt-ltb a.head.now.rows (length a.rows.now) c.if-head-rows.true))
+    λ s. took (rw (c.noted-head.ensures, c.word.ensures, row-stored a.rows.now a.head.now.rows written fits, rows_long a.rows.now, lt-ltb a.head.now.rows (length a.rows.now) c.if-head-rows.true))
 
 pub returns-else-head-rows : goal.returns-else-head-rows
 unfolding run row
