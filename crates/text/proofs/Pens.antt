@@ -46,5 +46,9 @@ pub made_over : {at : ℕ} {text buffer after : List ℕ} (start : Pen) {end : P
 made_over {at} {text} {buffer} start p h w e =
     rw (e, w) (and_then (nothing p) (laid_in start h))
 
+-- the same, of what two writings ensure
+pub and_written : (us vs : List ℕ) (before : Pen) {between after : Pen} → between ≡ written us before → after ≡ written vs between → after ≡ written (us ++ vs) before
+and_written us vs before p q = q ∙ ap (λ (b : Pen). written vs b) p ∙ sym (written_append us vs before)
+
 -- what texts that pens write one after the other need, for `using(..)`
 pub ruleset writing = (written_append, written_nothing)
