@@ -14,12 +14,12 @@ pub returns-then-n-words : goal.returns-then-n-words
 returns-then-n-words c = let a = c.args in record {
   grows = omega arith;
   holds = rw (c.after-next.ensures, c.began-start.ensures)
-      (by_word a.s a.at a.b a.words.now c.requires _ (sym c.completed.ensures ∙ c.in-Word.is) c.if-n-words.true);
+      (by_word a.s a.at a.b a.words.now c.requires _ (sym c.completed.ensures ∙ c.in-Some.is) c.if-n-words.true);
 }
 
 pub returns : goal.returns
 returns c = let a = c.args in record {
   grows = omega arith;
   holds = rw c.began-start.ensures
-      (by-full a.s a.at a.b a.words.now c.requires _ (sym c.completed.ensures ∙ c.in-Word.is) c.if-n-words.false);
+      (by-full a.s a.at a.b a.words.now c.requires _ (sym c.completed.ensures ∙ c.in-Some.is) c.if-n-words.false);
 }
