@@ -1,4 +1,5 @@
 pub mod Rows
+pub mod Numbers
 pub mod Causes
 pub mod Load
 pub mod Written

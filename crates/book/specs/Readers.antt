@@ -1,10 +1,10 @@
 -- The words of a book as the readers hand them out.
-use Rattle.std.specs.Prelude.{ℕ, ◌+◌, ◌*◌, ◌/◌, cond, ◌||◌, List, ltb, length, get_or, take, drop}
+use Rattle.std.specs.Prelude.{ℕ, ◌+◌, ◌*◌, ◌/◌, cond, ◌||◌, List, Option, Some, None, if◌then◌else◌, ◌==◌, ltb, length, get_or, take, drop}
 use Rattle.book.specs.Layout.{Call, call_in, calls_of, bad_book}
 use Rattle.book.specs.declared.layout.Asked.{Asked}
 use Rattle.book.specs.declared.layout.Heading.{Heading}
-use Rattle.book.specs.declared.layout.Opened.{Opened}
-use Rattle.book.specs.declared.layout.Opened.TheVariants as Opening
+use Rattle.book.specs.declared.layout.Kind.{Kind}
+use Rattle.book.specs.declared.layout.Kind.TheVariants.{Initialise, Read, Status, Write}
 
 abbrev pub heading_of : List ℕ → Heading
 heading_of ws =
@@ -17,6 +17,12 @@ heading_of ws =
       flags = get_or ws 5 0;
       calls = get_or ws 6 0;
     }
+
+-- the kind of a number, none of another
+abbrev pub kind_in : ℕ → Option Kind
+kind_in n =
+    if n == 1 then Some Initialise
+    else (if n == 2 then Some Read else (if n == 3 then Some Status else (if n == 4 then Some Write else None)))
 
 -- row k, counted from 0, with its body from a place on
 abbrev pub asked_at : List ℕ → ℕ → ℕ → Asked
@@ -37,7 +43,6 @@ call_asked ws x = call_in x.kind x.a x.b (take x.body_len (drop x.body_at ws))
 unfoldable pub calls_from : List ℕ → ℕ → ℕ → ℕ → List Call
 calls_from ws k place m = calls_of m (drop (7 + 4 * k) ws) (drop place ws)
 
--- what opening a file's bytes comes to, in a list of so many words
-unfoldable pub opened_of : List ℕ → ℕ → Opened
-opened_of bytes room =
-    cond (bad_book bytes || ltb room (length bytes / 4)) Opening.Bad (Opening.Words (length bytes / 4))
+-- what opening a file's bytes comes to, in a list of so many words: how many of them are the book's, or none
+unfoldable pub opened_of : List ℕ → ℕ → Option ℕ
+opened_of bytes room = cond (bad_book bytes || ltb room (length bytes / 4)) None (Some (length bytes / 4))

@@ -4,10 +4,7 @@ ghost use Rattle.std.specs.Prelude.{◌||◌, ◌≡◌, ◌*◌, ltb, length, g
 ghost use Rattle.text.specs.Ink.{inked, Laid};
 ghost use Rattle.types.specs.Words.{words_of};
 ghost use Rattle.book.specs.Layout.{data_count, contents_of, bad_row, bad_rows, body_words, bad_words};
-ghost use Rattle.book.specs.Readers.{heading_of, asked_at, opened_of};
-
-use text::pen;
-use types::words;
+ghost use Rattle.book.specs.Readers.{kind_in, heading_of, asked_at, opened_of};
 
 // The contents before the rows of the calls.
 #[derive(Clone, Copy)]
@@ -21,7 +18,32 @@ pub struct Heading {
     pub calls: u32,
 }
 
-// A call's row, and where its body lies: the data words of a write, and the script.
+// What a call does. A row has its number.
+#[derive(Clone, Copy, PartialEq, Eq, Debug)]
+pub enum Kind {
+    Initialise = 1,
+    Read = 2,
+    Status = 3,
+    Write = 4,
+}
+
+impl Kind {
+    // The kind of a number, none of another.
+    pub fn of(n: u32) -> Option<Kind>
+        ensures { result ≡ kind_in n }
+    {
+        match n {
+            1 => Some(Kind::Initialise),
+            2 => Some(Kind::Read),
+            3 => Some(Kind::Status),
+            4 => Some(Kind::Write),
+            _ => None,
+        }
+    }
+}
+
+// A call's row, and where its body lies: the data words of a write, and the script. It is as the words have it, judged or not,
+// so its kind is a number, which may be no kind's.
 #[derive(Clone, Copy)]
 pub struct Asked {
     pub kind: u32,
@@ -31,23 +53,14 @@ pub struct Asked {
     pub body_len: usize,
 }
 
-// A file's bytes as a book: so many words of the list, or none.
-#[derive(Clone, Copy)]
-pub enum Opened {
-    Words(usize),
-    Bad,
-}
-
 // Lays the bytes' words into the list, as far as they fit; gives how many.
 pub fn load(bytes: &[u8], words: &mut [u32]) -> usize
     ensures { Laid 0 (words_of bytes.now) words.old result words.new }
 {
-    let n = pen::least(bytes.len() / 4, words.len());
-    let mut i = 0;
-    while i < n {
+    let n = words.len().min(bytes.len() / 4);
+    for i in 0..n {
         let at = 4 * i;
-        words[i] = words::little(bytes[at], bytes[at + 1], bytes[at + 2], bytes[at + 3]);
-        i = i + 1;
+        words[i] = u32::from_le_bytes([bytes[at], bytes[at + 1], bytes[at + 2], bytes[at + 3]]);
     }
     n
 }
@@ -55,10 +68,7 @@ pub fn load(bytes: &[u8], words: &mut [u32]) -> usize
 pub fn word(words: &[u32], i: usize) -> u32
     ensures { result ≡ get_or words.now i 0 }
 {
-    if i < words.len() {
-        return words[i];
-    }
-    0
+    words.get(i).copied().unwrap_or(0)
 }
 
 pub fn head(words: &[u32]) -> Heading
@@ -98,58 +108,39 @@ pub fn contents(words: &[u32]) -> usize
 }
 
 // How many of a body's words are data: 128 a block of a write.
+#[tactic(auto, unfolding(crate::specs::Layout::data_count))]
 pub fn data_count(kind: u32, b: u32) -> usize
     ensures { result ≡ data_count kind b }
 {
-    if kind == 4 {
-        return 128 * b as usize;
+    if kind == Kind::Write as u32 {
+        128 * b as usize
+    } else {
+        0
     }
-    0
-}
-
-// More blocks than a book may ask to write, or a body shorter than their data.
-fn write_is_bad(b: u32, len: usize) -> bool
-    ensures { result ≡ ltb 16 b || ltb len (128 * b) }
-{
-    if b > 16 {
-        return true;
-    }
-    len < 128 * b as usize
 }
 
 // An unknown kind, a or b nonzero where 0 is due, over 16 blocks, or a write's body shorter than its data.
-fn row_is_bad(kind: u32, a: u32, b: u32, len: usize) -> bool
-    ensures { result ≡ bad_row kind a b len }
+#[tactic(auto, unfolding(crate::specs::Layout::bad_row))]
+fn row_is_bad(row: Asked) -> bool
+    ensures { result ≡ bad_row row.kind row.a row.b row.body_len }
 {
-    if kind == 1 {
-        return b != 0;
+    match Kind::of(row.kind) {
+        Some(Kind::Initialise) => row.b != 0,
+        Some(Kind::Read) => row.b > 16,
+        Some(Kind::Status) => row.a != 0 || row.b != 0,
+        Some(Kind::Write) => row.b > 16 || row.body_len < 128 * row.b as usize,
+        None => true,
     }
-    if kind == 2 {
-        return b > 16;
-    }
-    if kind == 3 {
-        if a != 0 {
-            return true;
-        }
-        return b != 0;
-    }
-    if kind == 4 {
-        return write_is_bad(b, len);
-    }
-    true
 }
 
 // Whether one of the first n rows is bad.
 fn rows_are_bad(words: &[u32], n: u32) -> bool
     ensures { result ≡ bad_rows n (drop 7 words.now) }
 {
-    let mut k = 0;
-    while k < n {
-        let row = call_at(words, k, 0);
-        if row_is_bad(row.kind, row.a, row.b, row.body_len) {
+    for k in 0..n {
+        if row_is_bad(call_at(words, k, 0)) {
             return true;
         }
-        k = k + 1;
     }
     false
 }
@@ -159,11 +150,8 @@ fn body_words(words: &[u32], n: u32) -> usize
     ensures { result ≡ body_words n (drop 7 words.now) }
 {
     let mut sum = 0;
-    let mut k = 0;
-    while k < n {
-        let row = call_at(words, k, 0);
-        sum = sum + row.body_len;
-        k = k + 1;
+    for k in 0..n {
+        sum += call_at(words, k, 0).body_len;
     }
     sum
 }
@@ -200,20 +188,20 @@ pub fn is_bad(words: &[u32]) -> bool
     body_words(words, calls) != words.len() - rest_at
 }
 
-// Loads a book, and judges it. A list of 4,096 words has room for every book.
-pub fn open(bytes: &[u8], words: &mut [u32]) -> Opened
+// Loads a book, and judges it: so many words of the list, or none. A list of 4,096 words has room for every book.
+pub fn open(bytes: &[u8], words: &mut [u32]) -> Option<usize>
     ensures answered { result ≡ opened_of bytes.now (length words.old) }
     ensures laid { words.new ≡ inked 0 (words_of bytes.now) words.old }
 {
     let n = load(bytes, words);
     if bytes.len() % 4 != 0 {
-        return Opened::Bad;
+        return None;
     }
     if n < bytes.len() / 4 {
-        return Opened::Bad;
+        return None;
     }
     if is_bad(&words[..n]) {
-        return Opened::Bad;
+        return None;
     }
-    Opened::Words(n)
+    Some(n)
 }

@@ -1,9 +1,9 @@
 // The blocks that a read laid down.
 ghost use Rattle.std.specs.Prelude.{◌≡◌, ◌+◌, ◌*◌, ◌<◌, get_or};
-ghost use Rattle.text.specs.Ink.{Laid};
+ghost use Rattle.text.specs.Pens.{written};
 ghost use Rattle.report.specs.Report.{bytes_text, block_line, blocks_text};
 
-use text::pen;
+use text::pen::Pen;
 
 // Byte k of block i. A block past the buffer is told before its place is computed, which might not fit.
 fn block_byte(buffer: &[u8], i: usize, k: usize) -> u8
@@ -14,42 +14,33 @@ fn block_byte(buffer: &[u8], i: usize, k: usize) -> u8
         return 0;
     }
     let at = 512 * i + k;
-    if at < buffer.len() {
-        return buffer[at];
-    }
-    0
+    buffer.get(at).copied().unwrap_or(0)
 }
 
 // The bytes of block i, two digits each.
-fn put_bytes(out: &mut [u8], at: usize, buffer: &[u8], i: usize) -> usize
-    ensures { Laid at (bytes_text 512 (512 * i) buffer.now) out.old result out.new }
+#[tactic(auto, using(text::proofs::Pens::writing, crate::proofs::Lines::more))]
+fn put_bytes(pen: &mut Pen<'_>, buffer: &[u8], i: usize)
+    ensures { pen.new ≡ written (bytes_text 512 (512 * i) buffer.now) pen.old }
 {
-    let mut place = pen::least(at, out.len());
-    let mut k = 0;
-    while k < 512 {
-        place = pen::put_hex(out, place, 2, block_byte(buffer, i, k) as u64);
-        k = k + 1;
+    for k in 0..512 {
+        pen.put_hex(2, block_byte(buffer, i, k) as u64);
     }
-    place
 }
 
-fn put_block(out: &mut [u8], at: usize, buffer: &[u8], i: usize) -> usize
-    ensures { Laid at (block_line i buffer.now) out.old result out.new }
+fn put_block(pen: &mut Pen<'_>, buffer: &[u8], i: usize)
+    ensures { pen.new ≡ written (block_line i buffer.now) pen.old }
 {
-    let named = pen::put(out, at, b"block ");
-    let told = put_bytes(out, named, buffer, i);
-    pen::put_byte(out, told, b'\n')
+    pen.put(b"block ");
+    put_bytes(pen, buffer, i);
+    pen.put_byte(b'\n');
 }
 
 // The first n blocks of the buffer.
-pub fn put_blocks(out: &mut [u8], at: usize, buffer: &[u8], n: usize) -> usize
-    ensures { Laid at (blocks_text n buffer.now) out.old result out.new }
+#[tactic(auto, using(text::proofs::Pens::writing, crate::proofs::Lines::more))]
+pub fn put_blocks(pen: &mut Pen<'_>, buffer: &[u8], n: usize)
+    ensures { pen.new ≡ written (blocks_text n buffer.now) pen.old }
 {
-    let mut place = pen::least(at, out.len());
-    let mut i = 0;
-    while i < n {
-        place = put_block(out, place, buffer, i);
-        i = i + 1;
+    for i in 0..n {
+        put_block(pen, buffer, i);
     }
-    place
 }

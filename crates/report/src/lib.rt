@@ -1,6 +1,6 @@
 // What happened in a call, as text in a lent buffer: its rows, the word its answer carries, the host it left, and what it
 // read.
-#![tactic(auto)]
+#![tactic(auto, using(text::proofs::Pens::writing))]
 
 pub mod rows; // rows.rt: the rows, and the word that the answer carries
 pub mod status; // status.rt: the words of an SD status

@@ -1,67 +1,51 @@
 // The rows that a call wrote, and the word that its answer carries.
-ghost use Rattle.std.specs.Prelude.{◌≡◌, ◌++◌, get_or};
-ghost use Rattle.text.specs.Digits.{decimal_of};
-ghost use Rattle.text.specs.Ink.{Laid};
+ghost use Rattle.std.specs.Prelude.{◌≡◌, get_or};
+ghost use Rattle.text.specs.Pens.{written};
 ghost use Rattle.tape.specs.Layout.{row_of, rows_in};
 ghost use Rattle.report.specs.Report.{row_text, row_line, rows_text, carried_text};
 
 use tape::rows::Row;
-use text::pen;
+use text::pen::Pen;
 use types::error::Answer;
-
-pub fn put_named(out: &mut [u8], at: usize, name: &[u8], n: u64) -> usize
-    ensures { Laid at (name.now ++ decimal_of n) out.old result out.new }
-{
-    let place = pen::put(out, at, name);
-    pen::put_decimal(out, place, n)
-}
 
 // Row i, of zeros where it is past the list.
 fn row_at(rows: &[u64], i: usize) -> Row
     ensures { result ≡ get_or (rows_in rows.now) i (row_of 0) }
 {
-    if rows.len() <= i {
-        return Row::of(0);
-    }
-    Row::of(rows[i])
+    Row::of(rows.get(i).copied().unwrap_or(0))
 }
 
-pub fn put_row(out: &mut [u8], at: usize, register: u32, value: u32) -> usize
-    ensures { Laid at (row_text register value) out.old result out.new }
+pub fn put_row(pen: &mut Pen<'_>, register: u32, value: u32)
+    ensures { pen.new ≡ written (row_text register value) pen.old }
 {
-    let named = put_named(out, at, b"row ", register as u64);
-    put_named(out, named, b" ", value as u64)
+    pen.put_named(b"row ", register as u64);
+    pen.put_named(b" ", value as u64);
 }
 
-fn put_line(out: &mut [u8], at: usize, register: u32, value: u32) -> usize
-    ensures { Laid at (row_line register value) out.old result out.new }
+fn put_line(pen: &mut Pen<'_>, row: Row)
+    ensures { pen.new ≡ written (row_line row.register row.value) pen.old }
 {
-    let told = put_row(out, at, register, value);
-    pen::put_byte(out, told, b'\n')
+    put_row(pen, row.register, row.value);
+    pen.put_byte(b'\n');
 }
 
 // The first n rows of the list.
-pub fn put_rows(out: &mut [u8], at: usize, rows: &[u64], n: usize) -> usize
-    ensures { Laid at (rows_text n (rows_in rows.now)) out.old result out.new }
+#[tactic(auto, using(text::proofs::Pens::writing, crate::proofs::Lines::more))]
+pub fn put_rows(pen: &mut Pen<'_>, rows: &[u64], n: usize)
+    ensures { pen.new ≡ written (rows_text n (rows_in rows.now)) pen.old }
 {
-    let mut place = pen::least(at, out.len());
-    let mut i = 0;
-    while i < n {
-        let row = row_at(rows, i);
-        place = put_line(out, place, row.register, row.value);
-        i = i + 1;
+    for i in 0..n {
+        put_line(pen, row_at(rows, i));
     }
-    place
 }
 
 // The card's status word, at the answer that carries one; nothing at any other.
-pub fn put_carried(out: &mut [u8], at: usize, answer: Answer) -> usize
-    ensures { Laid at (carried_text answer) out.old result out.new }
+pub fn put_carried(pen: &mut Pen<'_>, answer: Answer)
+    ensures { pen.new ≡ written (carried_text answer) pen.old }
 {
     if answer.number() == 10 {
-        let named = pen::put(out, at, b"carried ");
-        let told = pen::put_hex(out, named, 8, answer.word() as u64);
-        return pen::put_byte(out, told, b'\n');
+        pen.put(b"carried ");
+        pen.put_hex(8, answer.word() as u64);
+        pen.put_byte(b'\n');
     }
-    pen::least(at, out.len())
 }

@@ -1,59 +1,48 @@
 // The host that a call left: its line, and the record of its card.
 ghost use Rattle.std.specs.Prelude.{◌≡◌, ◌++◌};
-ghost use Rattle.types.specs.Answer.{flag};
-ghost use Rattle.text.specs.Ink.{Laid};
+ghost use Rattle.text.specs.Pens.{written};
 ghost use Rattle.text.specs.Typed.{typed};
 ghost use Rattle.report.specs.Report.{signalling_text, line_text, held_text, state_text};
 
-use crate::{record, rows};
+use crate::record;
 use host::host::Sdmmc;
 use tape::progress::Line;
-use text::pen;
+use text::pen::Pen;
 use types::card::{Card, Signalling};
 
-fn digit(on: bool) -> u64
-    ensures { result ≡ flag on }
-{
-    if on { 1 } else { 0 }
-}
-
-fn put_signalling(out: &mut [u8], at: usize, signalling: Signalling) -> usize
-    ensures { Laid at (typed " signalling=" ++ signalling_text signalling) out.old result out.new }
+fn put_signalling(pen: &mut Pen<'_>, signalling: Signalling)
+    ensures { pen.new ≡ written (typed " signalling=" ++ signalling_text signalling) pen.old }
 {
     match signalling {
-        Signalling::SDR12 => pen::put(out, at, b" signalling=SDR12"),
-        Signalling::SDR25 => pen::put(out, at, b" signalling=SDR25"),
+        Signalling::SDR12 => pen.put(b" signalling=SDR12"),
+        Signalling::SDR25 => pen.put(b" signalling=SDR25"),
     }
 }
 
-fn put_line(out: &mut [u8], at: usize, line: Line) -> usize
-    ensures { Laid at (line_text line) out.old result out.new }
+fn put_line(pen: &mut Pen<'_>, line: Line)
+    ensures { pen.new ≡ written (line_text line) pen.old }
 {
-    let clock = line.clock;
-    let signalling = line.signalling;
-    let clocked = rows::put_named(out, at, b"state clock=", clock.0 as u64);
-    let told = put_signalling(out, clocked, signalling);
-    let gated = rows::put_named(out, told, b" gated=", digit(line.gated));
-    rows::put_named(out, gated, b" clkcr=", line.clkcr as u64)
+    pen.put_named(b"state clock=", line.clock.0 as u64);
+    put_signalling(pen, line.signalling);
+    pen.put_named(b" gated=", line.gated as u64);
+    pen.put_named(b" clkcr=", line.clkcr as u64);
 }
 
-fn put_held(out: &mut [u8], at: usize, known: bool, card: Card) -> usize
-    ensures { Laid at (held_text known card) out.old result out.new }
+fn put_held(pen: &mut Pen<'_>, known: bool, card: Card)
+    ensures { pen.new ≡ written (held_text known card) pen.old }
 {
-    let place = pen::put(out, at, b" record=");
+    pen.put(b" record=");
     if known {
-        record::put_record(out, place, card)
+        record::put_record(pen, card);
     } else {
-        pen::put(out, place, b"none")
+        pen.put(b"none");
     }
 }
 
-pub fn put_state(out: &mut [u8], at: usize, host: Sdmmc) -> usize
-    ensures { Laid at (state_text host) out.old result out.new }
+pub fn put_state(pen: &mut Pen<'_>, host: Sdmmc)
+    ensures { pen.new ≡ written (state_text host) pen.old }
 {
-    let line = host.line;
-    let card = host.card;
-    let lined = put_line(out, at, line);
-    let told = put_held(out, lined, host.known, card);
-    pen::put_byte(out, told, b'\n')
+    put_line(pen, host.line);
+    put_held(pen, host.known, host.card);
+    pen.put_byte(b'\n');
 }

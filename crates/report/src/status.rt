@@ -1,28 +1,27 @@
 // The words of an SD status.
-ghost use Rattle.text.specs.Ink.{Laid};
+ghost use Rattle.std.specs.Prelude.{◌≡◌};
+ghost use Rattle.text.specs.Pens.{written};
 ghost use Rattle.report.specs.Report.{words_text, status_text};
 
 use book::layout;
-use text::pen;
+use text::pen::Pen;
 
 // Sixteen words, eight digits each, joined by colons.
-pub fn put_words(out: &mut [u8], at: usize, words: &[u32]) -> usize
-    ensures { Laid at (words_text 15 words.now) out.old result out.new }
+#[tactic(auto, using(text::proofs::Pens::writing, crate::proofs::Lines::more))]
+pub fn put_words(pen: &mut Pen<'_>, words: &[u32])
+    ensures { pen.new ≡ written (words_text 15 words.now) pen.old }
 {
-    let mut place = pen::put_hex(out, at, 8, layout::word(words, 0) as u64);
-    let mut i = 0;
-    while i < 15 {
-        let joined = pen::put_byte(out, place, b':');
-        place = pen::put_hex(out, joined, 8, layout::word(words, i + 1) as u64);
-        i = i + 1;
+    pen.put_hex(8, layout::word(words, 0) as u64);
+    for i in 1..16 {
+        pen.put_byte(b':');
+        pen.put_hex(8, layout::word(words, i) as u64);
     }
-    place
 }
 
-pub fn put_status(out: &mut [u8], at: usize, status: [u32; 16]) -> usize
-    ensures { Laid at (status_text status) out.old result out.new }
+pub fn put_status(pen: &mut Pen<'_>, status: [u32; 16])
+    ensures { pen.new ≡ written (status_text status) pen.old }
 {
-    let named = pen::put(out, at, b"status ");
-    let told = put_words(out, named, &status);
-    pen::put_byte(out, told, b'\n')
+    pen.put(b"status ");
+    put_words(pen, &status);
+    pen.put_byte(b'\n');
 }

@@ -1,4 +1,5 @@
 pub mod Orders
 pub mod Ink
+pub mod Pens
 pub mod Decimal
 pub mod Hex

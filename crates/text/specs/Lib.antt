@@ -1,4 +1,5 @@
 pub mod Typed
 pub mod Ink
+pub mod Pens
 pub mod Digits
 pub mod Cases

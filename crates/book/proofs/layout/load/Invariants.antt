@@ -1,4 +1,3 @@
-use Prim.Native.Nat.{◌-◌, ◌≤◌}
 use mathlib.Core.Path.{◌≡◌}
 use lib.ListN.{length, take}
 use Rattle.text.specs.Ink.{inked}
@@ -6,7 +5,4 @@ use Rattle.types.specs.Words.{words_of}
 use Rattle.book.proofs.layout.load.Given as goal
 
 abbrev pub invariant-loop-i : goal.invariant-loop-i
-invariant-loop-i l = (l.words ≡ inked 0 (take l.i (words_of l.bytes)) l.initial.words) × (l.i ≤ l.n) × (length l.words ≡ length l.initial.words)
-
-abbrev pub decreases-loop-i : goal.decreases-loop-i
-decreases-loop-i l = l.n - l.i
+invariant-loop-i l = (l.words ≡ inked 0 (take l.i (words_of l.bytes)) l.initial.words) × (length l.words ≡ length l.initial.words)

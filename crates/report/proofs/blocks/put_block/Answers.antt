@@ -1,5 +1,5 @@
-use Rattle.text.proofs.Ink.{and_then}
+use Rattle.text.proofs.Pens.{and_written}
 use Rattle.report.proofs.blocks.put_block.Goals as goal
 
 pub returns : goal.returns
-returns c = and_then (and_then c.put-named.ensures c.put_bytes-told.ensures) c.put_byte.ensures
+returns c = and_written _ _ _ (and_written _ _ _ c.put.ensures c.put_bytes.ensures) c.put_byte.ensures

@@ -1,11 +1,8 @@
-use Prim.Native.Nat.{◌-◌, ◌≤◌}
-use Rattle.text.specs.Ink.{Laid}
+use mathlib.Core.Path.{◌≡◌}
+use Rattle.text.specs.Pens.{written}
 use Rattle.report.specs.Report.{blocks_text}
 use Rattle.report.proofs.blocks.put_blocks.Given as goal
 
--- the first i blocks are laid in
+-- the first i blocks are written
 abbrev pub invariant-loop-i : goal.invariant-loop-i
-invariant-loop-i l = Laid l.at (blocks_text l.i l.buffer) l.initial.out l.place l.out × (l.i ≤ l.n)
-
-abbrev pub decreases-loop-i : goal.decreases-loop-i
-decreases-loop-i l = l.n - l.i
+invariant-loop-i l = l.pen ≡ written (blocks_text l.i l.buffer) l.fn.pen

@@ -1,5 +1,5 @@
-use Rattle.text.proofs.Ink.{and_then}
+use Rattle.text.proofs.Pens.{and_written}
 use Rattle.report.proofs.record.put_contents.Goals as goal
 
 pub returns : goal.returns
-returns c = and_then (and_then c.put_byte-place.ensures c.put_words-told.ensures) c.put_named.ensures
+returns c = and_written _ _ _ (and_written _ _ _ c.put_byte.ensures c.put_words.ensures) c.put_named.ensures

@@ -1,5 +1,5 @@
-use Rattle.text.proofs.Ink.{and_then}
+use Rattle.text.proofs.Pens.{and_written}
 use Rattle.report.proofs.record.put_registers.Goals as goal
 
 pub returns : goal.returns
-returns c = and_then (and_then c.put_wide-first.ensures c.put_wide-second.ensures) c.put_number.ensures
+returns c = and_written _ _ _ (and_written _ _ _ c.put_wide.ensures c.put_wide-2.ensures) c.put_number.ensures

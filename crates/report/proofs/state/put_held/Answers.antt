@@ -1,12 +1,8 @@
-use mathlib.Core.Bool.{true, false}
-use mathlib.Core.Path.{◌≡◌}
-use Rattle.text.proofs.Ink.{and_then}
+use Rattle.text.proofs.Pens.{and_written}
 use Rattle.report.proofs.state.put_held.Goals as goal
 
 pub returns-then-known : goal.returns-then-known
-returns-then-known c = let known : c.args.known ≡ true = c.if-known.true in
-    rw known (and_then c.put-place.ensures c.put_record.ensures)
+returns-then-known c = rw c.if-known.true (and_written _ _ _ c.put.ensures c.put_record.ensures)
 
 pub returns-else-known : goal.returns-else-known
-returns-else-known c = let unknown : c.args.known ≡ false = c.if-known.false in
-    rw unknown (and_then c.put-place.ensures c.put.ensures)
+returns-else-known c = rw c.if-known.false (and_written _ _ _ c.put.ensures c.put-else-known.ensures)

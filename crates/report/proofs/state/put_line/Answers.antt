@@ -1,6 +1,5 @@
-use Rattle.text.proofs.Ink.{and_then}
+use Rattle.text.proofs.Pens.{and_written}
 use Rattle.report.proofs.state.put_line.Goals as goal
 
 pub returns : goal.returns
-returns c = let gated = rw c.digit.ensures at c.put_named-gated.ensures in
-    and_then (and_then (and_then c.put_named-clocked.ensures c.put_signalling-told.ensures) gated) c.put_named.ensures
+returns c = and_written _ _ _ (and_written _ _ _ (and_written _ _ _ c.put_named.ensures c.put_signalling.ensures) c.put_named-2.ensures) c.put_named-3.ensures

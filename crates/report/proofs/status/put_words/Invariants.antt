@@ -1,12 +1,9 @@
-use Prim.Native.Nat.{ℕ, ◌-◌, ◌≤◌}
-use mathlib.Core.List.{List}
-use Rattle.text.specs.Ink.{Laid}
+use Prim.Native.Nat.{◌-◌}
+use mathlib.Core.Path.{◌≡◌}
+use Rattle.text.specs.Pens.{written}
 use Rattle.report.specs.Report.{words_text}
 use Rattle.report.proofs.status.put_words.Given as goal
 
--- the words up to word i are laid in, once word 0 is
+-- the words before word i are written
 abbrev pub invariant-loop-i : goal.invariant-loop-i
-invariant-loop-i l = ((first : List ℕ) → Laid l.at (words_text 0 l.words) first l.initial.place l.initial.out → Laid l.at (words_text l.i l.words) first l.place l.out) × (l.i ≤ 15)
-
-abbrev pub decreases-loop-i : goal.decreases-loop-i
-decreases-loop-i l = 15 - l.i
+invariant-loop-i l = l.pen ≡ written (words_text (l.i - 1) l.words) l.fn.pen
