@@ -1,5 +1,5 @@
 -- What a reading of a whole buffer comes to: how many bytes came before the input's end, or why they did not come whole.
-use Rattle.std.specs.Prelude.{ℕ, ◌<◌, Option, Result, Ok, Err, List, length, take}
+use Rattle.std.specs.Prelude.{ℕ, ◌<◌, ◌≤◌, Option, Result, Ok, Err, List, length, take}
 use Rattle.std.specs.Io.KnownBytes.{Consumes, IsAtEnd}
 use Rattle.desk.specs.declared.input.InputError.{InputError}
 use Rattle.desk.specs.declared.input.InputError.TheVariants.{Full, Failed}
@@ -17,3 +17,8 @@ abbrev pub Reads : Option (List ℕ) → Option (List ℕ) → Result ℕ InputE
 Reads old new (Ok n) buffer = Consumes old new (take n buffer) × IsAtEnd new
 Reads old new (Err Full) buffer = Consumes old new buffer
 Reads old new (Err (Failed why)) buffer = (n : ℕ) × (n < length buffer) × Consumes old new (take n buffer)
+
+-- the same, where a buffer that is full is handed on like one that is not
+abbrev pub Begins : {E : Type 0} → Option (List ℕ) → Option (List ℕ) → Result ℕ E → List ℕ → Type 0
+Begins old new (Ok n) buffer = (n ≤ length buffer) × Consumes old new (take n buffer) × (n < length buffer → IsAtEnd new)
+Begins old new (Err why) buffer = 0 < length buffer

@@ -11,6 +11,9 @@ name_text Cardtrace = typed "cardtrace"
 name_text Cardpile = typed "cardpile"
 name_text Cardsteps = typed "cardsteps"
 
+abbrev pub error_text : ArgumentError → List ℕ
+error_text TooMany = typed ": at most one argument, the rows of room for a call\n"
+error_text NoRoom = typed ": room must be a number from 0 to 4096\n"
+
 unfoldable pub refusal_text : Program → ArgumentError → List ℕ
-refusal_text program TooMany = name_text program ++ typed ": at most one argument, the rows of room for a call\n"
-refusal_text program NoRoom = name_text program ++ typed ": room must be a number from 0 to 4096\n"
+refusal_text program error = name_text program ++ error_text error

@@ -1,7 +1,7 @@
 // All of standard input.
 ghost use Rattle.std.specs.Prelude.{◌≡◌, length};
 ghost use Rattle.desk.specs.declared.input.InputError.TheVariants.{Failed};
-ghost use Rattle.desk.specs.Input.{Reads, Within};
+ghost use Rattle.desk.specs.Input.{Begins, Reads, Within};
 
 use std::io;
 use std::io::Read;
@@ -37,4 +37,16 @@ pub fn read_all<R: Read>(buffer: &mut [u8], source: &mut Source<R>) -> Result<us
         done += more;
     }
     Err(InputError::Full)
+}
+
+// Reads a book, and answers how many of its bytes are in the buffer. A buffer that was filled has more bytes than a book may
+// have, so it is no book whatever follows, and all of it is handed on.
+pub fn read_book<R: Read>(buffer: &mut [u8], source: &mut Source<R>) -> io::Result<usize>
+    ensures { Begins (R.remaining source.old.from) (R.remaining source.new.from) result buffer.new }
+{
+    match read_all(buffer, source) {
+        Ok(count) => Ok(count),
+        Err(InputError::Full) => Ok(buffer.len()),
+        Err(InputError::Failed(why)) => Err(why),
+    }
 }

@@ -2,13 +2,13 @@
 ghost use Rattle.std.specs.Prelude.{◌≡◌, ◌≤◌, length, take};
 ghost use Rattle.text.specs.Ink.{Laid};
 ghost use Rattle.desk.specs.Room.{room_of, wish_of, Wishes, Fits};
-ghost use Rattle.desk.specs.Refusal.{name_text, refusal_text};
+ghost use Rattle.desk.specs.Refusal.{name_text, error_text, refusal_text};
 
 use std::env::Env;
 use std::io::Write;
 use streams::arguments;
 use streams::sink::Sink;
-use text::pen;
+use text::pen::Pen;
 
 // A call has at most this room, and this where nothing else is asked for.
 pub const MOST: usize = 4096;
@@ -77,13 +77,27 @@ fn argument(count: usize, word: &mut [u8], env: &impl Env) -> Result<usize, Argu
     judged(count, &word[..n])
 }
 
-fn put_name(out: &mut [u8], program: Program) -> usize
-    ensures { Laid 0 (name_text program) out.old result out.new }
-{
-    match program {
-        Program::Cardtrace => pen::put(out, 0, b"cardtrace"),
-        Program::Cardpile => pen::put(out, 0, b"cardpile"),
-        Program::Cardsteps => pen::put(out, 0, b"cardsteps"),
+impl Program {
+    fn name(self) -> &'static [u8]
+        ensures { result.now ≡ name_text self }
+    {
+        match self {
+            Program::Cardtrace => b"cardtrace",
+            Program::Cardpile => b"cardpile",
+            Program::Cardsteps => b"cardsteps",
+        }
+    }
+}
+
+impl ArgumentError {
+    // What is said of it behind the program's name.
+    fn text(self) -> &'static [u8]
+        ensures { result.now ≡ error_text self }
+    {
+        match self {
+            ArgumentError::TooMany => b": at most one argument, the rows of room for a call\n",
+            ArgumentError::NoRoom => b": room must be a number from 0 to 4096\n",
+        }
     }
 }
 
@@ -93,15 +107,10 @@ fn put_refusal(out: &mut [u8], program: Program, error: ArgumentError) -> usize
     ensures whole { take result out.new ≡ refusal_text program error }
     ensures laid { Laid 0 (refusal_text program error) out.old result out.new }
 {
-    let named = put_name(out, program);
-    match error {
-        ArgumentError::TooMany => pen::put(
-            out,
-            named,
-            b": at most one argument, the rows of room for a call\n",
-        ),
-        ArgumentError::NoRoom => pen::put(out, named, b": room must be a number from 0 to 4096\n"),
-    }
+    let mut pen = Pen::new(out, 0);
+    pen.put(program.name());
+    pen.put(error.text());
+    pen.at
 }
 
 fn tell<W: Write>(program: Program, error: ArgumentError, errors: &mut Sink<W>) {
