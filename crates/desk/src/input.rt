@@ -45,8 +45,7 @@ pub fn read_book<R: Read>(buffer: &mut [u8], source: &mut Source<R>) -> io::Resu
     ensures { Begins (R.remaining source.old.from) (R.remaining source.new.from) result buffer.new }
 {
     match read_all(buffer, source) {
-        Ok(count) => Ok(count),
-        Err(InputError::Full) => Ok(buffer.len()),
         Err(InputError::Failed(why)) => Err(why),
+        read => Ok(read.unwrap_or(buffer.len())),
     }
 }
