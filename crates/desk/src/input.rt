@@ -29,6 +29,7 @@ pub fn read_all<R: Read>(buffer: &mut [u8], source: &mut Source<R>) -> Result<us
     ensures bytes { Reads (R.remaining source.old.from) (R.remaining source.new.from) result buffer.new }
 {
     let mut done = 0;
+    // how far a turn comes is what the reading says, so there is no range to go through
     while done < buffer.len() {
         let more = source.get(&mut buffer[done..])?;
         if more == 0 {

@@ -44,6 +44,7 @@ fn skip<R: Read>(count: usize, source: &mut Source<R>) -> Result<(), PileError>
 {
     let mut chunk = [0u8; CHUNK];
     let mut left = count;
+    // a range over the chunks would leave the size of the last to be worked out beside it
     while left > 0 {
         let now = left.min(CHUNK);
         fill(&mut chunk[..now], source)?;

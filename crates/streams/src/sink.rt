@@ -5,6 +5,7 @@ ghost use Rattle.std.specs.Io.KnownBytes.{Appends};
 use std::io;
 use std::io::Write;
 
+// A program writes through this alone: what a writing answers stands in one place, whatever the writer.
 #[derive(Drop)]
 pub struct Sink<W> {
     pub to: W,

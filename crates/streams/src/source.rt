@@ -6,6 +6,7 @@ ghost use Rattle.streams.specs.Moved.{Moved};
 use std::io;
 use std::io::Read;
 
+// A program reads through this alone: what a reading may answer stands in one place, whatever the reader.
 #[derive(Drop)]
 pub struct Source<R> {
     pub from: R,

@@ -18,28 +18,23 @@ fn step(s: Scan, at: usize, b: u8, words: &mut [u32]) -> Scan
     ensures grows { s.count ≤ result.count }
     ensures holds { Holds (step (length words.old) at (state_of s words.old) b) words.old result words.new }
 {
-    let next = s.token.after(b);
+    let token = s.token.after(b);
     let start = s.token.began(at, s.start);
-    let n = s.count;
     let Some(word) = s.token.completed(b) else {
-        return Scan {
-            token: next,
-            start,
-            count: n,
-        };
+        return Scan { token, start, ..s };
     };
-    if n < words.len() {
-        words[n] = word;
+    if s.count < words.len() {
+        words[s.count] = word;
         return Scan {
-            token: next,
+            token,
             start,
-            count: n + 1,
+            count: s.count + 1,
         };
     }
     Scan {
         token: Token::Wrong(Cause::TooMany),
         start,
-        count: n,
+        ..s
     }
 }
 
