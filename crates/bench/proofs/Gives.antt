@@ -2,14 +2,12 @@
 use Prim.Native.Nat.{ℕ, ◌/◌}
 use mathlib.Core.Bool.{Bool, true, false, cond}
 use mathlib.Core.List.{List, [], ◌++◌}
-use mathlib.Core.Path.{◌≡◌, refl, subst}
+use mathlib.Core.Path.{◌≡◌, refl}
 use lib.Dec.{eqb}
 use lib.ListN.{length}
 use Rattle.types.specs.declared.error.Answer.{Answer}
 use Rattle.types.specs.declared.error.Answer.TheVariants as Answered
 use Rattle.tape.specs.declared.rows.Row.{Row}
-use Rattle.text.specs.Ink.{Laid}
-use Rattle.text.proofs.Ink.{and_then}
 use Rattle.host.specs.declared.host.Called.{Called}
 use Rattle.host.specs.declared.host.Sdmmc.{Sdmmc}
 use Rattle.host.specs.Calls.{Came, called_of, blocks_filled}
@@ -57,25 +55,25 @@ of-kind l lent c = by (eqb c.kind 1) (eqb c.kind 2) (eqb c.kind 4)
     by false false true = refl
     by false false false = refl
 
-pub its_line : (number : ℕ) (l : List Row) (lent : List ℕ) (c : L.Call) (x : Came) {called : Called} {from : ℕ} {out : List ℕ} {at : ℕ} {out' : List ℕ}
-    → called ≡ called_of x
-    → Laid from (call_line number c.kind called.answer called.words called.rows called.host.card.protection) out at out'
-    → Laid from (came_line number (call_with l lent c) x) out at out'
-its_line number l lent c x e line = rw (e, of-kind l lent c) at line
+by_test : (number m n : ℕ) (c : Called) → eqb m 1 ≡ eqb n 1 → call_line number m c.answer c.words c.rows c.host.card.protection ≡ call_line number n c.answer c.words c.rows c.host.card.protection
+by_test number m n c e = rw e
+
+pub its_line : (number : ℕ) (l : List Row) (lent : List ℕ) (c : L.Call) (x : Came) {called : Called} → called ≡ called_of x
+    → call_line number c.kind called.answer called.words called.rows called.host.card.protection ≡ came_line number (call_with l lent c) x
+its_line number l lent c x e = rw e (by_test number c.kind (kind_of (call_with l lent c)) (called_of x) (of-kind l lent c))
 
 -- what is printed of a call, put together from what it came to
 module _ (number : ℕ) (host : Sdmmc) (l : List Row) (buffer ws : List ℕ) (asked : Asked) where
   abbrev call : S.Call
   call = asking l buffer ws asked
 
-  pub traced : {called : Called} {l' : List Row} {buffer' out : List ℕ} {at₁ : ℕ} {out₁ : List ℕ} {at₂ : ℕ} {out₂ : List ℕ} {at₃ : ℕ} {out₃ : List ℕ}
-      → called ≡ called_of (comes host call) → l' ≡ (comes host call).list → buffer' ≡ buffer_after call (comes host call) buffer
-      → Laid 0 (call_line number asked.kind called.answer called.words called.rows called.host.card.protection) out at₁ out₁
-      → Laid at₁ (rows_text called.rows l' ++ carried_text called.answer ++ state_text called.host) out₁ at₂ out₂
-      → Laid at₂ (where_accepted called.answer (kind_text asked.kind called.host (length buffer / 512) buffer')) out₂ at₃ out₃
-      → Laid 0 (traced_text number host l buffer ws asked) out at₃ out₃
-  traced {at₂ = at₂} {out₂ = out₂} {at₃ = at₃} {out₃ = out₃} ec el eb line happened given =
-      let given' = rw (ec, eb) at given in
-      let last = subst (λ (t : List ℕ). Laid at₂ t out₂ at₃ out₃)
-      (gave l buffer (call_asked ws asked) (comes host call) (buffer_after call (comes host call) buffer)) given' in
-      and_then (and_then (its_line number l buffer (call_asked ws asked) (comes host call) ec line) (rw (ec, el) at happened)) last
+  pub traced : {called : Called} {l' : List Row} {buffer' : List ℕ} → called ≡ called_of (comes host call) → l' ≡ (comes host call).list → buffer' ≡ buffer_after call (comes host call) buffer
+      → call_line number asked.kind called.answer called.words called.rows called.host.card.protection
+      ++ (rows_text called.rows l' ++ carried_text called.answer ++ state_text called.host)
+      ++ where_accepted called.answer (kind_text asked.kind called.host (length buffer / 512) buffer') ≡ traced_text number host l buffer ws asked
+  traced {l' = l'} {buffer' = buffer'} ec el eb =
+      let c = call_asked ws asked in
+      let x = comes host call in
+      let given : where_accepted x.answer (kind_text c.kind x.host (length buffer / 512) buffer') ≡ given_text (call_with l buffer c) x (buffer_after call x buffer) =
+      rw eb (gave l buffer c x (buffer_after call x buffer)) in
+      rw (its_line number l buffer c x ec, ec, el, given) refl

@@ -9,8 +9,7 @@ use lib.Dec.{ltb}
 use lib.ListN.{length, take}
 use Rattle.text.specs.Ink.{inked}
 use Rattle.text.proofs.Ink.{ink_length}
-use Rattle.book.specs.declared.layout.Opened.{Opened}
-use Rattle.book.specs.declared.layout.Opened.TheVariants as Opened'
+use Rattle.std.specs.Prelude.{Option, Some, None}
 use Rattle.types.specs.Words.{words_of}
 use Rattle.book.specs.Layout.{bad_words, bad_book}
 use Rattle.book.specs.Readers.{opened_of}
@@ -20,12 +19,12 @@ use Rattle.book.proofs.Opening.{opened_some}
 use Rattle.bench.specs.declared.trace.Opening.{Opening}
 use Rattle.bench.specs.Opens.{OpensAs}
 
-not-over : (bad over : Bool) (m n : ℕ) → cond (bad || over) Opened'.Bad (Opened'.Words m) ≡ Opened'.Words n → over ≡ false
+not-over : (bad over : Bool) (m n : ℕ) → cond (bad || over) None (Some m) ≡ Some n → over ≡ false
 not-over true over m n e = cc
 not-over false true m n e = cc
 not-over false false m n e = refl
 
-module _ (bytes words last : List ℕ) (n : ℕ) (o : opened_of bytes (length words) ≡ Opened'.Words n) (f : last ≡ inked 0 (words_of bytes) words) where
+module _ (bytes words last : List ℕ) (n : ℕ) (o : opened_of bytes (length words) ≡ Some n) (f : last ≡ inked 0 (words_of bytes) words) where
   room : length bytes / 4 ≤ length words
   unfolding opened_of
   room = ltb-false (length words) (length bytes / 4) (not-over (bad_book bytes) (ltb (length words) (length bytes / 4)) (length bytes / 4) n o)
@@ -48,6 +47,6 @@ pub opening-fits : (bytes words last : List ℕ) (r : Opening) → OpensAs (open
 unfolding OpensAs
 opening-fits bytes words last r so f = by (opened_of bytes (length words)) refl so
   where
-    by : (o : Opened) → opened_of bytes (length words) ≡ o → OpensAs o (words_of bytes) r → r.words ≤ length last
-    by (Opened'.Words n) e s = omega (arith, s.words, all_words bytes words last n e f, words-fit bytes words last n e f)
-    by Opened'.Bad e s = omega (arith, s.words)
+    by : (o : Option ℕ) → opened_of bytes (length words) ≡ o → OpensAs o (words_of bytes) r → r.words ≤ length last
+    by (Some n) e s = omega (arith, s.words, all_words bytes words last n e f, words-fit bytes words last n e f)
+    by None e s = omega (arith, s.words)

@@ -9,7 +9,7 @@ use Rattle.host.specs.declared.host.Sdmmc.{Sdmmc}
 use Rattle.host.specs.Calls.{made}
 use Rattle.calls.specs.Serve as S
 use Rattle.calls.specs.Serve.{comes}
-use Rattle.book.specs.declared.layout.Opened.TheVariants as Opening
+use Rattle.std.specs.Prelude as P
 use Rattle.book.specs.Layout as L
 use Rattle.book.specs.Layout.{count_of, contents_of, book_in}
 use Rattle.book.specs.Readers.{asked_at, call_asked}
@@ -22,7 +22,7 @@ use Rattle.bench.specs.Trace.{bytes_at, place_after, call_at, call_text, calls_t
 -- what opening a book prints comes first; its calls follow where there is a host
 pub first_piece : (ws : List ℕ) (room : ℕ)
     → book_text room (some (book_in ws))
-    ≡ head_of (Opening.Words (length ws)) ws
+    ≡ head_of (P.Some (length ws)) ws
     ++ where_accepted (made (settings_of (book_in ws))).answer (calls_text room 1 (made (settings_of (book_in ws))).host (calls_left ws 0 (contents_of ws)))
 unfolding head_of
 first_piece ws room =
@@ -30,7 +30,7 @@ first_piece ws room =
     ap (λ (cs : List L.Call). head_text m ++ where_accepted m.answer (calls_text room 1 m.host cs)) (all-calls ws)
 
 -- what is no book prints one line
-pub no_book_piece : (ws : List ℕ) (room : ℕ) → book_text room none ≡ head_of Opening.Bad ws
+pub no_book_piece : (ws : List ℕ) (room : ℕ) → book_text room none ≡ head_of P.None ws
 unfolding head_of
 no_book_piece ws room = refl
 

@@ -2,12 +2,13 @@
 use Prim.Native.Nat.{ℕ, suc, ◌+◌, ◌-◌, ◌≤◌, ◌<◌}
 use mathlib.Core.Bool.{false, ◌||◌}
 use mathlib.Core.List.{List, map}
-use mathlib.Core.Path.{◌≡◌, refl, sym, ◌∙◌}
+use mathlib.Core.Path.{◌≡◌, sym, ◌∙◌}
 use native.Mathlib.Nat.{sub-zero}
 use native.Mathlib.Omega.{arith}
-use lib.ListN.{length, get_or, drop}
-use Rattle.text.specs.Ink.{next, Laid}
-use Rattle.text.proofs.Ink.{ink_length, ink_nil, and_then}
+use lib.ListN.{get_or, drop}
+use Rattle.text.specs.Pens.{written}
+use Rattle.text.specs.declared.pen.Pen.{Pen}
+use Rattle.text.proofs.Pens.{written_append, written_nothing}
 use Rattle.host.specs.declared.host.Sdmmc.{Sdmmc}
 use Rattle.calls.specs.Serve.{serve}
 use Rattle.book.specs.Layout.{count_of, contents_of, bad_rows, book_in}
@@ -24,25 +25,17 @@ rest ws k place host = lines_served (k + 1) host (map (call_of 4096) (calls_left
 abbrev pub all : List ℕ → Sdmmc → List ℕ
 all ws host = lines_served 1 host (map (call_of 4096) (book_in ws).calls)
 
-pub record Serving (ws : List ℕ) (host₀ : Sdmmc) (at₀ : ℕ) (out₀ : List ℕ) (k : ℕ) (host : Sdmmc) (place at : ℕ) (out : List ℕ) : Type 0 where
+pub record Serving (ws : List ℕ) (host₀ : Sdmmc) (start : Pen) (k : ℕ) (host : Sdmmc) (place : ℕ) (pen : Pen) : Type 0 where
   pub reached : Reached ws k place
   pub good : bad_rows (count_of ws - k) (drop (row_at k) ws) ≡ false
-  pub long : length out ≡ length out₀
-  pub stands : at ≤ length out
-  pub whole : (p : ℕ) (b : List ℕ) → Laid at (rest ws k place host) out p b → Laid at₀ (all ws host₀) out₀ p b
+  pub whole : written (rest ws k place host) pen ≡ written (all ws host₀) start
 
-module _ {ws : List ℕ} {host₀ : Sdmmc} {at₀ : ℕ} {out₀ : List ℕ} where
-  pub first-turn : Good ws → at₀ ≤ length out₀ → Serving ws host₀ at₀ out₀ 0 host₀ (contents_of ws) at₀ out₀
-  first-turn g s =
-      record {
-        reached = reached-first ws g;
-        good = rw sub-zero g.rows;
-        long = refl;
-        stands = s;
-        whole = λ p b. rw (all-calls ws) (λ e. e);
-      }
+module _ {ws : List ℕ} {host₀ : Sdmmc} {start : Pen} where
+  pub first-turn : Good ws → Serving ws host₀ start 0 host₀ (contents_of ws) start
+  first-turn g =
+      record { reached = reached-first ws g; good = rw sub-zero g.rows; whole = rw (all-calls ws) }
 
-  module _ {k : ℕ} {host : Sdmmc} {place at : ℕ} {out : List ℕ} (t : Serving ws host₀ at₀ out₀ k host place at out) where
+  module _ {k : ℕ} {host : Sdmmc} {place : ℕ} {pen : Pen} (t : Serving ws host₀ start k host place pen) where
     -- row k is good, and so are those behind it
     goods : k < count_of ws → (bad_asked (asked_at ws k 0) || bad_rows (count_of ws - (k + 1)) (drop (row_at (k + 1)) ws)) ≡ false
     goods h =
@@ -52,23 +45,18 @@ module _ {ws : List ℕ} {host₀ : Sdmmc} {at₀ : ℕ} {out₀ : List ℕ} whe
     pub blocks-of : k < count_of ws → get_or ws (row_at k + 2) 0 ≤ 16
     blocks-of h = few-blocks _ _ _ _ (or_left _ _ (goods h))
 
-    pub next-turn : {host' : Sdmmc} {place' at' : ℕ} {out' : List ℕ} → k < count_of ws
-        → host' ≡ host_after host ws k place → place' ≡ place + get_or ws (row_at k + 3) 0 → Laid at (line_of host ws k place) out at' out'
-        → Serving ws host₀ at₀ out₀ (k + 1) host' place' at' out'
-    unfolding lines_from serve next
-    next-turn {host'} {place'} {at'} {out'} h he pe line =
-        let long : length out' ≡ length out = rw line.laid (ink_length at (line_of host ws k place) out) in
+    pub next-turn : {host' : Sdmmc} {place' : ℕ} {pen' : Pen} → k < count_of ws
+        → host' ≡ host_after host ws k place → place' ≡ place + get_or ws (row_at k + 3) 0 → pen' ≡ written (line_of host ws k place) pen
+        → Serving ws host₀ start (k + 1) host' place' pen'
+    unfolding lines_from serve
+    next-turn h he pe line =
         rw (he, pe)
         (record {
           reached = reached-next ws k place t.reached h;
           good = or_right (bad_asked (asked_at ws k 0)) _ (goods h);
-          long = long ∙ t.long;
-          stands = rw long (rw line.placed (omega arith));
-          whole = λ p b e. t.whole p b (rw (one-call ws k place t.reached h) (and_then line e));
+          whole = rw (line, ← written_append) (rw (one-call ws k place t.reached h) at t.whole);
         })
 
-    pub last_turn : count_of ws ≤ k → Laid at₀ (all ws host₀) out₀ at out
-    unfolding lines_from serve next
-    last_turn h =
-        let s = t.stands in
-        t.whole at out (rw (none_left ws k place t.reached h) (record { placed = omega arith; laid = sym (ink_nil at out) }))
+    pub last_turn : count_of ws ≤ k → pen ≡ written (all ws host₀) start
+    unfolding lines_from serve
+    last_turn h = sym (written_nothing pen) ∙ rw (none_left ws k place t.reached h) at t.whole

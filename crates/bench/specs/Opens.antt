@@ -1,9 +1,7 @@
 -- What opening a book hands on.
-use Rattle.std.specs.Prelude.{List, ◌≡◌, ℕ, length}
+use Rattle.std.specs.Prelude.{List, Option, Some, None, ◌≡◌, ℕ, length}
 use Rattle.types.specs.declared.error.Answer.TheVariants as Answered
 use Rattle.host.specs.Calls.{no_host, made}
-use Rattle.book.specs.declared.layout.Opened.{Opened}
-use Rattle.book.specs.declared.layout.Opened.TheVariants as Opening'
 use Rattle.book.specs.Layout.{count_of, contents_of, book_in}
 use Rattle.book.specs.Lines.{host_line}
 use Rattle.bench.specs.declared.trace.Opening.{Opening}
@@ -24,11 +22,11 @@ pub record OpensNone (r : Opening) : Type 0 where
   pub words : r.words ≡ 0
   pub place : r.body_at ≡ 0
 
-unfoldable pub OpensAs : Opened → List ℕ → Opening → Type 0
-OpensAs (Opening'.Words n) ws r = Opens ws r
-OpensAs Opening'.Bad ws r = OpensNone r
+unfoldable pub OpensAs : Option ℕ → List ℕ → Opening → Type 0
+OpensAs (Some n) ws r = Opens ws r
+OpensAs None ws r = OpensNone r
 
 -- what is printed of it
-unfoldable pub head_of : Opened → List ℕ → List ℕ
-head_of (Opening'.Words n) ws = head_text (made (settings_of (book_in ws)))
-head_of Opening'.Bad ws = host_line (number_of Answered.BadBook)
+unfoldable pub head_of : Option ℕ → List ℕ → List ℕ
+head_of (Some n) ws = head_text (made (settings_of (book_in ws)))
+head_of None ws = host_line (number_of Answered.BadBook)

@@ -1,5 +1,5 @@
 // A bench book served: its calls on a host, and what is printed of them.
-#![tactic(auto)]
+#![tactic(auto, using(text::proofs::Pens::writing))]
 
 pub mod serve; // serve.rt: a book's settings and calls
 pub mod print; // print.rt: the lines of a book

@@ -1,103 +1,84 @@
 // What is printed of a book: a line for its host, and one for each call.
 ghost use Rattle.std.specs.Prelude.{false, map, ◌≡◌, ◌+◌, ◌*◌, ◌≤◌, ◌<◌, length, get_or};
 ghost use Rattle.text.specs.Ink.{Laid};
+ghost use Rattle.text.specs.Pens.{written};
 ghost use Rattle.book.specs.Layout.{bad_words, book_in};
 ghost use Rattle.bench.specs.Bench.{call_of, lines_served, line_of, host_after, book_lines, printed};
 
 use crate::serve;
-use book::layout::Opened;
 use book::{layout, lines};
 use host::host::Sdmmc;
+use text::pen::Pen;
 use types::error::Answer;
 
-// A call was served: the next host, where the next body lies, and where the next text goes.
+// Before a book's next call: its host, and where its body lies.
 #[derive(Clone, Copy)]
 pub struct Turn {
     pub host: Sdmmc,
     pub body_at: usize,
-    pub at: usize,
 }
 
 // Serves call k, counted from 0, and prints its line.
-fn serve_call(host: Sdmmc, words: &[u32], k: u32, place: usize, out: &mut [u8], at: usize) -> Turn
-    requires { (k < 64) × (get_or words.now (7 + 4 * k + 2) 0 ≤ 16) × (place + get_or words.now (7 + 4 * k + 3) 0 ≤ length words.now) }
-    ensures served { result.host ≡ host_after host words.now k place }
-    ensures passed { result.body_at ≡ place + get_or words.now (7 + 4 * k + 3) 0 }
-    ensures printed { Laid at (line_of host words.now k place) out.old result.at out.new }
+fn serve_call(turn: Turn, words: &[u32], k: u32, pen: &mut Pen<'_>) -> Turn
+    requires { (k < 64) × (get_or words.now (7 + 4 * k + 2) 0 ≤ 16) × (turn.body_at + get_or words.now (7 + 4 * k + 3) 0 ≤ length words.now) }
+    ensures served { result.host ≡ host_after turn.host words.now k turn.body_at }
+    ensures passed { result.body_at ≡ turn.body_at + get_or words.now (7 + 4 * k + 3) 0 }
+    ensures printed { pen.new ≡ written (line_of turn.host words.now k turn.body_at) pen.old }
 {
     let mut rows = [0u64; 4096];
     let mut buffer = [0u8; 8192];
-    let asked = layout::call_at(words, k, place);
-    let end = asked.body_at + asked.body_len;
-    let called = serve::ask_in(host, words, asked, &mut rows, &mut buffer);
-    let answer = called.answer;
+    let asked = layout::call_at(words, k, turn.body_at);
+    let called = serve::ask_in(turn.host, words, asked, &mut rows, &mut buffer);
     let next = called.host;
-    let card = next.card;
-    let protection = card.protection;
-    let place = lines::put_call(
-        out,
-        at,
+    lines::put_call(
+        pen,
         k + 1,
         asked.kind,
-        answer,
+        called.answer,
         called.words,
         called.rows,
-        protection,
+        next.card.protection,
     );
     Turn {
         host: next,
-        body_at: end,
-        at: place,
+        body_at: asked.body_at + asked.body_len,
     }
 }
 
 // Serves the calls of a good book, and prints their lines.
-fn serve_calls(words: &[u32], host: Sdmmc, out: &mut [u8], at: usize) -> usize
-    requires { (bad_words words.now ≡ false) × (at ≤ length out.old) }
-    ensures { Laid at (lines_served 1 host (map (call_of 4096) (book_in words.now).calls)) out.old result out.new }
+fn serve_calls(words: &[u32], host: Sdmmc, pen: &mut Pen<'_>)
+    requires { bad_words words.now ≡ false }
+    ensures { pen.new ≡ written (lines_served 1 host (map (call_of 4096) (book_in words.now).calls)) pen.old }
 {
-    let calls = layout::word(words, 6);
     let mut turn = Turn {
         host: host,
         body_at: layout::contents(words),
-        at: at,
     };
-    let mut k = 0;
-    while k < calls {
-        let next = turn.host;
-        turn = serve_call(next, words, k, turn.body_at, out, turn.at);
-        k = k + 1;
+    for k in 0..layout::word(words, 6) {
+        turn = serve_call(turn, words, k, pen);
     }
-    turn.at
 }
 
 // Makes the host of a good book, prints its line, and serves the calls where there is one.
-fn serve_book(words: &[u32], out: &mut [u8]) -> usize
+fn serve_book(words: &[u32], pen: &mut Pen<'_>)
     requires { bad_words words.now ≡ false }
-    ensures { Laid 0 (book_lines (book_in words.now)) out.old result out.new }
+    ensures { pen.new ≡ written (book_lines (book_in words.now)) pen.old }
 {
     let made = Sdmmc::new(serve::settings(layout::head(words)));
-    let answer = made.answer;
-    let host = made.host;
-    let at = lines::put_host(out, 0, answer.number());
-    match answer {
-        Answer::Accepted => serve_calls(words, host, out, at),
-        Answer::Refused(_) => at,
-        Answer::ScriptEnded => at,
-        Answer::TraceFull => at,
-        Answer::BadBook => at,
+    lines::put_host(pen, made.answer.number());
+    if let Answer::Accepted = made.answer {
+        serve_calls(words, made.host, pen);
     }
 }
 
 // Prints a file's bytes as a book, in a list that has room for every book's words.
-fn print_in(bytes: &[u8], words: &mut [u32], out: &mut [u8]) -> usize
+fn print_in(bytes: &[u8], words: &mut [u32], pen: &mut Pen<'_>)
     requires { 4096 ≤ length words.old }
-    ensures { Laid 0 (printed bytes.now) out.old result out.new }
+    ensures { pen.new ≡ written (printed bytes.now) pen.old }
 {
-    let opened = layout::open(bytes, words);
-    match opened {
-        Opened::Words(n) => serve_book(&words[..n], out),
-        Opened::Bad => lines::put_host(out, 0, 23),
+    match layout::open(bytes, words) {
+        Some(n) => serve_book(&words[..n], pen),
+        None => lines::put_host(pen, 23),
     }
 }
 
@@ -106,5 +87,7 @@ pub fn print_book(bytes: &[u8], out: &mut [u8]) -> usize
     ensures { Laid 0 (printed bytes.now) out.old result out.new }
 {
     let mut words = [0u32; 4096];
-    print_in(bytes, &mut words, out)
+    let mut pen = Pen::new(out, 0);
+    print_in(bytes, &mut words, &mut pen);
+    pen.at
 }

@@ -7,31 +7,33 @@ ghost use Rattle.book.specs.Readers.{call_asked};
 ghost use Rattle.bench.specs.Bench.{settings_in, asking, buffer_after};
 
 use book::layout;
-use book::layout::{Asked, Heading};
+use book::layout::{Asked, Heading, Kind};
 use host::blocks;
 use host::host::{Called, Sdmmc};
 use init::settings::Settings;
 use types::clock::Hertz;
 use types::config::Config;
 
+// The words of a call's body.
+fn body_of(words: &[u32], asked: Asked) -> &[u32]
+    ensures { result.now ≡ take asked.body_len (drop asked.body_at words.now) }
+{
+    blocks::part(words, asked.body_at, asked.body_len)
+}
+
 // The data words of a call, the first words of its body: none but of a write.
 pub fn data_of(words: &[u32], asked: Asked) -> &[u32]
     ensures { result.now ≡ (call_asked words.now asked).«data» }
 {
-    let at = asked.body_at;
-    let len = asked.body_len;
-    let body = blocks::part(words, at, len);
     let count = layout::data_count(asked.kind, asked.b);
-    blocks::part(body, 0, count)
+    blocks::part(body_of(words, asked), 0, count)
 }
 
 // The script of a call: the words of its body behind its data.
 pub fn script_of(words: &[u32], asked: Asked) -> &[u32]
     ensures { result.now ≡ (call_asked words.now asked).script }
 {
-    let at = asked.body_at;
-    let len = asked.body_len;
-    let body = blocks::part(words, at, len);
+    let body = body_of(words, asked);
     let count = layout::data_count(asked.kind, asked.b);
     blocks::part(body, count, body.len())
 }
@@ -69,25 +71,20 @@ fn ask_status(host: Sdmmc, script: &[u32], rows: &mut [u64]) -> Called
     }
 }
 
-// One call, with a buffer of its blocks' bytes.
+// One call, with a buffer of its blocks' bytes; a row of no kind is served as a status call.
 pub fn ask(host: Sdmmc, words: &[u32], asked: Asked, rows: &mut [u64], buffer: &mut [u8]) -> Called
     ensures answered { result ≡ called_of (comes host (asking (rows_in rows.old) buffer.old words.now asked)) }
     ensures listed { rows_in rows.new ≡ (comes host (asking (rows_in rows.old) buffer.old words.now asked)).list }
     ensures filled { buffer.new ≡ buffer_after (asking (rows_in rows.old) buffer.old words.now asked) (comes host (asking (rows_in rows.old) buffer.old words.now asked)) buffer.old }
 {
-    let kind = asked.kind;
-    let a = asked.a;
     let script = script_of(words, asked);
-    if kind == 1 {
-        return host.blocking_init_card(script, rows, Hertz(a));
+    match Kind::of(asked.kind) {
+        Some(Kind::Initialise) => host.blocking_init_card(script, rows, Hertz(asked.a)),
+        Some(Kind::Read) => host.blocking_read_blocks(script, rows, asked.a, buffer),
+        Some(Kind::Write) => ask_write(host, data_of(words, asked), script, rows, asked.a, buffer),
+        Some(Kind::Status) => ask_status(host, script, rows),
+        None => ask_status(host, script, rows),
     }
-    if kind == 2 {
-        return host.blocking_read_blocks(script, rows, a, buffer);
-    }
-    if kind == 4 {
-        return ask_write(host, data_of(words, asked), script, rows, a, buffer);
-    }
-    ask_status(host, script, rows)
 }
 
 // One call, in the part of the buffer that its blocks take.

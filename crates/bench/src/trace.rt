@@ -3,7 +3,8 @@
 ghost use Rattle.std.specs.Prelude.{false, ◌++◌, ◌≡◌, ◌+◌, ◌*◌, ◌≤◌, min, length, take};
 ghost use Rattle.tape.specs.Layout.{rows_in};
 ghost use Rattle.book.specs.Readers.{asked_at, opened_of};
-ghost use Rattle.text.specs.Ink.{inked, Laid};
+ghost use Rattle.text.specs.Ink.{inked};
+ghost use Rattle.text.specs.Pens.{written};
 ghost use Rattle.types.specs.declared.error.Answer.TheVariants.{BadBook};
 ghost use Rattle.report.specs.Report.{rows_text, carried_text, state_text};
 ghost use Rattle.host.specs.Calls.{made};
@@ -17,74 +18,46 @@ ghost use Rattle.bench.specs.Opens.{Opens, OpensNone, OpensAs, head_of};
 
 use crate::print::Turn;
 use crate::serve;
-use book::layout::{Asked, Opened};
+use book::layout::{Asked, Kind};
 use book::{layout, lines};
 use host::host::{Called, Made, Sdmmc};
 use init::settings::Settings;
 use report::{blocks, rows, state, status};
-use text::pen;
+use text::pen::Pen;
 use types::clock::Hertz;
 use types::config::Config;
 use types::error::Answer;
 
-// A call was traced: the next host, and where the next text goes.
-#[derive(Clone, Copy)]
-struct Traced {
-    host: Sdmmc,
-    at: usize,
-}
-
 // The rows, the word that the answer carries, and the host's state.
-fn put_happened(out: &mut [u8], at: usize, list: &[u64], called: Called) -> usize
-    ensures { Laid at (rows_text called.rows (rows_in list.now) ++ carried_text called.answer ++ state_text called.host) out.old result out.new }
+fn put_happened(pen: &mut Pen<'_>, list: &[u64], called: Called)
+    ensures { pen.new ≡ written (rows_text called.rows (rows_in list.now) ++ carried_text called.answer ++ state_text called.host) pen.old }
 {
-    let answer = called.answer;
-    let next = called.host;
-    let listed = rows::put_rows(out, at, list, called.rows);
-    let carried = rows::put_carried(out, listed, answer);
-    state::put_state(out, carried, next)
+    rows::put_rows(pen, list, called.rows);
+    rows::put_carried(pen, called.answer);
+    state::put_state(pen, called.host);
 }
 
 // What an accepted call of this kind gave: a read its blocks, a status call the sixteen words.
-fn put_kind(out: &mut [u8], at: usize, kind: u32, host: Sdmmc, buffer: &[u8], count: usize) -> usize
-    ensures { Laid at (kind_text kind host count buffer.now) out.old result out.new }
+fn put_kind(pen: &mut Pen<'_>, kind: u32, host: Sdmmc, buffer: &[u8], count: usize)
+    ensures { pen.new ≡ written (kind_text kind host count buffer.now) pen.old }
 {
-    let card = host.card;
-    let words = card.status;
-    if kind == 1 {
-        return pen::least(at, out.len());
+    match Kind::of(kind) {
+        Some(Kind::Read) => blocks::put_blocks(pen, buffer, count),
+        Some(Kind::Status) | None => status::put_status(pen, host.card.status),
+        Some(Kind::Initialise) | Some(Kind::Write) => {}
     }
-    if kind == 2 {
-        return blocks::put_blocks(out, at, buffer, count);
-    }
-    if kind == 4 {
-        return pen::least(at, out.len());
-    }
-    status::put_status(out, at, words)
 }
 
 // The same, only where the call was accepted.
-fn put_given(
-    out: &mut [u8],
-    at: usize,
-    kind: u32,
-    answer: Answer,
-    host: Sdmmc,
-    buffer: &[u8],
-    count: usize,
-) -> usize
-    ensures { Laid at (where_accepted answer (kind_text kind host count buffer.now)) out.old result out.new }
+fn put_given(pen: &mut Pen<'_>, kind: u32, answer: Answer, host: Sdmmc, buffer: &[u8], count: usize)
+    ensures { pen.new ≡ written (where_accepted answer (kind_text kind host count buffer.now)) pen.old }
 {
-    match answer {
-        Answer::Accepted => put_kind(out, at, kind, host, buffer, count),
-        Answer::Refused(_) => pen::least(at, out.len()),
-        Answer::ScriptEnded => pen::least(at, out.len()),
-        Answer::TraceFull => pen::least(at, out.len()),
-        Answer::BadBook => pen::least(at, out.len()),
+    if let Answer::Accepted = answer {
+        put_kind(pen, kind, host, buffer, count);
     }
 }
 
-// One call, with a buffer of its blocks' bytes, and what is printed of it.
+// One call, with a buffer of its blocks' bytes, and what is printed of it; gives the next host.
 fn trace_exact(
     host: Sdmmc,
     words: &[u32],
@@ -92,128 +65,95 @@ fn trace_exact(
     number: u32,
     list: &mut [u64],
     buffer: &mut [u8],
-    out: &mut [u8],
-) -> Traced
-    ensures served { result.host ≡ (comes host (asking (rows_in list.old) buffer.old words.now asked)).host }
-    ensures traced { Laid 0 (traced_text number host (rows_in list.old) buffer.old words.now asked) out.old result.at out.new }
+    pen: &mut Pen<'_>,
+) -> Sdmmc
+    ensures served { result ≡ (comes host (asking (rows_in list.old) buffer.old words.now asked)).host }
+    ensures traced { pen.new ≡ written (traced_text number host (rows_in list.old) buffer.old words.now asked) pen.old }
 {
-    let kind = asked.kind;
     let count = buffer.len() / 512;
     let called = serve::ask(host, words, asked, list, buffer);
-    let answer = called.answer;
     let next = called.host;
-    let card = next.card;
-    let protection = card.protection;
-    let line = lines::put_call(
-        out,
-        0,
+    lines::put_call(
+        pen,
         number,
-        kind,
-        answer,
+        asked.kind,
+        called.answer,
         called.words,
         called.rows,
-        protection,
+        next.card.protection,
     );
-    let told = put_happened(out, line, list, called);
-    let last = put_given(out, told, kind, answer, next, buffer, count);
-    Traced {
-        host: next,
-        at: last,
-    }
+    put_happened(pen, list, called);
+    put_given(pen, asked.kind, called.answer, next, buffer, count);
+    next
 }
 
 // A place so many words on, as far as the words go.
 pub fn behind(words: &[u32], place: usize, count: usize) -> usize
     ensures { result ≡ min (place + count) (length words.now) }
 {
-    if words.len() <= place {
-        return words.len();
-    }
-    if words.len() - place < count {
-        return words.len();
-    }
-    place + count
+    place.saturating_add(count).min(words.len())
 }
 
 // Call k in the parts of a row list and of a buffer that it may take.
 fn trace_in(
-    host: Sdmmc,
+    turn: Turn,
     words: &[u32],
     k: u16,
-    body_at: usize,
     room: usize,
     list: &mut [u64],
     buffer: &mut [u8],
-    out: &mut [u8],
+    pen: &mut Pen<'_>,
 ) -> Turn
     requires { (4096 ≤ length list.old) × (8192 ≤ length buffer.old) }
-    ensures served { result.host ≡ (comes host (asking (rows_in (take (min room 4096) list.old)) (take (bytes_at words.now k body_at) buffer.old) words.now (asked_at words.now k body_at))).host }
-    ensures passed { result.body_at ≡ place_after words.now k body_at }
-    ensures traced { Laid 0 (traced_text (k + 1) host (rows_in (take (min room 4096) list.old)) (take (bytes_at words.now k body_at) buffer.old) words.now (asked_at words.now k body_at)) out.old result.at out.new }
+    ensures served { result.host ≡ (comes turn.host (asking (rows_in (take (min room 4096) list.old)) (take (bytes_at words.now k turn.body_at) buffer.old) words.now (asked_at words.now k turn.body_at))).host }
+    ensures passed { result.body_at ≡ place_after words.now k turn.body_at }
+    ensures traced { pen.new ≡ written (traced_text (k + 1) turn.host (rows_in (take (min room 4096) list.old)) (take (bytes_at words.now k turn.body_at) buffer.old) words.now (asked_at words.now k turn.body_at)) pen.old }
 {
-    let asked = layout::call_at(words, k as u32, body_at);
-    let end = behind(words, asked.body_at, asked.body_len);
-    let rows = pen::least(room, 4096);
-    let bytes = 512 * pen::least(asked.b as usize, 16);
-    let done = trace_exact(
-        host,
+    let asked = layout::call_at(words, k as u32, turn.body_at);
+    let rows = room.min(4096);
+    let bytes = 512 * (asked.b as usize).min(16);
+    let next = trace_exact(
+        turn.host,
         words,
         asked,
         k as u32 + 1,
         &mut list[..rows],
         &mut buffer[..bytes],
-        out,
+        pen,
     );
-    let next = done.host;
     Turn {
         host: next,
-        body_at: end,
-        at: done.at,
+        body_at: behind(words, asked.body_at, asked.body_len),
     }
 }
 
-// Serves call k, counted from 0, whose body starts at a place, with so many rows of room, and prints what happened.
-pub fn trace_call(
-    host: Sdmmc,
-    words: &[u32],
-    k: u16,
-    body_at: usize,
-    room: usize,
-    out: &mut [u8],
-) -> Turn
-    ensures served { result.host ≡ (comes host (call_at words.now k body_at room)).host }
-    ensures passed { result.body_at ≡ place_after words.now k body_at }
-    ensures traced { Laid 0 (call_text (k + 1) host (bytes_at words.now k body_at) (call_at words.now k body_at room)) out.old result.at out.new }
+// Serves call k, counted from 0, with so many rows of room, and prints what happened.
+pub fn trace_call(turn: Turn, words: &[u32], k: u16, room: usize, pen: &mut Pen<'_>) -> Turn
+    ensures served { result.host ≡ (comes turn.host (call_at words.now k turn.body_at room)).host }
+    ensures passed { result.body_at ≡ place_after words.now k turn.body_at }
+    ensures traced { pen.new ≡ written (call_text (k + 1) turn.host (bytes_at words.now k turn.body_at) (call_at words.now k turn.body_at room)) pen.old }
 {
     let mut list = [0u64; 4096];
     let mut buffer = [0u8; 8192];
-    trace_in(host, words, k, body_at, room, &mut list, &mut buffer, out)
+    trace_in(turn, words, k, room, &mut list, &mut buffer, pen)
 }
 
-// A book was opened: its host, its calls (none where there is no host), its words, where the first body starts, and where
-// the next text goes.
+// A book was opened: its host, its calls (none where there is no host), its words, and where the first body starts.
 #[derive(Clone, Copy)]
 pub struct Opening {
     pub host: Sdmmc,
     pub calls: u16,
     pub words: usize,
     pub body_at: usize,
-    pub at: usize,
 }
 
 // The host's line, and its state where there is one.
-fn put_head(out: &mut [u8], made: Made) -> usize
-    ensures { Laid 0 (head_text made) out.old result out.new }
+fn put_head(pen: &mut Pen<'_>, made: Made)
+    ensures { pen.new ≡ written (head_text made) pen.old }
 {
-    let answer = made.answer;
-    let host = made.host;
-    let line = lines::put_host(out, 0, answer.number());
-    match answer {
-        Answer::Accepted => state::put_state(out, line, host),
-        Answer::Refused(_) => line,
-        Answer::ScriptEnded => line,
-        Answer::TraceFull => line,
-        Answer::BadBook => line,
+    lines::put_host(pen, made.answer.number());
+    if let Answer::Accepted = made.answer {
+        state::put_state(pen, made.host);
     }
 }
 
@@ -223,38 +163,30 @@ pub fn served(answer: Answer, calls: u32) -> u32
 {
     match answer {
         Answer::Accepted => calls,
-        Answer::Refused(_) => 0,
-        Answer::ScriptEnded => 0,
-        Answer::TraceFull => 0,
-        Answer::BadBook => 0,
+        _ => 0,
     }
 }
 
 // Makes the host of a good book.
-fn open_good(words: &[u32], out: &mut [u8]) -> Opening
+fn open_good(words: &[u32], pen: &mut Pen<'_>) -> Opening
     requires { bad_words words.now ≡ false }
     ensures opened { Opens words.now result }
-    ensures printed { Laid 0 (head_text (made (settings_of (book_in words.now)))) out.old result.at out.new }
+    ensures printed { pen.new ≡ written (head_text (made (settings_of (book_in words.now)))) pen.old }
 {
     let made = Sdmmc::new(serve::settings(layout::head(words)));
-    let answer = made.answer;
-    let host = made.host;
-    let calls = layout::word(words, 6);
-    let at = put_head(out, made);
-    let count = served(answer, calls);
+    put_head(pen, made);
     Opening {
-        host: host,
-        calls: count as u16,
+        host: made.host,
+        calls: served(made.answer, layout::word(words, 6)) as u16,
         words: words.len(),
         body_at: layout::contents(words),
-        at: at,
     }
 }
 
 // What is no book: no host, and the line that says so.
-fn open_bad(out: &mut [u8]) -> Opening
+fn open_bad(pen: &mut Pen<'_>) -> Opening
     ensures opened { OpensNone result }
-    ensures printed { Laid 0 (host_line (number_of BadBook)) out.old result.at out.new }
+    ensures printed { pen.new ≡ written (host_line (number_of BadBook)) pen.old }
 {
     let none = Sdmmc::new(Settings {
         source: Hertz(0),
@@ -267,25 +199,23 @@ fn open_bad(out: &mut [u8]) -> Opening
         },
         wide: false,
     });
-    let host = none.host;
+    lines::put_host(pen, 23);
     Opening {
-        host: host,
+        host: none.host,
         calls: 0,
         words: 0,
         body_at: 0,
-        at: lines::put_host(out, 0, 23),
     }
 }
 
 // Opens a file's bytes as a book, in a list with room for its words, makes its host, and prints the host's line and state.
-pub fn open(bytes: &[u8], words: &mut [u32], out: &mut [u8]) -> Opening
+pub fn open(bytes: &[u8], words: &mut [u32], pen: &mut Pen<'_>) -> Opening
     ensures laid { words.new ≡ inked 0 (words_of bytes.now) words.old }
     ensures opened { OpensAs (opened_of bytes.now (length words.old)) (words_of bytes.now) result }
-    ensures printed { Laid 0 (head_of (opened_of bytes.now (length words.old)) (words_of bytes.now)) out.old result.at out.new }
+    ensures printed { pen.new ≡ written (head_of (opened_of bytes.now (length words.old)) (words_of bytes.now)) pen.old }
 {
-    let opened = layout::open(bytes, words);
-    match opened {
-        Opened::Words(n) => open_good(&words[..n], out),
-        Opened::Bad => open_bad(out),
+    match layout::open(bytes, words) {
+        Some(n) => open_good(&words[..n], pen),
+        None => open_bad(pen),
     }
 }

@@ -1,48 +1,40 @@
--- Lines of the table of status words.
-use Prim.Native.Nat.{ℕ, zero, suc, ◌+◌, ◌≤◌, ◌<◌}
+-- Lines of a table of status words: one that a word has, one that it does not have, and the table's end.
+use Prim.Native.Nat.{ℕ, ◌+◌, ◌≤◌, ◌<◌}
 use mathlib.Core.Bool.{Bool, true, false}
-use mathlib.Core.List.{◌∷◌, ◌++◌}
-use mathlib.Core.Path.{◌≡◌, refl}
+use mathlib.Core.List.{List, ◌∷◌, ◌++◌}
+use mathlib.Core.Path.{◌≡◌}
 use native.Mathlib.Numerals.{add-one}
-use native.Mathlib.Omega.{arith}
-use lib.ListN.{length, drop, get_or-eq_default, drop_of_length-le}
+use lib.ListN.{length, get_or, get_or-map, drop, length-map, drop_of_length-le}
 use lib.Seq.{drop-cons}
 use Rattle.types.specs.Bits.{clear}
-use Rattle.events.specs.Meaning.{flag, flags, flag_at, joint, none_left, flags_text}
+use Rattle.text.specs.Pens.{written}
+use Rattle.text.specs.declared.pen.Pen.{Pen}
+use Rattle.text.proofs.Pens.{written_append}
+use Rattle.events.specs.declared.flags.Flag.{Flag}
+use Rattle.events.specs.Flags.{line_of, lines_of}
+use Rattle.events.specs.Meaning.{joint, none_left, flags_text}
 
--- none of the first n numbers, as a `match` over them tells it of any other
-abbrev Other : ℕ → ℕ → Type 0
-Other zero i = Unit {0}
-Other (suc n) i = Other n i × (i ≡ n → ⊥)
+module _ (table : List Flag) (i status : ℕ) (said : Bool) where
+  pub at_the_end : length table ≤ i → flags_text said (drop i (lines_of table)) status ≡ none_left said
+  unfolding flags_text
+  at_the_end h = rw (drop_of_length-le (lines_of table) {i = i} (rw length-map h))
 
-outside : (n i : ℕ) → Other n i → n ≤ i
-outside zero i h = omega arith
-outside (suc n) i h = omega (arith, outside n i h.0, h.1)
+  module _ (d : Flag) (h : i < length table) where
+    from : drop i (lines_of table) ≡ line_of (get_or table i d) ∷ drop (i + 1) (lines_of table)
+    from = rw (add-one i, ← get_or-map line_of table i d) (drop-cons (lines_of table) i (line_of d) (rw length-map h))
 
-twelve : length flags ≡ 12
-unfolding flags
-twelve = refl
+    pub not_had : clear (get_or table i d).mask status ≡ true → flags_text said (drop i (lines_of table)) status ≡ flags_text said (drop (i + 1) (lines_of table)) status
+    unfolding flags_text
+    not_had e = rw (from, e)
 
--- past the last line
-pub past : (i : ℕ) → Other 12 i → flag_at i ≡ flag 0 ""
-unfolding flag_at
-past i h = get_or-eq_default flags (flag 0 "") (rw twelve (outside 12 i h))
+    had : clear (get_or table i d).mask status ≡ false
+        → flags_text said (drop i (lines_of table)) status ≡ joint said ++ (get_or table i d).text.now ++ flags_text true (drop (i + 1) (lines_of table)) status
+    unfolding flags_text
+    had e = rw (from, e)
 
-pub none-left : (said : Bool) (i status : ℕ) → 12 ≤ i → flags_text said (drop i flags) status ≡ none_left said
-unfolding flags_text
-none-left said i status h = rw (drop_of_length-le flags {i = i} (rw twelve h))
-
-from : (i : ℕ) → i < 12 → drop i flags ≡ flag_at i ∷ drop (i + 1) flags
-unfolding flag_at
-from i h = rw (add-one i) (drop-cons flags i (flag 0 "") (rw twelve h))
-
--- a line that the word does not have, and one that it has
-pub unset : (said : Bool) (i status : ℕ) → i < 12 → clear (flag_at i).mask status ≡ true
-    → flags_text said (drop i flags) status ≡ flags_text said (drop (i + 1) flags) status
-unfolding flags_text
-unset said i status h e = rw (from i h, e)
-
-pub set : (said : Bool) (i status : ℕ) → i < 12 → clear (flag_at i).mask status ≡ false
-    → flags_text said (drop i flags) status ≡ joint said ++ (flag_at i).text ++ flags_text true (drop (i + 1) flags) status
-unfolding flags_text
-set said i status h e = rw (from i h, e)
+    -- the line is written behind the joint, and what is left is still to come
+    pub told : (before : Pen) {joined after : Pen} → clear (get_or table i d).mask status ≡ false → joined ≡ written (joint said) before → after ≡ written (get_or table i d).text.now joined
+        → written (flags_text said (drop i (lines_of table)) status) before ≡ written (flags_text true (drop (i + 1) (lines_of table)) status) after
+    told before e p q =
+        let text = (get_or table i d).text.now in
+        rw (had e, written_append (joint said ++ text), written_append (joint said), q, p)

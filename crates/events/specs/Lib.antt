@@ -1,3 +1,4 @@
 pub mod Meaning
 pub mod Event
+pub mod Flags
 pub mod Cases

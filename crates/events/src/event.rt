@@ -1,12 +1,13 @@
 // An event's line.
-ghost use Rattle.text.specs.Ink.{Laid};
+ghost use Rattle.std.specs.Prelude.{◌≡◌};
+ghost use Rattle.text.specs.Pens.{written};
 ghost use Rattle.events.specs.Event.{word_text, read_text, missed_text, wrote_text, event_text};
 
 use crate::{reading, row};
 use report::rows;
 use tape::rows::Row;
 use tape::script::Reading;
-use text::pen;
+use text::pen::Pen;
 
 // What comes about in a call: a reading and the word that it took, a reading for which the script had no word, a row.
 #[derive(Clone, Copy)]
@@ -16,45 +17,44 @@ pub enum Event {
     Wrote(Row),
 }
 
-fn put_word(out: &mut [u8], at: usize, word: u32) -> usize
-    ensures { Laid at (word_text word) out.old result out.new }
+fn put_word(pen: &mut Pen<'_>, word: u32)
+    ensures { pen.new ≡ written (word_text word) pen.old }
 {
-    let place = pen::put(out, at, b" 0x");
-    pen::put_hex(out, place, 8, word as u64)
+    pen.put(b" 0x");
+    pen.put_hex(8, word as u64);
 }
 
-fn put_read(out: &mut [u8], at: usize, reading: Reading, word: u32) -> usize
-    ensures { Laid at (read_text reading word) out.old result out.new }
+fn put_read(pen: &mut Pen<'_>, reading: Reading, word: u32)
+    ensures { pen.new ≡ written (read_text reading word) pen.old }
 {
-    let kind = reading::put_kind(out, at, reading);
-    let told = put_word(out, kind, word);
-    let meant = reading::put_meaning(out, told, reading, word);
-    pen::put_byte(out, meant, b'\n')
+    reading::put_kind(pen, reading);
+    put_word(pen, word);
+    reading::put_meaning(pen, reading, word);
+    pen.put_byte(b'\n');
 }
 
-fn put_missed(out: &mut [u8], at: usize, reading: Reading) -> usize
-    ensures { Laid at (missed_text reading) out.old result out.new }
+fn put_missed(pen: &mut Pen<'_>, reading: Reading)
+    ensures { pen.new ≡ written (missed_text reading) pen.old }
 {
-    let kind = reading::put_kind(out, at, reading);
-    pen::put(out, kind, b" none  the script ended\n")
+    reading::put_kind(pen, reading);
+    pen.put(b" none  the script ended\n");
 }
 
-fn put_wrote(out: &mut [u8], at: usize, row: Row) -> usize
-    ensures { Laid at (wrote_text row) out.old result out.new }
+fn put_wrote(pen: &mut Pen<'_>, row: Row)
+    ensures { pen.new ≡ written (wrote_text row) pen.old }
 {
-    let register = row.register;
-    let value = row.value;
-    let told = rows::put_row(out, at, register, value);
-    let meant = row::put_meaning(out, told, register, value);
-    pen::put_byte(out, meant, b'\n')
+    rows::put_row(pen, row.register, row.value);
+    row::put_meaning(pen, row.register, row.value);
+    pen.put_byte(b'\n');
 }
 
-pub fn put_event(out: &mut [u8], at: usize, event: Event) -> usize
-    ensures { Laid at (event_text event) out.old result out.new }
+#[tactic(auto, unfolding(crate::specs::Event::event_text))]
+pub fn put_event(pen: &mut Pen<'_>, event: Event)
+    ensures { pen.new ≡ written (event_text event) pen.old }
 {
     match event {
-        Event::Read(reading, word) => put_read(out, at, reading, word),
-        Event::Missed(reading) => put_missed(out, at, reading),
-        Event::Wrote(row) => put_wrote(out, at, row),
+        Event::Read(reading, word) => put_read(pen, reading, word),
+        Event::Missed(reading) => put_missed(pen, reading),
+        Event::Wrote(row) => put_wrote(pen, row),
     }
 }

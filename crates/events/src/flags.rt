@@ -1,102 +1,103 @@
 // What a status word has, by the table's lines in their order.
-ghost use Rattle.std.specs.Prelude.{◌≡◌, false, drop};
-ghost use Rattle.text.specs.Ink.{Laid};
-ghost use Rattle.events.specs.Meaning.{says, flags, flag_at, joint, none_left, flags_text};
+ghost use Rattle.std.specs.Prelude.{◌≡◌, false};
+ghost use Rattle.text.specs.Pens.{written};
+ghost use Rattle.events.specs.Meaning.{says, joint, flags, flags_text};
+ghost use Rattle.events.specs.Flags.{lines_of};
 
 use tape::script::Sta;
-use text::pen;
+use text::pen::Pen;
 use types::status::DataAnswer;
 
+// A line of the table: some bits, and what is said of a word that has one of them.
 #[derive(Clone, Copy)]
-pub struct Flags {}
-
-impl Flags {
-    // Lines of the table.
-    pub const LINES: usize = 12;
-    // A response came, and its checksum matches.
-    pub const RESPONSE: u32 = 0x40;
+struct Flag {
+    mask: u32,
+    text: &'static [u8],
 }
 
-// The bits that line i is about; none past the last.
-fn mask(i: usize) -> u32
-    ensures { result ≡ (flag_at i).mask }
-{
-    match i {
-        0 => Sta::TIMED_OUT,
-        1 => Sta::CRC_FAILED,
-        2 => Flags::RESPONSE,
-        3 => Sta::SENT,
-        4 => DataAnswer::TIMEOUT,
-        5 => DataAnswer::CRC,
-        6 => DataAnswer::OVERRUN,
-        7 => DataAnswer::UNDERRUN,
-        8 => DataAnswer::START_BIT,
-        9 => Sta::DATA_ENDED,
-        10 => Sta::COMMAND,
-        11 => Sta::TRANSFER,
-        _ => 0,
-    }
-}
+// A response came, and its checksum matches.
+const RESPONSE: u32 = 0x40;
 
-// What line i says.
-fn put_flag(out: &mut [u8], at: usize, i: usize) -> usize
-    ensures { Laid at (flag_at i).text out.old result out.new }
-{
-    match i {
-        0 => pen::put(out, at, b"no response in time"),
-        1 => pen::put(out, at, b"response whose checksum does not match"),
-        2 => pen::put(out, at, b"response came"),
-        3 => pen::put(out, at, b"command sent"),
-        4 => pen::put(out, at, b"data not in time"),
-        5 => pen::put(out, at, b"data whose checksum does not match"),
-        6 => pen::put(out, at, b"data came faster than it was taken"),
-        7 => pen::put(out, at, b"data to send was not there in time"),
-        8 => pen::put(out, at, b"no start bit on a data line"),
-        9 => pen::put(out, at, b"all data transferred"),
-        10 => pen::put(out, at, b"command under way"),
-        11 => pen::put(out, at, b"data under way"),
-        _ => pen::least(at, out.len()),
-    }
-}
+const TABLE: [Flag; 12] = [
+    Flag {
+        mask: Sta::TIMED_OUT,
+        text: b"no response in time",
+    },
+    Flag {
+        mask: Sta::CRC_FAILED,
+        text: b"response whose checksum does not match",
+    },
+    Flag {
+        mask: RESPONSE,
+        text: b"response came",
+    },
+    Flag {
+        mask: Sta::SENT,
+        text: b"command sent",
+    },
+    Flag {
+        mask: DataAnswer::TIMEOUT,
+        text: b"data not in time",
+    },
+    Flag {
+        mask: DataAnswer::CRC,
+        text: b"data whose checksum does not match",
+    },
+    Flag {
+        mask: DataAnswer::OVERRUN,
+        text: b"data came faster than it was taken",
+    },
+    Flag {
+        mask: DataAnswer::UNDERRUN,
+        text: b"data to send was not there in time",
+    },
+    Flag {
+        mask: DataAnswer::START_BIT,
+        text: b"no start bit on a data line",
+    },
+    Flag {
+        mask: Sta::DATA_ENDED,
+        text: b"all data transferred",
+    },
+    Flag {
+        mask: Sta::COMMAND,
+        text: b"command under way",
+    },
+    Flag {
+        mask: Sta::TRANSFER,
+        text: b"data under way",
+    },
+];
 
 // What stands between two of them.
-fn put_joint(out: &mut [u8], at: usize, said: bool) -> usize
-    ensures { Laid at (joint said) out.old result out.new }
+fn put_joint(pen: &mut Pen<'_>, said: bool)
+    ensures { pen.new ≡ written (joint said) pen.old }
 {
     if said {
-        return pen::put(out, at, b", ");
+        pen.put(b", ");
     }
-    pen::least(at, out.len())
 }
 
-// At the table's end: a word that has none of it is told too.
-fn put_none(out: &mut [u8], at: usize, said: bool) -> usize
-    ensures { Laid at (none_left said) out.old result out.new }
+// What the word has of a table's lines, or that it has none.
+fn put_lines(pen: &mut Pen<'_>, table: &[Flag], status: u32)
+    ensures { pen.new ≡ written (flags_text false (lines_of table.now) status) pen.old }
 {
-    if said {
-        return pen::least(at, out.len());
+    let mut said = false;
+    for flag in table {
+        if status & flag.mask != 0 {
+            put_joint(pen, said);
+            pen.put(flag.text);
+            said = true;
+        }
     }
-    pen::put(out, at, b"idle")
+    if !said {
+        pen.put(b"idle");
+    }
 }
 
-// What the word has of the lines from i on; `said` where something was said before.
-fn put_from(out: &mut [u8], at: usize, status: u32, i: usize, said: bool) -> usize
-    ensures { Laid at (flags_text said (drop i flags) status) out.old result out.new }
+pub fn put_flags(pen: &mut Pen<'_>, status: u32)
+    ensures { pen.new ≡ written (says (flags_text false flags status)) pen.old }
 {
-    if Flags::LINES <= i {
-        return put_none(out, at, said);
-    }
-    if status & mask(i) == 0 {
-        return put_from(out, at, status, i + 1, said);
-    }
-    let joined = put_joint(out, at, said);
-    let told = put_flag(out, joined, i);
-    put_from(out, told, status, i + 1, true)
-}
-
-pub fn put_flags(out: &mut [u8], at: usize, status: u32) -> usize
-    ensures { Laid at (says (flags_text false flags status)) out.old result out.new }
-{
-    let place = pen::put(out, at, b"  ");
-    put_from(out, place, status, 0, false)
+    pen.put(b"  ");
+    put_lines(pen, &TABLE, status);
 }

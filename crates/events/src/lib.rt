@@ -1,5 +1,5 @@
 // One event of a call as text in a lent buffer: a reading with its word, or a row, and what it means for people.
-#![tactic(auto)]
+#![tactic(auto, using(text::proofs::Pens::writing))]
 
 pub mod said; // said.rt: two spaces and a text, a counted noun
 pub mod flags; // flags.rt: what a status word has

@@ -1,80 +1,77 @@
 // A reading's kind, and what its word means.
-ghost use Rattle.std.specs.Prelude.{◌++◌};
+ghost use Rattle.std.specs.Prelude.{◌≡◌, ◌++◌};
 ghost use Rattle.tape.specs.declared.script.Reading.TheVariants as Reading;
-ghost use Rattle.text.specs.Ink.{Laid};
+ghost use Rattle.text.specs.Pens.{written};
 ghost use Rattle.text.specs.Typed.{typed};
 ghost use Rattle.events.specs.Event.{kind_text};
 ghost use Rattle.events.specs.Meaning.{channel, remain, reading_meaning};
 
 use crate::{flags, said};
-use report::rows;
 use tape::script::{Dma, Reading};
-use text::pen;
+use text::pen::Pen;
 
-pub fn put_kind(out: &mut [u8], at: usize, reading: Reading) -> usize
-    ensures { Laid at (typed "read " ++ kind_text reading) out.old result out.new }
+pub fn put_kind(pen: &mut Pen<'_>, reading: Reading)
+    ensures { pen.new ≡ written (typed "read " ++ kind_text reading) pen.old }
 {
     match reading {
-        Reading::Status => pen::put(out, at, b"read status"),
-        Reading::RespCmd => pen::put(out, at, b"read respcmd"),
-        Reading::Response(n) => rows::put_named(out, at, b"read response ", n as u64),
-        Reading::Dma => pen::put(out, at, b"read dma"),
-        Reading::DCount => pen::put(out, at, b"read dcount"),
-        Reading::Data(k) => rows::put_named(out, at, b"read data ", k as u64),
+        Reading::Status => pen.put(b"read status"),
+        Reading::RespCmd => pen.put(b"read respcmd"),
+        Reading::Response(n) => pen.put_named(b"read response ", n as u64),
+        Reading::Dma => pen.put(b"read dma"),
+        Reading::DCount => pen.put(b"read dcount"),
+        Reading::Data(k) => pen.put_named(b"read data ", k as u64),
     }
 }
 
-fn put_channel(out: &mut [u8], at: usize, word: u32) -> usize
-    ensures { Laid at (typed "  " ++ channel word) out.old result out.new }
+fn put_channel(pen: &mut Pen<'_>, word: u32)
+    ensures { pen.new ≡ written (typed "  " ++ channel word) pen.old }
 {
     if word & Dma::ERROR != 0 {
-        return said::put_said(out, at, b"channel error");
+        said::put_said(pen, b"channel error");
+    } else if word & Dma::RUNNING != 0 {
+        said::put_said(pen, b"channel running");
+    } else {
+        said::put_said(pen, b"channel stopped");
     }
-    if word & Dma::RUNNING != 0 {
-        return said::put_said(out, at, b"channel running");
-    }
-    said::put_said(out, at, b"channel stopped")
 }
 
 // The words that remain, where some do.
-fn put_remain(out: &mut [u8], at: usize, n: u32) -> usize
-    ensures { Laid at (remain n) out.old result out.new }
+fn put_remain(pen: &mut Pen<'_>, n: u32)
+    ensures { pen.new ≡ written (remain n) pen.old }
 {
-    if n == 0 {
-        return pen::least(at, out.len());
+    if n != 0 {
+        pen.put(b", ");
+        said::put_counted(pen, n as u64, b" word");
+        pen.put(b" left");
     }
-    let joined = pen::put(out, at, b", ");
-    let told = said::put_counted(out, joined, n as u64, b" word");
-    pen::put(out, told, b" left")
 }
 
-fn put_dma(out: &mut [u8], at: usize, word: u32) -> usize
-    ensures { Laid at (reading_meaning Reading.Dma word) out.old result out.new }
+fn put_dma(pen: &mut Pen<'_>, word: u32)
+    ensures { pen.new ≡ written (reading_meaning Reading.Dma word) pen.old }
 {
-    let told = put_channel(out, at, word);
-    put_remain(out, told, word % Dma::REMAINING)
+    put_channel(pen, word);
+    put_remain(pen, word % Dma::REMAINING);
 }
 
-fn put_count(out: &mut [u8], at: usize, word: u32) -> usize
-    ensures { Laid at (reading_meaning Reading.DCount word) out.old result out.new }
+fn put_count(pen: &mut Pen<'_>, word: u32)
+    ensures { pen.new ≡ written (reading_meaning Reading.DCount word) pen.old }
 {
-    if word == 0 {
-        return pen::least(at, out.len());
+    if word != 0 {
+        pen.put(b"  ");
+        said::put_counted(pen, word as u64, b" byte");
+        pen.put(b" left");
     }
-    let place = pen::put(out, at, b"  ");
-    let told = said::put_counted(out, place, word as u64, b" byte");
-    pen::put(out, told, b" left")
 }
 
-pub fn put_meaning(out: &mut [u8], at: usize, reading: Reading, word: u32) -> usize
-    ensures { Laid at (reading_meaning reading word) out.old result out.new }
+#[tactic(auto, using(text::proofs::Pens::writing), unfolding(crate::specs::Meaning::reading_meaning))]
+pub fn put_meaning(pen: &mut Pen<'_>, reading: Reading, word: u32)
+    ensures { pen.new ≡ written (reading_meaning reading word) pen.old }
 {
     match reading {
-        Reading::Status => flags::put_flags(out, at, word),
-        Reading::RespCmd => rows::put_named(out, at, b"  answers CMD", (word % 64) as u64),
-        Reading::Response(_) => pen::least(at, out.len()),
-        Reading::Dma => put_dma(out, at, word),
-        Reading::DCount => put_count(out, at, word),
-        Reading::Data(_) => pen::least(at, out.len()),
+        Reading::Status => flags::put_flags(pen, word),
+        Reading::RespCmd => pen.put_named(b"  answers CMD", (word % 64) as u64),
+        Reading::Dma => put_dma(pen, word),
+        Reading::DCount => put_count(pen, word),
+        Reading::Response(_) | Reading::Data(_) => {}
     }
 }

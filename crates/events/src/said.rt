@@ -1,31 +1,31 @@
 // Pieces of what is said of an event.
-ghost use Rattle.text.specs.Ink.{Laid};
+ghost use Rattle.std.specs.Prelude.{◌≡◌};
+ghost use Rattle.text.specs.Pens.{written};
 ghost use Rattle.events.specs.Meaning.{says, plural, counted};
 
-use text::pen;
+use text::pen::Pen;
 
 // Two spaces, and the text behind them.
-pub fn put_said(out: &mut [u8], at: usize, text: &[u8]) -> usize
-    ensures { Laid at (says text.now) out.old result out.new }
+pub fn put_said(pen: &mut Pen<'_>, text: &[u8])
+    ensures { pen.new ≡ written (says text.now) pen.old }
 {
-    let place = pen::put(out, at, b"  ");
-    pen::put(out, place, text)
+    pen.put(b"  ");
+    pen.put(text);
 }
 
-fn put_plural(out: &mut [u8], at: usize, n: u64) -> usize
-    ensures { Laid at (plural n) out.old result out.new }
+fn put_plural(pen: &mut Pen<'_>, n: u64)
+    ensures { pen.new ≡ written (plural n) pen.old }
 {
-    if n == 1 {
-        return pen::least(at, out.len());
+    if n != 1 {
+        pen.put_byte(b's');
     }
-    pen::put_byte(out, at, b's')
 }
 
 // So many of a noun, which comes with the space before it.
-pub fn put_counted(out: &mut [u8], at: usize, n: u64, noun: &[u8]) -> usize
-    ensures { Laid at (counted n noun.now) out.old result out.new }
+pub fn put_counted(pen: &mut Pen<'_>, n: u64, noun: &[u8])
+    ensures { pen.new ≡ written (counted n noun.now) pen.old }
 {
-    let number = pen::put_decimal(out, at, n);
-    let named = pen::put(out, number, noun);
-    put_plural(out, named, n)
+    pen.put_decimal(n);
+    pen.put(noun);
+    put_plural(pen, n);
 }

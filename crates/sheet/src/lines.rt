@@ -1,5 +1,6 @@
 // The lines of a call, each on a sheet that has room for it.
-ghost use Rattle.text.specs.Ink.{Laid};
+ghost use Rattle.std.specs.Prelude.{◌≡◌};
+ghost use Rattle.text.specs.Pens.{written};
 ghost use Rattle.book.specs.Lines.{call_line};
 ghost use Rattle.report.specs.Report.{state_text};
 ghost use Rattle.events.specs.Event.{event_text};
@@ -12,20 +13,20 @@ use book::lines;
 use events::event;
 use events::event::Event;
 use host::host::{Called, Sdmmc};
-use report::{rows, state};
+use report::state;
 use std::io::Write;
 use streams::sink::Sink;
-use text::pen;
+use text::pen::Pen;
 
 // Number, kind, a and b: what a call begins with.
-fn put_begins(out: &mut [u8], at: usize, number: u32, asked: Asked) -> usize
-    ensures { Laid at (begins_text number asked) out.old result out.new }
+fn put_begins(pen: &mut Pen<'_>, number: u32, asked: Asked)
+    ensures { pen.new ≡ written (begins_text number asked) pen.old }
 {
-    let counted = pen::put_decimal(out, at, number as u64);
-    let kind = rows::put_named(out, counted, b" ", asked.kind as u64);
-    let a = rows::put_named(out, kind, b" ", asked.a as u64);
-    let b = rows::put_named(out, a, b" ", asked.b as u64);
-    pen::put_byte(out, b, b'\n')
+    pen.put_decimal(number as u64);
+    pen.put_named(b" ", asked.kind as u64);
+    pen.put_named(b" ", asked.a as u64);
+    pen.put_named(b" ", asked.b as u64);
+    pen.put_byte(b'\n');
 }
 
 pub fn tell_begins<W: Write>(
@@ -39,8 +40,9 @@ pub fn tell_begins<W: Write>(
     ensures { Tells (begins_text number asked) sheet out.old result out.new }
 {
     let turned = sheet.turned(out, output);
-    let at = put_begins(out, turned.at, number, asked);
-    turned.filled(at)
+    let mut pen = Pen::new(out, turned.at);
+    put_begins(&mut pen, number, asked);
+    turned.filled(pen.at)
 }
 
 pub fn tell_event<W: Write>(
@@ -53,8 +55,9 @@ pub fn tell_event<W: Write>(
     ensures { Tells (event_text event) sheet out.old result out.new }
 {
     let turned = sheet.turned(out, output);
-    let at = event::put_event(out, turned.at, event);
-    turned.filled(at)
+    let mut pen = Pen::new(out, turned.at);
+    event::put_event(&mut pen, event);
+    turned.filled(pen.at)
 }
 
 // The line of a call of this kind that came to this.
@@ -69,22 +72,18 @@ pub fn tell_called<W: Write>(
     requires { Fits sheet out.old }
     ensures { Tells (call_line number kind called.answer called.words called.rows called.host.card.protection) sheet out.old result out.new }
 {
-    let answer = called.answer;
-    let next = called.host;
-    let card = next.card;
-    let protection = card.protection;
     let turned = sheet.turned(out, output);
-    let at = lines::put_call(
-        out,
-        turned.at,
+    let mut pen = Pen::new(out, turned.at);
+    lines::put_call(
+        &mut pen,
         number,
         kind,
-        answer,
+        called.answer,
         called.words,
         called.rows,
-        protection,
+        called.host.card.protection,
     );
-    turned.filled(at)
+    turned.filled(pen.at)
 }
 
 pub fn tell_state<W: Write>(
@@ -97,6 +96,7 @@ pub fn tell_state<W: Write>(
     ensures { Tells (state_text host) sheet out.old result out.new }
 {
     let turned = sheet.turned(out, output);
-    let at = state::put_state(out, turned.at, host);
-    turned.filled(at)
+    let mut pen = Pen::new(out, turned.at);
+    state::put_state(&mut pen, host);
+    turned.filled(pen.at)
 }

@@ -3,3 +3,4 @@ pub mod Ink
 pub mod Pens
 pub mod Decimal
 pub mod Hex
+pub mod Lent

@@ -9,8 +9,7 @@ use lib.ListN.{length, take}
 use Rattle.text.specs.Ink.{inked, Laid}
 use Rattle.host.specs.declared.host.Sdmmc.{Sdmmc}
 use Rattle.calls.specs.Serve.{comes}
-use Rattle.book.specs.declared.layout.Opened.{Opened}
-use Rattle.book.specs.declared.layout.Opened.TheVariants as O
+use Rattle.std.specs.Prelude as O
 use Rattle.types.specs.Words.{words_of}
 use Rattle.book.specs.Readers.{opened_of}
 use Rattle.types.proofs.Back.{length-words}
@@ -56,16 +55,16 @@ pub some-calls : {ws : List ℕ} {room : ℕ} {start : Point} {host : Sdmmc} {pl
 some-calls k calls s h = record { served = k; within = h; whole = never; left = s.laid }
 
 -- a book that was opened, by how it was
-pub opened-start : (o : Opened) (ws out out' : List ℕ) (r : Opening) → OpensAs o ws r → Laid 0 (head_of o ws) out r.at out'
+pub opened-start : (o : O.Option ℕ) (ws out out' : List ℕ) (at : ℕ) (r : Opening) → OpensAs o ws r → Laid 0 (head_of o ws) out at out'
     → record { host = r.host; place = r.body_at; out = out' } ≡ start_of o ws out
 unfolding OpensAs start_of
-opened-start (O.Words n) ws out out' r s l = λ i. record { host = s.host i; place = s.place i; out = l.laid i }
-opened-start O.Bad ws out out' r s l = λ i. record { host = s.host i; place = s.place i; out = l.laid i }
+opened-start (O.Some n) ws out out' at r s l = λ i. record { host = s.host i; place = s.place i; out = l.laid i }
+opened-start O.None ws out out' at r s l = λ i. record { host = s.host i; place = s.place i; out = l.laid i }
 
-pub opened-calls : (o : Opened) (ws : List ℕ) (r : Opening) → OpensAs o ws r → r.calls ≡ calls_of o ws
+pub opened-calls : (o : O.Option ℕ) (ws : List ℕ) (r : Opening) → OpensAs o ws r → r.calls ≡ calls_of o ws
 unfolding OpensAs calls_of
-opened-calls (O.Words n) ws r s = s.calls
-opened-calls O.Bad ws r s = s.calls
+opened-calls (O.Some n) ws r s = s.calls
+opened-calls O.None ws r s = s.calls
 
 -- where there is no call, its words do not matter
 none-traced : (ws ws' : List ℕ) (room : ℕ) (start : Point) (all : Bool) (out : List ℕ) → Traces ws room start 0 all out → Traces ws' room start 0 all out
@@ -74,27 +73,27 @@ none-traced ws ws' room start all out t =
     let none : t.served ≡ 0 = omega (arith, t.within) in
     record { served = 0; within = omega arith; whole = λ e. refl; left = rw none at t.left }
 
-module _ (bytes words last : List ℕ) (room : ℕ) (r : Opening) (all : Bool) (out out' out'' : List ℕ) (f : last ≡ inked 0 (words_of bytes) words) where
-  by : (o : Opened) → opened_of bytes (length words) ≡ o → OpensAs o (words_of bytes) r
+module _ (bytes words last : List ℕ) (room : ℕ) (r : Opening) (all : Bool) (out out' out'' : List ℕ) (at : ℕ) (f : last ≡ inked 0 (words_of bytes) words) where
+  by : (o : O.Option ℕ) → opened_of bytes (length words) ≡ o → OpensAs o (words_of bytes) r
       → Traces (take r.words last) room (start_of o (words_of bytes) out) (calls_of o (words_of bytes)) all out''
       → Traces (words_of bytes) room (start_of o (words_of bytes) out) (calls_of o (words_of bytes)) all out''
   unfolding OpensAs calls_of
-  by (O.Words n) e s t =
+  by (O.Some n) e s t =
       let many : r.words ≡ n = s.words ∙ length-words bytes ∙ sym (opened_some bytes (length words) n e).2 in
       let lie : take r.words last ≡ words_of bytes = rw many (words_lie bytes words last n e f) in
       rw lie at t
-  by O.Bad e s t = none-traced (take r.words last) (words_of bytes) room _ all out'' t
+  by O.None e s t = none-traced (take r.words last) (words_of bytes) room _ all out'' t
 
-  pub book-traced : OpensAs (opened_of bytes (length words)) (words_of bytes) r → Laid 0 (head_of (opened_of bytes (length words)) (words_of bytes)) out r.at out'
+  pub book-traced : OpensAs (opened_of bytes (length words)) (words_of bytes) r → Laid 0 (head_of (opened_of bytes (length words)) (words_of bytes)) out at out'
       → Traces (take r.words last) room (record { host = r.host; place = r.body_at; out = out' }) r.calls all out''
       → Traces (words_of bytes) room (start_of (opened_of bytes (length words)) (words_of bytes) out) (calls_of (opened_of bytes (length words)) (words_of bytes)) all out''
   book-traced s l t =
       let o = opened_of bytes (length words) in
-      by o refl s (rw (opened-start o (words_of bytes) out out' r s l, opened-calls o (words_of bytes) r s) at t)
+      by o refl s (rw (opened-start o (words_of bytes) out out' at r s l, opened-calls o (words_of bytes) r s) at t)
 
 -- its first text could not be written
-pub not-begun : (o : Opened) (ws : List ℕ) (room : ℕ) (r : Opening) (out out' : List ℕ) → OpensAs o ws r → Laid 0 (head_of o ws) out r.at out'
+pub not-begun : (o : O.Option ℕ) (ws : List ℕ) (room : ℕ) (r : Opening) (out out' : List ℕ) (at : ℕ) → OpensAs o ws r → Laid 0 (head_of o ws) out at out'
     → Traces ws room (start_of o ws out) (calls_of o ws) false out'
 unfolding after_calls
-not-begun o ws room r out out' s l =
-    record { served = 0; within = omega arith; whole = never; left = ap (λ (p : Point). p.out) (opened-start o ws out out' r s l) }
+not-begun o ws room r out out' at s l =
+    record { served = 0; within = omega arith; whole = never; left = ap (λ (p : Point). p.out) (opened-start o ws out out' at r s l) }

@@ -1,11 +1,9 @@
 -- What is left behind when a book is traced, as far as it got: each call's text is laid in the buffer over the one before.
-use Rattle.std.specs.Prelude.{ℕ, zero, suc, ◌+◌, ◌≤◌, Bool, true, List, ◌≡◌}
+use Rattle.std.specs.Prelude.{ℕ, zero, suc, ◌+◌, ◌≤◌, Bool, true, List, Option, Some, None, ◌≡◌}
 use Rattle.text.specs.Ink.{inked}
 use Rattle.host.specs.declared.host.Sdmmc.{Sdmmc}
 use Rattle.host.specs.Calls.{no_host, made}
 use Rattle.calls.specs.Serve.{comes}
-use Rattle.book.specs.declared.layout.Opened.{Opened}
-use Rattle.book.specs.declared.layout.Opened.TheVariants as O
 use Rattle.book.specs.Layout.{count_of, contents_of, book_in}
 use Rattle.bench.specs.Bench.{settings_of}
 use Rattle.bench.specs.Opens.{head_of}
@@ -39,14 +37,14 @@ pub record Traces (ws : List ℕ) (room : ℕ) (start : Point) (calls : ℕ) (al
   pub left : out ≡ (after_calls ws room start served).out
 
 -- a book that was opened: its host, where its first body starts, and the host's text in the buffer; and its calls, where there is a host
-unfoldable pub start_of : Opened → List ℕ → List ℕ → Point
-start_of (O.Words n) ws out = record {
+unfoldable pub start_of : Option ℕ → List ℕ → List ℕ → Point
+start_of (Some n) ws out = record {
   host = (made (settings_of (book_in ws))).host;
   place = contents_of ws;
-  out = inked 0 (head_of (O.Words n) ws) out;
+  out = inked 0 (head_of (Some n) ws) out;
 }
-start_of O.Bad ws out = record { host = no_host; place = 0; out = inked 0 (head_of O.Bad ws) out }
+start_of None ws out = record { host = no_host; place = 0; out = inked 0 (head_of None ws) out }
 
-unfoldable pub calls_of : Opened → List ℕ → ℕ
-calls_of (O.Words n) ws = calls_served (made (settings_of (book_in ws))).answer (count_of ws)
-calls_of O.Bad ws = 0
+unfoldable pub calls_of : Option ℕ → List ℕ → ℕ
+calls_of (Some n) ws = calls_served (made (settings_of (book_in ws))).answer (count_of ws)
+calls_of None ws = 0

@@ -9,37 +9,30 @@ ghost use Rattle.tracing.specs.Traced.{Traces, start_of, calls_of};
 
 use bench::print::Turn;
 use bench::trace;
-use host::host::Sdmmc;
 use std::io::Write;
 use streams::sink::Sink;
+use text::pen::Pen;
 
 // Serves a book's calls one after the other, and writes what happened before the next is served: so much text is held at
 // once as one call has. Answers whether all of it was written.
 fn trace_calls<W: Write>(
-    host: Sdmmc,
+    start: Turn,
     words: &[u32],
     calls: u16,
-    body_at: usize,
     room: usize,
     out: &mut [u8],
     output: &mut Sink<W>,
 ) -> bool
-    ensures { Traces words.now room (record { host = host; place = body_at; out = out.old }) calls result out.new }
+    ensures { Traces words.now room (record { host = start.host; place = start.body_at; out = out.old }) calls result out.new }
 {
-    let mut turn = Turn {
-        host: host,
-        body_at: body_at,
-        at: 0,
-    };
-    let mut k = 0;
-    while k < calls {
-        let next = turn.host;
-        turn = trace::trace_call(next, words, k, turn.body_at, room, out);
-        let at = turn.at;
+    let mut turn = start;
+    for k in 0..calls {
+        let mut pen = Pen::new(out, 0);
+        turn = trace::trace_call(turn, words, k, room, &mut pen);
+        let at = pen.at;
         if !output.put(&out[..at]) {
             return false;
         }
-        k = k + 1;
     }
     true
 }
@@ -56,20 +49,16 @@ pub fn trace_book<W: Write>(
     ensures loaded { words.new ≡ inked 0 (words_of bytes.now) words.old }
     ensures traced { Traces (words_of bytes.now) room (start_of (opened_of bytes.now (length words.old)) (words_of bytes.now) out.old) (calls_of (opened_of bytes.now (length words.old)) (words_of bytes.now)) result out.new }
 {
-    let opening = trace::open(bytes, words, out);
-    let at = opening.at;
+    let mut pen = Pen::new(out, 0);
+    let opening = trace::open(bytes, words, &mut pen);
+    let at = pen.at;
     if !output.put(&out[..at]) {
         return false;
     }
-    let host = opening.host;
+    let start = Turn {
+        host: opening.host,
+        body_at: opening.body_at,
+    };
     let n = opening.words;
-    trace_calls(
-        host,
-        &words[..n],
-        opening.calls,
-        opening.body_at,
-        room,
-        out,
-        output,
-    )
+    trace_calls(start, &words[..n], opening.calls, room, out, output)
 }

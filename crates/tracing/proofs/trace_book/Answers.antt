@@ -1,15 +1,24 @@
+use Rattle.std.proofs.Common.{rules}
 use mathlib.Core.Path.{sym}
 use lib.Seq.{length-take-le}
 use Rattle.text.proofs.Ink.{stands-within}
+use Rattle.text.proofs.Lent.{same_name}
+use Rattle.text.proofs.Pens.{made_over}
 use Rattle.bench.proofs.Opens.{opening-fits}
 use Rattle.tracing.proofs.Traces.{not-begun, book-traced}
 use Rattle.tracing.proofs.trace_book.Goals as goal
 
 pub slice_bounds-put-end : goal.slice_bounds-put-end
-slice_bounds-put-end g c = stands-within c.open-opening.ensures.printed
+slice_bounds-put-end g c =
+    let made = c.new-pen.ensures in
+    let name = same_name _ _ c.open-opening.ensures.printed made.same in
+    stands-within (made_over _ made.stands made.held c.open-opening.ensures.printed (search rules))
 
 pub slice_bounds-put-end-2 : goal.slice_bounds-put-end-2
-slice_bounds-put-end-2 g c = sym (length-take-le _ _ (stands-within c.open-opening.ensures.printed))
+slice_bounds-put-end-2 g c =
+    let made = c.new-pen.ensures in
+    let name = same_name _ _ c.open-opening.ensures.printed made.same in
+    sym (length-take-le _ _ (stands-within (made_over _ made.stands made.held c.open-opening.ensures.printed (search rules))))
 
 pub slice_bounds-trace_calls-end : goal.slice_bounds-trace_calls-end
 slice_bounds-trace_calls-end g c = let opened = c.open-opening in
@@ -22,9 +31,13 @@ slice_bounds-trace_calls-end-2 g c = let opened = c.open-opening in
 pub returns-then-not-put : goal.returns-then-not-put
 returns-then-not-put g c = let opened = c.open-opening in
     let said = opened.ensures in
-    record { loaded = said.laid; traced = not-begun _ _ _ opened.result _ _ said.opened said.printed }
+    let made = c.new-pen.ensures in
+    let name = same_name _ _ said.printed made.same in
+    record { loaded = said.laid; traced = not-begun _ _ _ opened.result _ _ _ said.opened (made_over _ made.stands made.held said.printed (search rules)) }
 
 pub returns : goal.returns
 returns g c = let opened = c.open-opening in
     let said = opened.ensures in
-    record { loaded = said.laid; traced = book-traced _ _ _ _ opened.result _ _ _ _ said.laid said.opened said.printed c.trace_calls.ensures }
+    let made = c.new-pen.ensures in
+    let name = same_name _ _ said.printed made.same in
+    record { loaded = said.laid; traced = book-traced _ _ _ _ opened.result _ _ _ _ _ said.laid said.opened (made_over _ made.stands made.held said.printed (search rules)) c.trace_calls.ensures }

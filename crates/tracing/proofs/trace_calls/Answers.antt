@@ -1,29 +1,41 @@
+use Rattle.std.proofs.Common.{rules}
 use Prim.Native.Nat.{◌+◌}
 use mathlib.Core.Path.{sym}
 use lib.Seq.{length-take-le}
 use Rattle.text.proofs.Ink.{stands-within}
+use Rattle.text.proofs.Lent.{same_name}
+use Rattle.text.proofs.Pens.{made_over}
 use Rattle.tracing.proofs.Traces.{first, one_more, all-calls, some-calls}
-use borrow.Author.Rules.{rules}
 use Rattle.tracing.proofs.trace_calls.Goals as goal
 
 pub loop-k-init : goal.loop-k-init
-loop-k-init g c = (search rules, search rules, first _ _ _)
+loop-k-init g c = (search rules, first _ _ _)
 
 pub slice_bounds-put-end : goal.slice_bounds-put-end
-slice_bounds-put-end g c = stands-within c.trace_call-turn.ensures.traced
+slice_bounds-put-end g c =
+    let made = c.new-pen.ensures in
+    let name = same_name _ _ c.trace_call-turn.ensures.traced made.same in
+    stands-within (made_over _ made.stands made.held c.trace_call-turn.ensures.traced (search rules))
 
 pub slice_bounds-put-end-in-loop-k : goal.slice_bounds-put-end-in-loop-k
-slice_bounds-put-end-in-loop-k g c = sym (length-take-le _ _ (stands-within c.trace_call-turn.ensures.traced))
+slice_bounds-put-end-in-loop-k g c =
+    let made = c.new-pen.ensures in
+    let name = same_name _ _ c.trace_call-turn.ensures.traced made.same in
+    sym (length-take-le _ _ (stands-within (made_over _ made.stands made.held c.trace_call-turn.ensures.traced (search rules))))
 
 pub returns-then-not-put : goal.returns-then-not-put
 returns-then-not-put g c = let head = c.loop-k in
     let said = c.trace_call-turn.ensures in
-    some-calls (head.k + 1) _ (one_more _ _ _ _ _ _ _ _ _ _ _ head.invariant.2 said.served said.passed said.traced) (search rules)
+    let made = c.new-pen.ensures in
+    let name = same_name _ _ said.traced made.same in
+    some-calls (head.k + 1) _ (one_more _ _ _ _ _ _ _ _ _ _ _ head.invariant.1 said.served said.passed (made_over _ made.stands made.held said.traced (search rules))) (search rules)
 
 pub loop-k-preserved : goal.loop-k-preserved
 loop-k-preserved g c = let head = c.loop-k in
     let said = c.trace_call-turn.ensures in
-    (search rules, search rules, one_more _ _ _ _ _ _ _ _ _ _ _ head.invariant.2 said.served said.passed said.traced)
+    let made = c.new-pen.ensures in
+    let name = same_name _ _ said.traced made.same in
+    (search rules, one_more _ _ _ _ _ _ _ _ _ _ _ head.invariant.1 said.served said.passed (made_over _ made.stands made.held said.traced (search rules)))
 
 pub returns : goal.returns
-returns g c = all-calls c.loop-k.k _ c.loop-k.invariant.2 (search rules)
+returns g c = all-calls c.loop-k.k _ c.loop-k.invariant.1 (search rules)

@@ -7,4 +7,7 @@ use Rattle.bench.proofs.trace.open_bad.Goals as goal
 
 pub returns : goal.returns
 unfolding answer_told made judged_host made_of
-returns c = record { opened = record { host = ap (λ (m : Made). m.host) c.new-none.ensures; calls = refl; words = refl; place = refl }; printed = c.put_host.ensures }
+returns c = record {
+  opened = record { host = ap (λ (m : Made). m.host) c.new-none.ensures; calls = refl; words = refl; place = refl };
+  printed = c.put_host.ensures;
+}

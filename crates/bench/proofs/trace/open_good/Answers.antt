@@ -27,7 +27,7 @@ no_more Answered.BadBook n = omega arith
 
 pub overflow_cast-result : goal.overflow_cast-result
 overflow_cast-result c = let good = good-words c.args.words.now c.requires in
-    omega (arith, c.served-count.ensures, no_more c.new-made.result.answer c.word-calls.result, c.word-calls.ensures, good.most)
+    omega (arith, c.served.ensures, no_more c.new-made.result.answer c.word.result, c.word.ensures, good.most)
 
 pub returns : goal.returns
 unfolding book_in
@@ -35,9 +35,9 @@ returns c = let ws = c.args.words.now in
     let host : c.new-made.result ≡ made (settings_of (book_in ws)) = c.new-made.ensures ∙ ap made (c.settings.ensures ∙ ap settings_in c.head.ensures) in record {
       opened = record {
         host = ap (λ (m : Made). m.host) host;
-        calls = rw (host, c.word-calls.ensures) at c.served-count.ensures;
+        calls = rw (host, c.word.ensures) at c.served.ensures;
         words = refl;
         place = c.contents.ensures;
       };
-      printed = rw host at c.put_head-at.ensures;
+      printed = rw host at c.put_head.ensures;
     }

@@ -1,5 +1,5 @@
-use Rattle.text.proofs.Ink.{and_then}
+use Rattle.text.proofs.Pens.{and_written}
 use Rattle.events.proofs.event.put_wrote.Goals as goal
 
 pub returns : goal.returns
-returns c = and_then (and_then c.put_row-told.ensures c.put_meaning-meant.ensures) c.put_byte.ensures
+returns c = and_written _ _ _ (and_written _ _ _ c.put_row.ensures c.put_meaning.ensures) c.put_byte.ensures

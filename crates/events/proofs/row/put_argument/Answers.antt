@@ -1,7 +1,7 @@
-use Rattle.text.proofs.Ink.{and_then}
 use Rattle.events.specs.Meaning.{row_table, first_line, row_meaning}
+use Rattle.text.proofs.Pens.{and_written}
 use Rattle.events.proofs.row.put_argument.Goals as goal
 
 pub returns : goal.returns
 unfolding row_table first_line row_meaning
-returns c = and_then c.put_said-named.ensures c.put_hex.ensures
+returns c = and_written _ _ _ c.put_said.ensures c.put_hex.ensures

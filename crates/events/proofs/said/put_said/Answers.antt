@@ -1,5 +1,5 @@
-use Rattle.text.proofs.Ink.{and_then}
+use Rattle.text.proofs.Pens.{and_written}
 use Rattle.events.proofs.said.put_said.Goals as goal
 
 pub returns : goal.returns
-returns c = and_then c.put-place.ensures c.put.ensures
+returns c = and_written _ _ _ c.put.ensures c.put-2.ensures
