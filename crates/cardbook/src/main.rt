@@ -7,7 +7,6 @@ ghost use Rattle.bench.specs.Bench.{printed};
 
 use bench::print;
 use desk::input;
-use desk::input::Input;
 use streams::console::{Console, Standard};
 
 // Lays a book's lines in the buffer, all of them: no book has more than 4,096 bytes. Gives how many they are.
@@ -25,19 +24,18 @@ fn show(bytes: &[u8], out: &mut [u8], console: &mut Standard)
     requires { 4096 ≤ length out.old }
 {
     let n = lay(bytes, out);
-    if !console.output.put(&out[..n]) {
-        console.tell_unwritten(b"cardbook: standard output");
+    if let Err(why) = console.output.put(&out[..n]) {
+        console.tell(b"cardbook: standard output", why);
     }
 }
 
-// Reads the book. A buffer that was filled holds one word more than a book may have, so it is no book whatever follows.
+// Reads the book, by way of a buffer that has room for one word more than a book may have, and prints it.
 fn run(buffer: &mut [u8], out: &mut [u8], console: &mut Standard)
     requires { 4096 ≤ length out.old }
 {
-    match input::read_all(buffer, &mut console.input) {
-        Input::All(n) => show(&buffer[..n], out, console),
-        Input::Full => show(buffer, out, console),
-        Input::Failed => console.tell_unread(b"cardbook: standard input"),
+    match input::read_book(buffer, &mut console.input) {
+        Ok(count) => show(&buffer[..count], out, console),
+        Err(why) => console.tell(b"cardbook: standard input", why),
     }
 }
 

@@ -2,16 +2,14 @@
 use Rattle.std.specs.Prelude.{ℕ, List, [], ◌++◌}
 use Rattle.text.specs.Digits.{decimal_of}
 use Rattle.text.specs.Typed.{typed}
-use Rattle.desk.specs.declared.pile.Next.{Next}
-use Rattle.desk.specs.declared.pile.Next.TheVariants.{Book, End, Cut, Failed}
+use Rattle.desk.specs.declared.pile.PileError.{PileError}
+use Rattle.desk.specs.declared.pile.PileError.TheVariants.{Cut, Failed}
 
 -- books are counted from 1
 abbrev pub book_line : ℕ → List ℕ
 book_line k = typed "book " ++ decimal_of k ++ typed "\n"
 
 -- where a reading failed, the system's text is said in its place
-unfoldable pub end_text : Next → List ℕ
-end_text (Book n) = []
-end_text End = []
+unfoldable pub end_text : PileError → List ℕ
 end_text Cut = typed "cardpile: the pile is cut short\n"
-end_text Failed = []
+end_text (Failed why) = []

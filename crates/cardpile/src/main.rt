@@ -2,57 +2,54 @@
 // what cardtrace prints of it. One book is held at a time, so a pile may be of any size.
 #![tactic(auto)]
 
-ghost use Rattle.std.specs.Prelude.{false, ◌≡◌};
-ghost use Rattle.text.specs.Ink.{Laid};
+ghost use Rattle.std.specs.Prelude.{◌≡◌};
+ghost use Rattle.text.specs.Pens.{written};
 ghost use Rattle.cardpile.specs.Said.{book_line, end_text};
 
-use desk::pile::Next;
-use desk::room::{Program, Room};
+use desk::pile::PileError;
+use desk::room::Program;
 use desk::{pile, room};
+use std::io;
 use std::io::Write;
 use streams::console::{Console, Standard};
 use streams::sink::Sink;
-use text::pen;
+use text::pen::Pen;
 
-// Lays in the line in front of a book.
-fn lay_book(k: u64, out: &mut [u8]) -> usize
-    ensures { Laid 0 (book_line k) out.old result out.new }
+// The line in front of a book.
+fn put_line(pen: &mut Pen<'_>, k: u64)
+    ensures { pen.new ≡ written (book_line k) pen.old }
 {
-    let named = pen::put(out, 0, b"book ");
-    let counted = pen::put_decimal(out, named, k);
-    pen::put_byte(out, counted, b'\n')
+    pen.put_named(b"book ", k);
+    pen.put_byte(b'\n');
 }
 
-fn put_book<W: Write>(k: u64, out: &mut [u8], output: &mut Sink<W>) -> bool {
-    let n = lay_book(k, out);
-    output.put(&out[..n])
+fn put_book<W: Write>(k: u64, out: &mut [u8], output: &mut Sink<W>) -> io::Result<()> {
+    let mut pen = Pen::new(out, 0);
+    put_line(&mut pen, k);
+    let end = pen.at;
+    output.put(&out[..end])
 }
 
-// Lays in what is said where no book comes next.
-fn lay_end(next: Next, out: &mut [u8]) -> usize
-    ensures { Laid 0 (end_text next) out.old result out.new }
+// What is said where no book comes next, though the pile is not at its end.
+#[tactic(auto, unfolding(crate::specs::Said::end_text))]
+fn end_text(error: PileError) -> &'static [u8]
+    ensures { result.now ≡ end_text error }
 {
-    match next {
-        Next::Book(_) => 0,
-        Next::End => 0,
-        Next::Cut => pen::put(out, 0, b"cardpile: the pile is cut short\n"),
-        Next::Failed => 0,
+    match error {
+        PileError::Cut => b"cardpile: the pile is cut short\n",
+        PileError::Failed(_) => b"",
     }
 }
 
-// Says why no book comes next, where there is something to say, and answers not to go on.
-fn end(next: Next, out: &mut [u8], console: &mut Standard) -> bool
-    ensures { result ≡ false }
-{
-    let n = lay_end(next, out);
-    console.errors.put(&out[..n]);
-    if let Next::Failed = next {
-        console.tell_unread(b"cardpile: standard input");
+// Says why no book comes next.
+fn end(error: PileError, console: &mut Standard) {
+    let _ = console.errors.put(end_text(error));
+    if let PileError::Failed(why) = error {
+        console.tell(b"cardpile: standard input", why);
     }
-    false
 }
 
-// Writes what there is of book k, and answers whether all of it was written.
+// Writes book k.
 fn trace<W: Write>(
     k: u64,
     bytes: &[u8],
@@ -60,10 +57,8 @@ fn trace<W: Write>(
     words: &mut [u32],
     out: &mut [u8],
     output: &mut Sink<W>,
-) -> bool {
-    if !put_book(k, out, output) {
-        return false;
-    }
+) -> io::Result<()> {
+    put_book(k, out, output)?;
     tracing::trace_book(bytes, room, words, out, output)
 }
 
@@ -76,11 +71,13 @@ fn show(
     out: &mut [u8],
     console: &mut Standard,
 ) -> bool {
-    let written = trace(k, bytes, room, words, out, &mut console.output);
-    if !written {
-        console.tell_unwritten(b"cardpile: standard output");
+    match trace(k, bytes, room, words, out, &mut console.output) {
+        Ok(()) => true,
+        Err(why) => {
+            console.tell(b"cardpile: standard output", why);
+            false
+        }
     }
-    written
 }
 
 // Reads and traces book k, and answers whether to go on.
@@ -92,22 +89,23 @@ fn step(
     out: &mut [u8],
     console: &mut Standard,
 ) -> bool {
-    let next = pile::next_book(buffer, &mut console.input);
-    let Next::Book(n) = next else {
-        return end(next, out, console);
-    };
-    show(k, &buffer[..n], room, words, out, console)
+    match pile::next_book(buffer, &mut console.input) {
+        Ok(Some(count)) => show(k, &buffer[..count], room, words, out, console),
+        Ok(None) => false,
+        Err(error) => {
+            end(error, console);
+            false
+        }
+    }
 }
 
 // A proved loop has to end, and nothing says that a pile does. So the books are counted up to a number that no run
 // reaches.
 fn run(room: usize, buffer: &mut [u8], words: &mut [u32], out: &mut [u8], console: &mut Standard) {
-    let mut k: u64 = 1;
-    while k < u64::MAX {
+    for k in 1..u64::MAX {
         if !step(k, room, buffer, words, out, console) {
             return;
         }
-        k = k + 1;
     }
 }
 
@@ -115,7 +113,7 @@ fn run(room: usize, buffer: &mut [u8], words: &mut [u32], out: &mut [u8], consol
 // 4,096 rows of 18 bytes, 16 blocks of 1,031, and a few lines.
 fn main(rt: HostRuntime) {
     let mut console = Console::new(rt.stdin(), rt.stdout(), rt.stderr());
-    let Room::Rows(rows) = room::asked(Program::Cardpile, &rt, &mut console.errors) else {
+    let Some(rows) = room::asked(Program::Cardpile, &rt, &mut console.errors) else {
         return;
     };
     let mut buffer = [0u8; 16388];

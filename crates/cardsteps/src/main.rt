@@ -3,31 +3,30 @@
 // rows a call may write, 4,096 if not given.
 #![tactic(auto)]
 
-use desk::input::Input;
-use desk::room::{Program, Room};
+use desk::room::Program;
 use desk::{input, room};
 use streams::console::{Console, Standard};
 
 // Tells a book.
 fn show(bytes: &[u8], room: usize, words: &mut [u32], out: &mut [u8], console: &mut Standard) {
-    if !telling::tell_book(bytes, room, words, out, &mut console.output) {
-        console.tell_unwritten(b"cardsteps: standard output");
+    if let Err(why) = telling::tell_book(bytes, room, words, out, &mut console.output) {
+        console.tell(b"cardsteps: standard output", why);
     }
 }
 
-// Reads the book. A buffer that was filled holds one word more than a book may have, so it is no book whatever follows.
+// Reads the book and tells it.
 fn run(room: usize, buffer: &mut [u8], words: &mut [u32], out: &mut [u8], console: &mut Standard) {
-    match input::read_all(buffer, &mut console.input) {
-        Input::All(n) => show(&buffer[..n], room, words, out, console),
-        Input::Full => show(buffer, room, words, out, console),
-        Input::Failed => console.tell_unread(b"cardsteps: standard input"),
+    match input::read_book(buffer, &mut console.input) {
+        Ok(count) => show(&buffer[..count], room, words, out, console),
+        Err(why) => console.tell(b"cardsteps: standard input", why),
     }
 }
 
-// Lines gather in the text's buffer, and are written where the longest might not fit behind them.
+// The book's buffer has room for one word more than a book may have. Lines gather in the text's buffer, and are written where
+// the longest might not fit behind them.
 fn main(rt: HostRuntime) {
     let mut console = Console::new(rt.stdin(), rt.stdout(), rt.stderr());
-    let Room::Rows(rows) = room::asked(Program::Cardsteps, &rt, &mut console.errors) else {
+    let Some(rows) = room::asked(Program::Cardsteps, &rt, &mut console.errors) else {
         return;
     };
     let mut buffer = [0u8; 16388];

@@ -1,78 +1,72 @@
--- Whatever a reading gives, the next book comes nearer.
-use Prim.Native.Nat.{ℕ, ◌+◌, ◌-◌, ◌^◌, ◌≤◌, ◌<◌, min}
-use mathlib.Core.Bool.{Bool, true, false, cond}
-use mathlib.Core.Path.{◌≡◌, refl}
-use native.Mathlib.Omega.{arith}
-use borrow.Author.Tests.{eqb-false}
-use lib.Dec.{eqb}
-use Rattle.desk.specs.declared.input.Input.{Input}
-use Rattle.desk.specs.declared.input.Input.TheVariants as I
-use Rattle.desk.specs.declared.pile.Next.TheVariants as N
-use Rattle.desk.specs.declared.pile.Part.{Part}
-use Rattle.desk.specs.declared.pile.Part.TheVariants as P
-use Rattle.desk.specs.declared.pile.Stage.{Stage}
-use Rattle.desk.specs.declared.pile.Stage.TheVariants as S
-use Rattle.desk.specs.declared.pile.Task.{Task}
-use Rattle.desk.specs.declared.pile.Task.TheVariants as T
-use Rattle.desk.specs.Input.{Within}
-use Rattle.desk.specs.Pile.{announced_of, part_of, behind_of, part_read, Follows, Fills, Holds, Asks}
+-- What is read of a pile, part by part.
+use Rattle.std.proofs.Common.{◌≡◌, ℕ, ◌+◌, ◌-◌, ◌≤◌, min, Option, Some, Ok, Err, List, [], ◌∷◌, ◌++◌, length, take, drop, refl, arith, length-append, length-drop}
+use lib.Seq.{take_at}
+use Rattle.std.specs.Io.KnownBytes.{Consumes}
+use Rattle.std.proofs.KnownBytes.{Consumes-trans}
+use Rattle.desk.specs.declared.pile.PileError.{PileError}
+use Rattle.desk.specs.declared.pile.PileError.TheVariants.{Cut, Failed}
+use Rattle.desk.specs.Pile.{little_of, Past, Passes, Lengths, Books}
 
--- what is left to do: a book has fewer than 2^32 bytes
-abbrev pub due_for : Task → ℕ
-due_for T.Length = 2 ^ 33
-due_for (T.Held held left) = left + 3
-due_for (T.Behind held now later) = now + later + 1
+-- as many bytes are read past as were asked for at once
+pub past_more : (a b c : Option (List ℕ)) (left now count : ℕ) → now ≤ left → Past a b left count → (bs : List ℕ) → length bs ≡ now → Consumes b c bs → Past a c (left - now) count
+past_more a b c left now count some past bs long read =
+    (past.0 ++ bs, omega (arith, length-append past.0 bs, past.1, long), Consumes-trans a b c past.0 bs past.2 read)
 
-abbrev pub due : Stage → ℕ
-due (S.Due task) = due_for task
-due (S.Over next) = 0
+-- or fewer, and then it is over
+pub past_fewer : (a b c : Option (List ℕ)) (e : PileError) (left now count : ℕ) → now ≤ left → Past a b left count → Passes b c (Err e) now → Passes a c (Err e) count
+past_fewer a b c Cut left now count some past part =
+    (past.0 ++ part.0, omega (arith, length-append past.0 part.0, past.1, part.1), Consumes-trans a b c past.0 part.0 past.2 part.2, part.3)
+past_fewer a b c (Failed why) left now count some past part =
+    (past.0 ++ part.0, omega (arith, length-append past.0 part.0, past.1, part.1), Consumes-trans a b c past.0 part.0 past.2 part.2)
 
-abbrev pub Stands : Stage → ℕ → Type 0
-Stands (S.Due task) room = Asks task room
-Stands (S.Over next) room = Holds next room
+-- a length is told by its four bytes, whatever comes behind them
+pub little-front : (front bs : List ℕ) → 4 ≤ length front → little_of (front ++ bs) ≡ little_of front
+little-front (p ∷ q ∷ r ∷ s ∷ rest) bs h = refl
+little-front [] bs h = absurd (omega arith)
+little-front (p ∷ []) bs h = absurd (omega arith)
+little-front (p ∷ q ∷ []) bs h = absurd (omega arith)
+little-front (p ∷ q ∷ r ∷ []) bs h = absurd (omega arith)
 
--- there is room for what is to be read next, and less is left to do
-pub record Onward (room limit : ℕ) (r : Stage) : Type 0 where
-  pub stands : Stands r room
-  pub less : due r < limit
+-- behind a length and some of its book's bytes fewer came than were asked for, of those that the length tells of
+pub cut_behind : (a b c : Option (List ℕ)) (front buffer : List ℕ) (e : PileError) (count : ℕ) → 4 ≤ length front → length front + count ≤ 4 + little_of front
+    → Consumes a b front → Passes b c (Err e) count → Books a c (Err e) buffer
+cut_behind a b c front buffer Cut count four told before part = (
+  front ++ part.0,
+  omega (arith, length-append front part.0),
+  omega (arith, length-append front part.0, little-front front part.0 four, told, part.1),
+  Consumes-trans a b c front part.0 before part.2,
+  part.3,
+)
+cut_behind a b c front buffer (Failed why) count four told before part = (
+  front ++ part.0,
+  omega (arith, length-append front part.0, little-front front part.0 four, told, part.1),
+  Consumes-trans a b c front part.0 before part.2,
+)
 
-behind-onward : (room held left limit : ℕ) → held ≤ room → left + 1 < limit → (t : Bool) → eqb left 0 ≡ t
-    → Onward room limit (cond t (S.Over (N.Book held)) (S.Due (T.Behind held (min left 4_096) (left - min left 4_096))))
-behind-onward room held left limit h l true e = record { stands = h; less = omega arith }
-behind-onward room held left limit h l false e =
-    let some = eqb-false left 0 e in record { stands = (h, omega arith, omega arith); less = omega arith }
+-- the length of the next book came, and then fewer of its bytes than were asked for
+pub cut_in_buffer : (a b c : Option (List ℕ)) (size held count : ℕ) (buffer : List ℕ) (e : PileError) → Lengths a b (Ok (Some size)) → held ≡ min size (length buffer) → count ≡ held
+    → Passes b c (Err e) count → Books a c (Err e) buffer
+cut_in_buffer a b c size held count buffer e head least same part = cut_behind a b c head.0 buffer e count (omega arith) (omega arith) head.3 part
 
-part-onward : (room held left limit : ℕ) → held ≤ room → left + 1 < limit → (part : Part) → Onward room limit (part_read part held left)
-unfolding part_read behind_of
-part-onward room held left limit h l (P.Whole n) = behind-onward room held left limit h l (eqb left 0) refl
-part-onward room held left limit h l P.Cut = record { stands = tt; less = omega arith }
-part-onward room held left limit h l P.Failed = record { stands = tt; less = omega arith }
+-- or of those that the buffer has no room for
+pub cut_past_buffer : (a b c d : Option (List ℕ)) (size held : ℕ) (part buffer : List ℕ) (e : PileError) → Lengths a b (Ok (Some size)) → length part ≡ held → held ≤ size
+    → Consumes b c part → Passes c d (Err e) (size - held) → Books a d (Err e) buffer
+cut_past_buffer a b c d size held part buffer e head long within read passed =
+    cut_behind a c d (head.0 ++ part) buffer e (size - held) (omega (arith, length-append head.0 part))
+    (omega (arith, length-append head.0 part, little-front head.0 part (omega arith), head.1, head.2, long))
+    (Consumes-trans a b c head.0 part head.3 read)
+    passed
 
-end-onward : (room : ℕ) (t : Bool) → Onward room (2 ^ 33) (cond t (S.Over N.End) (S.Over N.Cut))
-end-onward room true = record { stands = tt; less = omega arith }
-end-onward room false = record { stands = tt; less = omega arith }
-
-length-onward : (room size : ℕ) → size < 2 ^ 32 → (input : Input) → Onward room (2 ^ 33) (announced_of input size room)
-unfolding announced_of
-length-onward room size h I.Full = record { stands = omega arith; less = omega arith }
-length-onward room size h (I.All n) = end-onward room (eqb n 0)
-length-onward room size h I.Failed = record { stands = tt; less = omega arith }
-
-pub onward : (task : Task) (room : ℕ) (r : Stage) → Asks task room → Follows task room r → Onward room (due_for task) r
-unfolding Follows
-onward T.Length room r a f = rw f.3 (length-onward room f.1 f.2 f.0)
-onward (T.Held held left) room r a f = rw f.2 (part-onward room held left (left + 3) a (omega arith) f.0)
-onward (T.Behind held now later) room r a f = rw f.2 (part-onward room held later (now + later + 1) a.0 (omega arith) f.0)
-
--- in a buffer that is as long as before
-pub stands_in : (r : Stage) (a b : ℕ) → a ≡ b → Stands r a → Stands r b
-stands_in r a b e s = rw e at s
-
--- a part whose reading gave this
-pub fills : (input : Input) (room : ℕ) → Within input room → Fills (part_of input room) room
-fills I.Full room w = refl
-fills (I.All n) room w = omega arith
-fills I.Failed room w = w
-
-pub fills_in : (part : Part) (a b : ℕ) → a ≡ b → Fills part a → Fills part b
-fills_in part a b e f = rw e at f
+-- or all of them
+pub whole_book : (a b c d : Option (List ℕ)) (size held : ℕ) (part was : List ℕ) (x : Unit {0}) → Lengths a b (Ok (Some size)) → length part ≡ held → held ≡ min size (length was)
+    → Consumes b c part → Passes c d (Ok x) (size - held) → Books a d (Ok (Some held)) (part ++ drop held was)
+whole_book a b c d size held part was x head long least read passed =
+    let all : length (part ++ drop held was) ≡ length was = omega (arith, length-append part (drop held was), length-drop held was) in
+    let taken : take held (part ++ drop held was) ≡ part = take_at part (drop held was) held long in (
+      head.0,
+      passed.0,
+      head.1,
+      rw (all, ← head.2) least,
+      rw (← head.2) passed.1,
+      rw taken (Consumes-trans a b d head.0 (part ++ passed.0) head.3 (Consumes-trans b c d part passed.0 read passed.2)),
+    )

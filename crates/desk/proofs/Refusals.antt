@@ -7,8 +7,8 @@ use lib.ListN.{length, take, drop}
 use lib.Seq.{take_all, take_at}
 use Rattle.text.specs.Ink.{Laid, inked, next}
 use Rattle.text.proofs.Ink.{ink_nil, next_nil}
-use Rattle.desk.specs.declared.room.Wish.{Wish}
-use Rattle.desk.specs.declared.room.Wish.TheVariants as W
+use Rattle.desk.specs.declared.room.ArgumentError.{ArgumentError}
+use Rattle.desk.specs.declared.room.ArgumentError.TheVariants.{TooMany, NoRoom}
 use Rattle.desk.specs.declared.room.Program.{Program}
 use Rattle.desk.specs.declared.room.Program.TheVariants.{Cardtrace, Cardpile, Cardsteps}
 use Rattle.desk.specs.Refusal.{refusal_text}
@@ -25,17 +25,16 @@ whole {text} {before} {after} {place} laid h =
 pub nothing : (buffer : List ℕ) → Laid 0 [] buffer 0 buffer
 nothing buffer = record { placed = rw next_nil (omega arith); laid = sym (ink_nil 0 buffer) }
 
-pub fits : (program : Program) (wish : Wish) → length (refusal_text program wish) ≤ 64
+pub fits : (program : Program) (error : ArgumentError) → length (refusal_text program error) ≤ 64
 unfolding refusal_text
-fits program (W.Rows n) = omega arith
-fits Cardtrace W.TooMany = omega arith
-fits Cardtrace W.NoRoom = omega arith
-fits Cardpile W.TooMany = omega arith
-fits Cardpile W.NoRoom = omega arith
-fits Cardsteps W.TooMany = omega arith
-fits Cardsteps W.NoRoom = omega arith
+fits Cardtrace TooMany = omega arith
+fits Cardtrace NoRoom = omega arith
+fits Cardpile TooMany = omega arith
+fits Cardpile NoRoom = omega arith
+fits Cardsteps TooMany = omega arith
+fits Cardsteps NoRoom = omega arith
 
 -- so the line is laid in whole
-pub said : (program : Program) (wish : Wish) {before after : List ℕ} {place : ℕ} → 64 ≤ length before → Laid 0 (refusal_text program wish) before place after
-    → (take place after ≡ refusal_text program wish) × Laid 0 (refusal_text program wish) before place after
-said program wish room laid = (whole laid (omega (arith, fits program wish)), laid)
+pub said : (program : Program) (error : ArgumentError) {before after : List ℕ} {place : ℕ} → 64 ≤ length before → Laid 0 (refusal_text program error) before place after
+    → (take place after ≡ refusal_text program error) × Laid 0 (refusal_text program error) before place after
+said program error room laid = (whole laid (omega (arith, fits program error)), laid)

@@ -1,29 +1,24 @@
--- What a reading of a whole buffer comes to, by what `read` answered each time.
-use Rattle.std.specs.Prelude.{ℕ, ◌+◌, ◌-◌, ◌<◌, min, cond, ◌≡◌, eqb, ltb, ℤ, pos, negsuc}
-use Rattle.desk.specs.declared.input.Filling.{Filling}
-use Rattle.desk.specs.declared.input.Filling.TheVariants.{At, Over}
-use Rattle.desk.specs.declared.input.Input.{Input}
-use Rattle.desk.specs.declared.input.Input.TheVariants.{All, Full, Failed}
-
--- so many bytes have come; a buffer that is filled counts as too small, since more may come
-abbrev pub filled_to : ℕ → ℕ → Filling
-filled_to done room = cond (ltb done room) (At done) (Over Full)
-
--- so many more have come, and none at the end of the input
-abbrev pub came_more : ℕ → ℕ → ℕ → Filling
-came_more more done room = cond (eqb more 0) (Over (All done)) (filled_to (done + more) room)
-
--- what `read` answered where so many had come: a number below 0 where it failed, and never more than there was room for
-abbrev pub read_on : ℤ → ℕ → ℕ → Filling
-read_on (negsuc k) done room = Over Failed
-read_on (pos more) done room = came_more (min more (room - done)) done room
-
--- what follows where so many had come: what `read` answers decides, and nothing else
-abbrev pub Goes : ℕ → ℕ → Filling → Type 0
-Goes done room r = (got : ℤ) × (r ≡ read_on got done room)
+-- What a reading of a whole buffer comes to: how many bytes came before the input's end, or why they did not come whole.
+use Rattle.std.specs.Prelude.{ℕ, ◌<◌, ◌≤◌, Option, Result, Ok, Err, List, length, take}
+use Rattle.std.specs.Io.KnownBytes.{Consumes, IsAtEnd}
+use Rattle.desk.specs.declared.input.InputError.{InputError}
+use Rattle.desk.specs.declared.input.InputError.TheVariants.{Full, Failed}
 
 -- the input ended before the buffer was filled; and nothing is read into no room, so that nothing fails
-abbrev pub Within : Input → ℕ → Type 0
-Within (All n) room = n < room
-Within Full room = Unit {0}
-Within Failed room = 0 < room
+abbrev pub Within : Result ℕ InputError → ℕ → Type 0
+Within (Ok n) room = n < room
+Within (Err Full) room = Unit {0}
+Within (Err (Failed why)) room = 0 < room
+
+-- of a reader whose bytes are known: those that came stand at the buffer's start in their order, none is left out, and no
+-- more are taken from it. All of them came where it is said so; a buffer that is full holds as many as it has room for; and
+-- where a reading failed it is not full
+abbrev pub Reads : Option (List ℕ) → Option (List ℕ) → Result ℕ InputError → List ℕ → Type 0
+Reads old new (Ok n) buffer = Consumes old new (take n buffer) × IsAtEnd new
+Reads old new (Err Full) buffer = Consumes old new buffer
+Reads old new (Err (Failed why)) buffer = (n : ℕ) × (n < length buffer) × Consumes old new (take n buffer)
+
+-- the same, where a buffer that is full is handed on like one that is not
+abbrev pub Begins : {E : Type 0} → Option (List ℕ) → Option (List ℕ) → Result ℕ E → List ℕ → Type 0
+Begins old new (Ok n) buffer = (n ≤ length buffer) × Consumes old new (take n buffer) × (n < length buffer → IsAtEnd new)
+Begins old new (Err why) buffer = 0 < length buffer

@@ -1,85 +1,52 @@
 // All of standard input.
-ghost use Rattle.std.specs.Prelude.{◌≡◌, ◌≤◌, pos, length};
-ghost use Rattle.std.specs.Int.Signed.{lt_z};
-ghost use Rattle.desk.specs.Input.{filled_to, read_on, Goes, Within};
+ghost use Rattle.std.specs.Prelude.{◌≡◌, length};
+ghost use Rattle.desk.specs.declared.input.InputError.TheVariants.{Failed};
+ghost use Rattle.desk.specs.Input.{Begins, Reads, Within};
 
+use std::io;
 use std::io::Read;
 use streams::source::Source;
 
-// What came: all of it, so many bytes; more than there was room for; or a reading failed.
-#[derive(Clone, Copy)]
-pub enum Input {
-    All(usize),
+// Why an input did not come whole: there is more than there was room for, or a reading failed.
+#[derive(Clone, Copy, Debug)]
+pub enum InputError {
     Full,
-    Failed,
+    Failed(io::Error),
 }
 
-// How far a buffer's filling has come: so many bytes, and there is room for more; or it is over.
-#[derive(Clone, Copy)]
-enum Filling {
-    At(usize),
-    Over(Input),
-}
+impl From<io::Error> for InputError {
+    ghost from_gives = { λ why e. e ≡ Failed why };
 
-// So many bytes have come.
-fn filled_to(done: usize, buffer: &[u8]) -> Filling
-    ensures { result ≡ filled_to done (length buffer.now) }
-{
-    if done < buffer.len() {
-        return Filling::At(done);
+    fn from(why: io::Error) -> InputError {
+        InputError::Failed(why)
     }
-    Filling::Over(Input::Full)
 }
 
-// None have come yet.
-fn begun(buffer: &[u8]) -> Filling
-    ensures { result ≡ filled_to 0 (length buffer.now) }
+// Reads to the end of the input, and answers how many bytes came. A buffer that is filled counts as too small, since more
+// may come.
+pub fn read_all<R: Read>(buffer: &mut [u8], source: &mut Source<R>) -> Result<usize, InputError>
+    ensures within { Within result (length buffer.new) }
+    ensures bytes { Reads (R.remaining source.old.from) (R.remaining source.new.from) result buffer.new }
 {
-    filled_to(0, buffer)
-}
-
-// Whether `read` failed, by what it answered.
-fn failed(got: isize) -> bool
-    ensures { result ≡ lt_z got (pos 0) }
-{
-    got < 0
-}
-
-// What `read` answered, where so many bytes had come.
-fn read_on(got: isize, done: usize, buffer: &[u8]) -> Filling
-    requires { done ≤ length buffer.now }
-    ensures { result ≡ read_on got done (length buffer.now) }
-{
-    if failed(got) {
-        return Filling::Over(Input::Failed);
-    }
-    let more = io::count(got, &buffer[done..]);
-    if more == 0 {
-        return Filling::Over(Input::All(done));
-    }
-    filled_to(done + more, buffer)
-}
-
-// Reads once, where so many bytes had come.
-fn read_at<R: Read>(done: usize, buffer: &mut [u8], source: &mut Source<R>) -> Filling
-    requires { done ≤ length buffer.old }
-    ensures { Goes done (length buffer.old) result }
-{
-    let got = source.get(&mut buffer[done..]);
-    read_on(got, done, buffer)
-}
-
-// Reads to the end of the input.
-pub fn read_all<R: Read>(buffer: &mut [u8], source: &mut Source<R>) -> Input
-    ensures { Within result (length buffer.new) }
-{
-    let mut filling = begun(buffer);
-    loop {
-        match filling {
-            Filling::At(done) => {
-                filling = read_at(done, buffer, source);
-            }
-            Filling::Over(input) => return input,
+    let mut done = 0;
+    // how far a turn comes is what the reading says, so there is no range to go through
+    while done < buffer.len() {
+        let more = source.get(&mut buffer[done..])?;
+        if more == 0 {
+            return Ok(done);
         }
+        done += more;
+    }
+    Err(InputError::Full)
+}
+
+// Reads a book, and answers how many of its bytes are in the buffer. A buffer that was filled has more bytes than a book may
+// have, so it is no book whatever follows, and all of it is handed on.
+pub fn read_book<R: Read>(buffer: &mut [u8], source: &mut Source<R>) -> io::Result<usize>
+    ensures { Begins (R.remaining source.old.from) (R.remaining source.new.from) result buffer.new }
+{
+    match read_all(buffer, source) {
+        Err(InputError::Failed(why)) => Err(why),
+        read => Ok(read.unwrap_or(buffer.len())),
     }
 }

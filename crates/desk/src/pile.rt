@@ -1,179 +1,84 @@
 // Standard input book by book. In a pile each book has its length in bytes in front, as a 32-bit little-endian word.
-ghost use Rattle.std.specs.Prelude.{◌≡◌, ◌<◌, ◌≤◌, ◌^◌, min, length};
-ghost use Rattle.desk.specs.declared.pile.Task.TheVariants as Tasks;
-ghost use Rattle.desk.specs.Pile.{word4, little_of, part_of, behind_of, book_of, announced_of, part_read, Fills, Holds, Asks, Follows};
+ghost use Rattle.std.specs.Prelude.{◌≡◌, OnOk, length};
+ghost use Rattle.std.specs.Io.KnownBytes.{Consumes};
+ghost use Rattle.desk.specs.Pile.{part_of, Passes, Lengths, Books, Holds};
 
 use crate::input;
-use crate::input::Input;
+use crate::input::InputError;
+use std::io;
 use std::io::Read;
 use streams::source::Source;
 
-// What comes next: a book, so many of its bytes in the buffer; the pile's end; a pile that is cut short; or a reading
-// failed.
-#[derive(Clone, Copy)]
-pub enum Next {
-    Book(usize),
-    End,
+// Why the next book does not come: the pile is cut short, or a reading failed.
+#[derive(Clone, Copy, Debug)]
+pub enum PileError {
     Cut,
-    Failed,
+    Failed(io::Error),
 }
 
-// What became of a part that was to be read: it came whole, so many bytes; the input ended before; or a reading failed.
-#[derive(Clone, Copy)]
-enum Part {
-    Whole(usize),
-    Cut,
-    Failed,
-}
+// So many bytes are read past at once.
+const CHUNK: usize = 4096;
 
-// What is to be read next.
-#[derive(Clone, Copy)]
-enum Task {
-    // the length of a book
-    Length,
-    // so many of its bytes, into the buffer; so many lie behind them
-    Held(usize, usize),
-    // so many are in the buffer; so many have to be read past at once, and so many after them
-    Behind(usize, usize, usize),
-}
-
-// How far it is to the next book: something has to be read, or it is over.
-#[derive(Clone, Copy)]
-enum Stage {
-    Due(Task),
-    Over(Next),
-}
-
-fn least(a: usize, b: usize) -> usize
-    ensures { result ≡ min a b }
+// A buffer was to be filled, by what a reading of it gave: an input that ends before is cut short.
+fn part_of(read: Result<usize, InputError>) -> Result<(), PileError>
+    ensures { result ≡ part_of read }
 {
-    if a < b { a } else { b }
-}
-
-fn joined(a: u8, b: u8, c: u8, d: u8) -> usize
-    ensures whole { result ≡ word4 a b c d }
-    ensures fits { result < 2 ^ 32 }
-{
-    a as usize + b as usize * 0x100 + c as usize * 0x1_0000 + d as usize * 0x100_0000
-}
-
-// The number of four bytes, the lowest first.
-fn little(bytes: [u8; 4]) -> usize
-    ensures whole { result ≡ little_of bytes }
-    ensures fits { result < 2 ^ 32 }
-{
-    joined(bytes[0], bytes[1], bytes[2], bytes[3])
-}
-
-// A buffer was to be filled, by what a reading of it gave.
-fn part_of(input: Input, buffer: &[u8]) -> Part
-    ensures { result ≡ part_of input (length buffer.now) }
-{
-    match input {
-        Input::Full => Part::Whole(buffer.len()),
-        Input::All(_) => Part::Cut,
-        Input::Failed => Part::Failed,
-    }
-}
-
-// So many bytes of a book are in the buffer, and so many have to be read past.
-fn behind(held: usize, left: usize) -> Stage
-    ensures { result ≡ behind_of held left }
-{
-    if left == 0 {
-        return Stage::Over(Next::Book(held));
-    }
-    let now = least(left, 4096);
-    Stage::Due(Task::Behind(held, now, left - now))
-}
-
-// A book of so many bytes comes. What the buffer has no room for is read past: whoever lends room for one word more than a
-// book may have can tell by the first bytes that it is none.
-fn book(size: usize, buffer: &[u8]) -> Stage
-    ensures { result ≡ book_of size (length buffer.now) }
-{
-    let held = least(size, buffer.len());
-    Stage::Due(Task::Held(held, size - held))
-}
-
-// A length was to be read, and stands in four bytes.
-fn announced(input: Input, size: usize, buffer: &[u8]) -> Stage
-    ensures { result ≡ announced_of input size (length buffer.now) }
-{
-    match input {
-        Input::Full => book(size, buffer),
-        Input::All(n) => {
-            if n == 0 {
-                return Stage::Over(Next::End);
-            }
-            Stage::Over(Next::Cut)
-        }
-        Input::Failed => Stage::Over(Next::Failed),
-    }
-}
-
-// A part of a book was to be read; with it so many bytes are in the buffer, and so many left to be read past.
-fn part_read(part: Part, held: usize, left: usize) -> Stage
-    ensures { result ≡ part_read part held left }
-{
-    match part {
-        Part::Whole(_) => behind(held, left),
-        Part::Cut => Stage::Over(Next::Cut),
-        Part::Failed => Stage::Over(Next::Failed),
+    match read {
+        Err(InputError::Full) => Ok(()),
+        Err(InputError::Failed(why)) => Err(PileError::Failed(why)),
+        Ok(_) => Err(PileError::Cut),
     }
 }
 
 // Reads as many bytes as there is room for, and no fewer.
-fn fill<R: Read>(buffer: &mut [u8], source: &mut Source<R>) -> Part
-    ensures { Fills result (length buffer.old) }
+fn fill<R: Read>(buffer: &mut [u8], source: &mut Source<R>) -> Result<(), PileError>
+    ensures whole { OnOk result (Consumes (R.remaining source.old.from) (R.remaining source.new.from) buffer.new) }
+    ensures passes { Passes (R.remaining source.old.from) (R.remaining source.new.from) result (length buffer.new) }
 {
-    let input = input::read_all(buffer, source);
-    part_of(input, buffer)
-}
-
-fn read_length<R: Read>(buffer: &[u8], source: &mut Source<R>) -> Stage
-    ensures { Follows Tasks.Length (length buffer.now) result }
-{
-    let mut bytes = [0u8; 4];
-    let input = input::read_all(&mut bytes, source);
-    announced(input, little(bytes), buffer)
+    part_of(input::read_all(buffer, source))
 }
 
 // Reads past so many bytes.
-fn skip<R: Read>(count: usize, source: &mut Source<R>) -> Part
-    requires { count ≤ 4096 }
-    ensures { Fills result count }
+fn skip<R: Read>(count: usize, source: &mut Source<R>) -> Result<(), PileError>
+    ensures { Passes (R.remaining source.old.from) (R.remaining source.new.from) result count }
 {
-    let mut chunk = [0u8; 4096];
-    fill(&mut chunk[..count], source)
+    let mut chunk = [0u8; CHUNK];
+    let mut left = count;
+    // a range over the chunks would leave the size of the last to be worked out beside it
+    while left > 0 {
+        let now = left.min(CHUNK);
+        fill(&mut chunk[..now], source)?;
+        left -= now;
+    }
+    Ok(())
 }
 
-// Reads what is to be read next.
-fn turn<R: Read>(task: Task, buffer: &mut [u8], source: &mut Source<R>) -> Stage
-    requires { Asks task (length buffer.old) }
-    ensures { Follows task (length buffer.old) result }
+// The length of the next book; none at the pile's end.
+fn read_length<R: Read>(source: &mut Source<R>) -> Result<Option<usize>, PileError>
+    ensures { Lengths (R.remaining source.old.from) (R.remaining source.new.from) result }
 {
-    match task {
-        Task::Length => read_length(buffer, source),
-        Task::Held(held, left) => {
-            let part = fill(&mut buffer[..held], source);
-            part_read(part, held, left)
-        }
-        Task::Behind(held, now, later) => part_read(skip(now, source), held, later),
+    let mut bytes = [0u8; 4];
+    match input::read_all(&mut bytes, source) {
+        Ok(0) => Ok(None),
+        read => part_of(read).map(|()| Some(u32::from_le_bytes(bytes) as usize)),
     }
 }
 
-// The next book of the pile.
-pub fn next_book<R: Read>(buffer: &mut [u8], source: &mut Source<R>) -> Next
-    ensures { Holds result (length buffer.new) }
+// Reads the next book of the pile, and answers how many of its bytes are in the buffer: none at the pile's end. What the
+// buffer has no room for is read past: whoever lends room for one word more than a book may have can tell by the first bytes
+// that it is none.
+pub fn next_book<R: Read>(
+    buffer: &mut [u8],
+    source: &mut Source<R>,
+) -> Result<Option<usize>, PileError>
+    ensures holds { Holds result (length buffer.new) }
+    ensures bytes { Books (R.remaining source.old.from) (R.remaining source.new.from) result buffer.new }
 {
-    let mut stage = Stage::Due(Task::Length);
-    loop {
-        match stage {
-            Stage::Due(task) => {
-                stage = turn(task, buffer, source);
-            }
-            Stage::Over(next) => return next,
-        }
-    }
+    let Some(size) = read_length(source)? else {
+        return Ok(None);
+    };
+    let held = size.min(buffer.len());
+    fill(&mut buffer[..held], source)?;
+    skip(size - held, source)?;
+    Ok(Some(held))
 }

@@ -2,24 +2,16 @@
 use Prim.Native.Nat.{ℕ, ◌+◌, ◌-◌, ◌≤◌, ◌<◌}
 use mathlib.Core.List.{List, ◌++◌}
 use mathlib.Core.Logic.{⊎_elim}
-use mathlib.Core.Bool.{Bool, true, false, not}
-use mathlib.Core.Path.{◌≡◌, refl, ap, sym, ◌∙◌}
+use mathlib.Core.Path.{◌≡◌, refl, sym}
 use native.Mathlib.Omega.{arith}
 use lib.ListN.{length, take, drop, length-append}
 use lib.Seq.{take_all, take_at, length-take-le}
 use borrow.Author.Tests.{le-leb, lt-leb}
+use Rattle.std.specs.Prelude.{IsOk}
 use Rattle.text.specs.Ink.{Laid, inked, next}
 use Rattle.text.proofs.Orders.{either}
 use Rattle.sheet.specs.declared.sheet.Sheet.{Sheet}
 use Rattle.sheet.specs.Sheet.{Fits, place_for, Tells}
-
-pub never : {A : Type 0} → false ≡ true → A
-never e = let z : ◌≡◌ {A = ℕ} 0 1 = cc in absurd (omega arith)
-
--- a test that is turned round
-pub not-off : (b : Bool) → not b ≡ false → b ≡ true
-not-off true e = refl
-not-off false e = never (sym e)
 
 pub behind : (size at : ℕ) → 512 ≤ size - at → at ≡ place_for size at
 unfolding place_for
@@ -47,12 +39,12 @@ stands {at} {text} {before} {place} {after} laid h =
 
 -- what each telling does: the sheet has room, the line is laid in there, and the sheet ends behind it
 pub told : {line before after : List ℕ} {sheet turned r : Sheet} {place : ℕ}
-    → Fits sheet before → turned.at ≡ place_for (length before) sheet.at → (turned.written ≡ true → sheet.written ≡ true) → Laid turned.at line before place after
+    → Fits sheet before → turned.at ≡ place_for (length before) sheet.at → (IsOk turned.written → IsOk sheet.written) → Laid turned.at line before place after
     → r ≡ record { at = place; written = turned.written } → Tells line sheet before r after
 told {line} {before} {after} {sheet} {turned} {r} {place} fits at kept laid ends =
     let there : Laid (place_for (length before) sheet.at) line before r.at after = rw (ends, sym at) laid in
     record {
       laid = there;
       whole = λ short. stands there (omega (arith, room (length before) sheet.at fits.1, short));
-      kept = λ e. kept (sym (ap (λ (x : Sheet). x.written) ends) ∙ e);
+      kept = λ e. kept (rw ends at e);
     }

@@ -1,5 +1,5 @@
 -- Where a line goes on a sheet, and what the sheet holds then.
-use Rattle.std.specs.Prelude.{ℕ, ◌-◌, ◌≤◌, true, cond, List, ◌++◌, ◌≡◌, leb, length, take}
+use Rattle.std.specs.Prelude.{ℕ, ◌-◌, ◌≤◌, IsOk, cond, List, ◌++◌, ◌≡◌, leb, length, take}
 use Rattle.text.specs.Ink.{Laid}
 use Rattle.sheet.specs.declared.sheet.Sheet.{Sheet}
 
@@ -16,4 +16,4 @@ place_for size at = cond (leb 512 (size - at)) at 0
 pub record Tells (line : List ℕ) (sheet : Sheet) (before : List ℕ) (r : Sheet) (after : List ℕ) : Type 0 where
   pub laid : Laid (place_for (length before) sheet.at) line before r.at after
   pub whole : length line ≤ 512 → take r.at after ≡ take (place_for (length before) sheet.at) before ++ line
-  pub kept : r.written ≡ true → sheet.written ≡ true
+  pub kept : IsOk r.written → IsOk sheet.written

@@ -1,15 +1,16 @@
 // A sheet: the text in a lent buffer that is still to be written.
-ghost use Rattle.std.specs.Prelude.{true, ◌≡◌, ◌≤◌, length};
+ghost use Rattle.std.specs.Prelude.{IsOk, ◌≡◌, ◌≤◌, length};
 ghost use Rattle.sheet.specs.Sheet.{place_for};
 
+use std::io;
 use std::io::Write;
 use streams::sink::Sink;
 
-// So much of the buffer is filled; and whether all that was in it before was written.
+// So much of the buffer is filled; and whether all that was in it before was written, or why not.
 #[derive(Clone, Copy)]
 pub struct Sheet {
     pub at: usize,
-    pub written: bool,
+    pub written: io::Result<()>,
 }
 
 impl Sheet {
@@ -20,18 +21,11 @@ impl Sheet {
     pub fn handed<W: Write>(self, out: &[u8], output: &mut Sink<W>) -> Sheet
         requires { self.at ≤ length out.now }
         ensures empty { result.at ≡ 0 }
-        ensures kept { result.written ≡ true → self.written ≡ true }
+        ensures kept { IsOk result.written → IsOk self.written }
     {
-        let at = self.at;
-        if !self.written {
-            return Sheet {
-                at: 0,
-                written: false,
-            };
-        }
         Sheet {
             at: 0,
-            written: output.put(&out[..at]),
+            written: self.written.and_then(|()| output.put(&out[..self.at])),
         }
     }
 
@@ -39,7 +33,7 @@ impl Sheet {
     pub fn turned<W: Write>(self, out: &[u8], output: &mut Sink<W>) -> Sheet
         requires { self.at ≤ length out.now }
         ensures roomy { result.at ≡ place_for (length out.now) self.at }
-        ensures kept { result.written ≡ true → self.written ≡ true }
+        ensures kept { IsOk result.written → IsOk self.written }
     {
         if Sheet::LINE <= out.len() - self.at {
             return self;

@@ -4,6 +4,7 @@ ghost use Rattle.std.specs.Prelude.{◌≡◌};
 use crate::failure;
 use crate::sink::Sink;
 use crate::source::Source;
+use std::io;
 use std::io::{Read, Stderr, Stdin, Stdout, Write};
 
 // What a program reads from, what it writes to, and where it says what is wrong.
@@ -18,7 +19,6 @@ pub struct Console<R, W, E> {
 pub type Standard = Console<Stdin, Stdout, Stderr>;
 
 impl<R: Read, W: Write, E: Write> Console<R, W, E> {
-    // Nothing has failed yet.
     pub fn new(input: R, output: W, errors: E) -> Console<R, W, E>
         ensures input { result.input.from ≡ input }
         ensures output { result.output.to ≡ output }
@@ -31,13 +31,8 @@ impl<R: Read, W: Write, E: Write> Console<R, W, E> {
         }
     }
 
-    // Says why the last reading failed.
-    pub fn tell_unread(&mut self, what: &[u8]) {
-        failure::tell(what, self.input.why, &mut self.errors);
-    }
-
-    // Says why the last writing to the output failed.
-    pub fn tell_unwritten(&mut self, what: &[u8]) {
-        failure::tell(what, self.output.why, &mut self.errors);
+    // Says what failed, and why.
+    pub fn tell(&mut self, what: &[u8], why: io::Error) {
+        failure::tell(what, why, &mut self.errors);
     }
 }

@@ -1,11 +1,12 @@
 -- A book traced call by call.
 use Prim.Native.Nat.{ℕ, ◌+◌, ◌≤◌}
-use mathlib.Core.Bool.{Bool, true, false}
+use mathlib.Core.Bool.{true, false}
 use mathlib.Core.List.{List}
 use mathlib.Core.Path.{◌≡◌, refl, ap, sym, ◌∙◌}
 use native.Mathlib.Numerals.{add-one}
 use native.Mathlib.Omega.{arith}
 use lib.ListN.{length, take}
+use Rattle.std.specs.Prelude.{Result, Ok, Err, IsOk}
 use Rattle.text.specs.Ink.{inked, Laid}
 use Rattle.host.specs.declared.host.Sdmmc.{Sdmmc}
 use Rattle.calls.specs.Serve.{comes}
@@ -45,14 +46,14 @@ one_more ws room start k host host' place place' at out out' s h p l =
     })
 
 -- all of them, or the first so many
-pub all-calls : {ws : List ℕ} {room : ℕ} {start : Point} {host : Sdmmc} {place : ℕ} {out : List ℕ} (k calls : ℕ) → Stands ws room start k host place out → k ≡ calls → Traces ws room start calls true out
+pub all-calls : {E : Type 0} {ws : List ℕ} {room : ℕ} {start : Point} {host : Sdmmc} {place : ℕ} {out : List ℕ} (k calls : ℕ) → Stands ws room start k host place out → k ≡ calls → Traces {E = E} ws room start calls (Ok tt) out
 all-calls k calls s e = record { served = k; within = omega arith; whole = λ t. e; left = s.laid }
 
 never : {n m : ℕ} → false ≡ true → n ≡ m
 never e = let z : ◌≡◌ {A = ℕ} 0 1 = cc in absurd (omega arith)
 
-pub some-calls : {ws : List ℕ} {room : ℕ} {start : Point} {host : Sdmmc} {place : ℕ} {out : List ℕ} (k calls : ℕ) → Stands ws room start k host place out → k ≤ calls → Traces ws room start calls false out
-some-calls k calls s h = record { served = k; within = h; whole = never; left = s.laid }
+pub some-calls : {E : Type 0} {ws : List ℕ} {room : ℕ} {start : Point} {host : Sdmmc} {place : ℕ} {out : List ℕ} (k calls : ℕ) → Stands ws room start k host place out → k ≤ calls → (why : E) → Traces ws room start calls (Err why) out
+some-calls k calls s h why = record { served = k; within = h; whole = never; left = s.laid }
 
 -- a book that was opened, by how it was
 pub opened-start : (o : O.Option ℕ) (ws out out' : List ℕ) (at : ℕ) (r : Opening) → OpensAs o ws r → Laid 0 (head_of o ws) out at out'
@@ -67,13 +68,13 @@ opened-calls (O.Some n) ws r s = s.calls
 opened-calls O.None ws r s = s.calls
 
 -- where there is no call, its words do not matter
-none-traced : (ws ws' : List ℕ) (room : ℕ) (start : Point) (all : Bool) (out : List ℕ) → Traces ws room start 0 all out → Traces ws' room start 0 all out
+none-traced : {E : Type 0} (ws ws' : List ℕ) (room : ℕ) (start : Point) (all : Result (Unit {0}) E) (out : List ℕ) → Traces ws room start 0 all out → Traces ws' room start 0 all out
 unfolding after_calls
 none-traced ws ws' room start all out t =
     let none : t.served ≡ 0 = omega (arith, t.within) in
     record { served = 0; within = omega arith; whole = λ e. refl; left = rw none at t.left }
 
-module _ (bytes words last : List ℕ) (room : ℕ) (r : Opening) (all : Bool) (out out' out'' : List ℕ) (at : ℕ) (f : last ≡ inked 0 (words_of bytes) words) where
+module _ {E : Type 0} (bytes words last : List ℕ) (room : ℕ) (r : Opening) (all : Result (Unit {0}) E) (out out' out'' : List ℕ) (at : ℕ) (f : last ≡ inked 0 (words_of bytes) words) where
   by : (o : O.Option ℕ) → opened_of bytes (length words) ≡ o → OpensAs o (words_of bytes) r
       → Traces (take r.words last) room (start_of o (words_of bytes) out) (calls_of o (words_of bytes)) all out''
       → Traces (words_of bytes) room (start_of o (words_of bytes) out) (calls_of o (words_of bytes)) all out''
@@ -92,8 +93,8 @@ module _ (bytes words last : List ℕ) (room : ℕ) (r : Opening) (all : Bool) (
       by o refl s (rw (opened-start o (words_of bytes) out out' at r s l, opened-calls o (words_of bytes) r s) at t)
 
 -- its first text could not be written
-pub not-begun : (o : O.Option ℕ) (ws : List ℕ) (room : ℕ) (r : Opening) (out out' : List ℕ) (at : ℕ) → OpensAs o ws r → Laid 0 (head_of o ws) out at out'
-    → Traces ws room (start_of o ws out) (calls_of o ws) false out'
+pub not-begun : {E : Type 0} (o : O.Option ℕ) (ws : List ℕ) (room : ℕ) (r : Opening) (out out' : List ℕ) (at : ℕ) → OpensAs o ws r → Laid 0 (head_of o ws) out at out'
+    → (why : E) → Traces ws room (start_of o ws out) (calls_of o ws) (Err why) out'
 unfolding after_calls
-not-begun o ws room r out out' at s l =
+not-begun o ws room r out out' at s l why =
     record { served = 0; within = omega arith; whole = never; left = ap (λ (p : Point). p.out) (opened-start o ws out out' at r s l) }

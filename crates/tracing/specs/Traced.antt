@@ -1,5 +1,5 @@
 -- What is left behind when a book is traced, as far as it got: each call's text is laid in the buffer over the one before.
-use Rattle.std.specs.Prelude.{ℕ, zero, suc, ◌+◌, ◌≤◌, Bool, true, List, Option, Some, None, ◌≡◌}
+use Rattle.std.specs.Prelude.{ℕ, zero, suc, ◌+◌, ◌≤◌, List, Option, Some, None, Result, IsOk, ◌≡◌}
 use Rattle.text.specs.Ink.{inked}
 use Rattle.host.specs.declared.host.Sdmmc.{Sdmmc}
 use Rattle.host.specs.Calls.{no_host, made}
@@ -30,10 +30,10 @@ after_calls ws room start (suc k) = stepped ws room k (after_calls ws room start
 
 -- so many of the calls were traced, all of them where all was written, and this is what the buffer holds. How many could be
 -- written is in no contract
-pub record Traces (ws : List ℕ) (room : ℕ) (start : Point) (calls : ℕ) (all : Bool) (out : List ℕ) : Type 0 where
+pub record Traces {E : Type 0} (ws : List ℕ) (room : ℕ) (start : Point) (calls : ℕ) (all : Result (Unit {0}) E) (out : List ℕ) : Type 0 where
   pub served : ℕ
   pub within : served ≤ calls
-  pub whole : all ≡ true → served ≡ calls
+  pub whole : IsOk all → served ≡ calls
   pub left : out ≡ (after_calls ws room start served).out
 
 -- a book that was opened: its host, where its first body starts, and the host's text in the buffer; and its calls, where there is a host

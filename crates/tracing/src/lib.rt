@@ -9,12 +9,13 @@ ghost use Rattle.tracing.specs.Traced.{Traces, start_of, calls_of};
 
 use bench::print::Turn;
 use bench::trace;
+use std::io;
 use std::io::Write;
 use streams::sink::Sink;
 use text::pen::Pen;
 
 // Serves a book's calls one after the other, and writes what happened before the next is served: so much text is held at
-// once as one call has. Answers whether all of it was written.
+// once as one call has. Where that could not be written, no further call is served.
 fn trace_calls<W: Write>(
     start: Turn,
     words: &[u32],
@@ -22,7 +23,7 @@ fn trace_calls<W: Write>(
     room: usize,
     out: &mut [u8],
     output: &mut Sink<W>,
-) -> bool
+) -> io::Result<()>
     ensures { Traces words.now room (record { host = start.host; place = start.body_at; out = out.old }) calls result out.new }
 {
     let mut turn = start;
@@ -30,31 +31,27 @@ fn trace_calls<W: Write>(
         let mut pen = Pen::new(out, 0);
         turn = trace::trace_call(turn, words, k, room, &mut pen);
         let at = pen.at;
-        if !output.put(&out[..at]) {
-            return false;
-        }
+        output.put(&out[..at])?;
     }
-    true
+    Ok(())
 }
 
 // Traces a file's bytes as a book, with so many rows of room for each call, by way of a list for its words and a buffer
-// for the text of a call. Answers whether all of it was written.
+// for the text of a call, and writes all of it.
 pub fn trace_book<W: Write>(
     bytes: &[u8],
     room: usize,
     words: &mut [u32],
     out: &mut [u8],
     output: &mut Sink<W>,
-) -> bool
+) -> io::Result<()>
     ensures loaded { words.new ≡ inked 0 (words_of bytes.now) words.old }
     ensures traced { Traces (words_of bytes.now) room (start_of (opened_of bytes.now (length words.old)) (words_of bytes.now) out.old) (calls_of (opened_of bytes.now (length words.old)) (words_of bytes.now)) result out.new }
 {
     let mut pen = Pen::new(out, 0);
     let opening = trace::open(bytes, words, &mut pen);
     let at = pen.at;
-    if !output.put(&out[..at]) {
-        return false;
-    }
+    output.put(&out[..at])?;
     let start = Turn {
         host: opening.host,
         body_at: opening.body_at,

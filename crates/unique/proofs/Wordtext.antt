@@ -5,7 +5,8 @@ use mathlib.Core.List.{List, ◌++◌}
 use mathlib.Core.Path.{◌≡◌, sym, ap, ap₂, ◌∙◌}
 use lib.ListN.{length, drop, take-append-drop}
 use lib.Seq.{length-take-le}
-use Rattle.wordtext.specs.declared.book.Reading.{Reading}
+use Rattle.std.specs.Prelude.{Result}
+use Rattle.wordtext.specs.declared.book.Refusal.{Refusal}
 use Rattle.wordtext.specs.declared.scan.Scan.{Scan}
 use Rattle.wordtext.specs.Text.{State, Holds, read_of, laid, book_over}
 use Rattle.wordtext.proofs.book
@@ -31,7 +32,7 @@ book-read-words : Unique book.read_words.Kinds.ps book.read_words.Kinds.r book.r
 book-read-words = determined _ λ _ _ _ p i. (p.1.0 i, p.0 i)
 
 book-read-book : Unique book.read_book.Kinds.ps book.read_book.Kinds.r book.read_book.Reads.Learnt
-book-read-book = determined _ λ _ a _ p i. ((p.1.0 ∙ ap (λ (r : Reading). book_over r (read_of 4096 a.0.now).words a.1.0.now) p.0) i, p.0 i)
+book-read-book = determined _ λ _ a _ p i. ((p.1.0 ∙ ap (λ (r : Result ℕ Refusal). book_over r (read_of 4096 a.0.now).words a.1.0.now) p.0) i, p.0 i)
 
 place-place-at : Unique place.place_at.Kinds.ps place.place_at.Kinds.r place.place_at.Reads.Learnt
 place-place-at = determined _ λ _ _ _ p. p

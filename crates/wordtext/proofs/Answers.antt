@@ -5,11 +5,10 @@ use mathlib.Core.Path.{◌≡◌, ap, sym, ◌∙◌}
 use native.Mathlib.Omega.{arith}
 use lib.ListN.{length, take, drop, take-append-drop}
 use lib.Seq.{length-take-le, take-append_seam}
-use Rattle.wordtext.specs.declared.book.Reading.TheVariants.{Words}
+use Rattle.std.specs.Prelude.{Result, Ok, Err}
+use Rattle.wordtext.specs.declared.token.Cause.{Cause}
 use Rattle.wordtext.specs.declared.place.Place.{Place}
 use Rattle.wordtext.specs.declared.scan.Scan.{Scan}
-use Rattle.wordtext.specs.declared.token.Verdict.{Verdict}
-use Rattle.wordtext.specs.declared.token.Verdict.TheVariants as W
 use Rattle.wordtext.specs.Token.{verdict_of}
 use Rattle.wordtext.specs.Text.{State, read_of, answer_by, answer_at, answer_of, place_of, laid, Holds}
 
@@ -32,11 +31,11 @@ module _ (text was list : List ℕ) (s : Scan) (holds : Holds (read_of (length w
       ∙ ap (λ (t : State). laid t.words was) holds.same
 
 -- an accepted text says how many words there are
-accepted : (v : Verdict) (p : Place) (k n : ℕ) → answer_by v p k ≡ Words n → k ≡ n
-accepted W.Right p k n e = cc
-accepted (W.Wrong cause) p k n e = cc
+accepted : (v : Result (Unit {0}) Cause) (p : Place) (k n : ℕ) → answer_by v p k ≡ Ok n → k ≡ n
+accepted (Ok right) p k n e = cc
+accepted (Err cause) p k n e = cc
 
-pub words_count : (room : ℕ) (text : List ℕ) (n : ℕ) → answer_of room text ≡ Words n → length (read_of room text).words ≡ n
+pub words_count : (room : ℕ) (text : List ℕ) (n : ℕ) → answer_of room text ≡ Ok n → length (read_of room text).words ≡ n
 unfolding answer_of
 words_count room text n e = accepted (verdict_of (read_of room text).token) _ _ n e
 

@@ -1,8 +1,9 @@
 -- Places, byte by byte.
-use Prim.Native.Nat.{ℕ, ◌+◌, ◌<◌, ◌≤◌}
+use Prim.Native.Nat.{ℕ, ◌+◌, ◌<◌, ◌≤◌, min}
 use mathlib.Core.Bool.{Bool, true, false, cond}
 use mathlib.Core.List.{List, [], ◌∷◌, ◌++◌}
-use mathlib.Core.Path.{◌≡◌, refl}
+use mathlib.Core.Path.{◌≡◌, refl, ap, ◌∙◌}
+use Rattle.std.proofs.lemmas.List.{take_min}
 use native.Mathlib.Numerals.{add-one}
 use native.Mathlib.Omega.{arith}
 use lib.Dec.{eqb}
@@ -22,9 +23,13 @@ pub place-more : (text : List ℕ) (i : ℕ) → i < length text → place_of te
 unfolding place_of
 place-more text i h = rw (add-one, take-suc text i 0 h) (from_more _ (take i text) (get_or text i 0))
 
-pub place-all : (text : List ℕ) (i j : ℕ) → length text ≤ i → length text ≤ j → place_of text i ≡ place_of text j
+-- the place behind the bytes before `at`, of which there are no more than the text has
+pub place-cut : (text : List ℕ) (at end i : ℕ) → end ≡ min at (length text) → length (take end text) ≤ i → place_of (take end text) i ≡ place_of text at
 unfolding place_of
-place-all text i j h k = rw (take_all i text h, take_all j text k)
+place-cut text at end i e h =
+    let all : take i (take end text) ≡ take end text = take_all i (take end text) h in
+    let cut : take end text ≡ take at text = ap (λ (n : ℕ). take n text) e ∙ take_min at text in
+    ap (place_from (record { line = 1; column = 1 })) (all ∙ cut)
 
 -- a byte moves line and column by at most one
 pub moved_little : (p : Place) (b k : ℕ) → p.line ≤ k → p.column ≤ k → 1 ≤ k → ((moved p b).line ≤ k + 1) × ((moved p b).column ≤ k + 1)

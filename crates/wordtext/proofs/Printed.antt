@@ -9,13 +9,11 @@ use lib.Dec.{eqb}
 use lib.ListN.{length, length-append}
 use borrow.Author.Tests.{lt-ltb, lt-leb, eqb-true, eqb-false, not-true}
 use Rattle.io.specs.Digits.{last_digits, hex_digit_ascii}
-use Rattle.wordtext.specs.declared.token.Grown.TheVariants.{To}
+use Rattle.std.specs.Prelude.{Option, None, Some, Ok}
 use Rattle.wordtext.specs.declared.token.Token.{Token}
 use Rattle.wordtext.specs.declared.token.Token.TheVariants as T
-use Rattle.wordtext.specs.declared.token.Given.TheVariants as G
 use Rattle.wordtext.specs.Token.{LIMIT, HASH, word_of, ends_at, digit_of, with_digit, decimal_of, gone_on, opened, closed, after, completed, began_at}
 use Rattle.wordtext.specs.Text.{State, at_first, taken, step, scan, read_of, answer_of}
-use Rattle.wordtext.specs.declared.book.Reading.TheVariants.{Words}
 use Rattle.wordtext.proofs.Tests.{both}
 
 -- what holds of every number below n, computed
@@ -33,28 +31,37 @@ below (suc n) p h d l = by (λ m. below n p (both (p n) (all n p) h).1 d m) (eqb
         let other : d ≡ n → ⊥ = eqb-false d n e in
         under (omega (arith, other))
 
+is : ℕ → Option ℕ → Bool
+is d None = false
+is d (Some value) = eqb value d
+
+is-some : (d : ℕ) (o : Option ℕ) → is d o ≡ true → o ≡ Some d
+unfolding is
+is-some d None e = cc
+is-some d (Some value) e = ap Some (eqb-true value d e)
+
 -- a printed digit has its value, ends no word, is no x, and is 0 only for 0
 unfoldable fit : ℕ → Bool
 fit d =
-    eqb (digit_of (hex_digit_ascii d)) d
+    is d (digit_of (hex_digit_ascii d))
     && (not (ends_at (hex_digit_ascii d)) && (not (eqb (hex_digit_ascii d) 120) && cond (eqb d 0) (eqb (hex_digit_ascii d) 48) (not (eqb (hex_digit_ascii d) 48))))
 
 module _ (d : ℕ) (small : d < 16) where
   fits : fit d ≡ true
-  unfolding fit digit_of ends_at
+  unfolding fit is digit_of ends_at
   fits = below 16 fit refl d small
 
-  valued : digit_of (hex_digit_ascii d) ≡ d
+  valued : digit_of (hex_digit_ascii d) ≡ Some d
   unfolding fit
-  valued = eqb-true _ _ (both (eqb (digit_of (hex_digit_ascii d)) d) _ fits).0
+  valued = is-some _ _ (both (is d (digit_of (hex_digit_ascii d))) _ fits).0
 
   inside : ends_at (hex_digit_ascii d) ≡ false
   unfolding fit
-  inside = not-true _ (both (not (ends_at (hex_digit_ascii d))) _ (both (eqb (digit_of (hex_digit_ascii d)) d) _ fits).1).0
+  inside = not-true _ (both (not (ends_at (hex_digit_ascii d))) _ (both (is d (digit_of (hex_digit_ascii d))) _ fits).1).0
 
   rest : (not (eqb (hex_digit_ascii d) 120) && cond (eqb d 0) (eqb (hex_digit_ascii d) 48) (not (eqb (hex_digit_ascii d) 48))) ≡ true
   unfolding fit
-  rest = (both (not (ends_at (hex_digit_ascii d))) _ (both (eqb (digit_of (hex_digit_ascii d)) d) _ fits).1).1
+  rest = (both (not (ends_at (hex_digit_ascii d))) _ (both (is d (digit_of (hex_digit_ascii d))) _ fits).1).1
 
   no_x : eqb (hex_digit_ascii d) 120 ≡ false
   no_x = not-true _ (both (not (eqb (hex_digit_ascii d) 120)) _ rest).0
@@ -64,7 +71,7 @@ module _ (d : ℕ) (small : d < 16) where
   zero-only false e = not-true _ (rw e at (both (not (eqb (hex_digit_ascii d) 120)) _ rest).1)
 
 -- the last digit of a word, behind all before it
-last-digit : (base w : ℕ) → 0 < base → base ≤ 16 → w < 2 ^ 32 → with_digit base (w / base) (hex_digit_ascii (w % base)) ≡ To w
+last-digit : (base w : ℕ) → 0 < base → base ≤ 16 → w < 2 ^ 32 → with_digit base (w / base) (hex_digit_ascii (w % base)) ≡ Ok w
 unfolding with_digit
 last-digit base w some few h =
     let d = mod-lt w some in
@@ -95,7 +102,7 @@ unfolding after completed taken
 in_word room at s b e = rw e
 
 -- a byte that ends a word gives it
-ends-word : (room at : ℕ) (s : State) (b w : ℕ) (t : Token) → s.token ≡ t → word_of t ≡ G.Word w → closed t b ≡ opened b → began_at t at s.start ≡ s.start → ends_at b ≡ true → length s.words < room
+ends-word : (room at : ℕ) (s : State) (b w : ℕ) (t : Token) → s.token ≡ t → word_of t ≡ Some w → closed t b ≡ opened b → began_at t at s.start ≡ s.start → ends_at b ≡ true → length s.words < room
     → step room at s b ≡ record { token = opened b; start = s.start; words = s.words ++ w ∷ [] }
 unfolding after completed taken
 ends-word room at s b w t is word close began e h = rw (e, is, word, close, began, lt-ltb _ _ h)
@@ -123,11 +130,11 @@ began_hand zero w at start = by (eqb w 0)
     by false = refl
 began_hand (suc k) w at start = refl
 
-word_hand : (k w : ℕ) → word_of (in_hand k w) ≡ G.Word w
+word_hand : (k w : ℕ) → word_of (in_hand k w) ≡ Some w
 word_hand zero w = by (eqb w 0) refl
   where
-    by : (t : Bool) → eqb w 0 ≡ t → word_of (cond t T.Zero (T.Decimal w)) ≡ G.Word w
-    by true e = ap G.Word (sym (eqb-true w 0 e))
+    by : (t : Bool) → eqb w 0 ≡ t → word_of (cond t T.Zero (T.Decimal w)) ≡ Some w
+    by true e = ap Some (sym (eqb-true w 0 e))
     by false e = refl
 word_hand (suc k) w = refl
 
@@ -243,7 +250,7 @@ module _ (digitsLess1 : ℕ → ℕ) (holds : (w : ℕ) → w < 10 ^ suc (digits
 
   -- so a printed book is a text of exactly its words
   pub book-reads : (room : ℕ) (ws : List ℕ) → Below ws → length ws ≤ room
-      → (answer_of room (printed ws) ≡ Words (length ws)) × ((read_of room (printed ws)).words ≡ ws)
+      → (answer_of room (printed ws) ≡ Ok (length ws)) × ((read_of room (printed ws)).words ≡ ws)
   unfolding read_of answer_of
   book-reads room ws below h =
       let all_of = read_back room 0 at_first ws below refl (omega arith) in

@@ -10,7 +10,7 @@ use borrow.Author.Tests.{lt-ltb, le-ltb}
 use Rattle.wordtext.specs.declared.scan.Scan.{Scan}
 use Rattle.wordtext.specs.declared.token.Cause.TheVariants.{TooMany}
 use Rattle.wordtext.specs.declared.token.Token.TheVariants.{Wrong}
-use Rattle.wordtext.specs.declared.token.Given.TheVariants as G
+use Rattle.std.specs.Prelude.{None, Some}
 use Rattle.wordtext.specs.Token.{NEWLINE, after, completed, began_at}
 use Rattle.wordtext.specs.Text.{State, taken, step, scan, state_of, Holds}
 
@@ -19,14 +19,14 @@ module _ (s : Scan) (at b : ℕ) (list : List ℕ) (fits : s.count ≤ length li
   long : length (take s.count list) ≡ s.count
   long = length-take-le s.count list fits
 
-  pub by-none : completed s.token b ≡ G.Nothing
+  pub by-none : completed s.token b ≡ None
       → Holds (step (length list) at (state_of s list) b) list
       (record { token = after s.token b; start = began_at s.token at s.start; count = s.count })
       list
   unfolding taken
   by-none e = record { same = rw e; rest = refl; size = refl; fits = fits }
 
-  pub by_word : (w : ℕ) → completed s.token b ≡ G.Word w → s.count < length list
+  pub by_word : (w : ℕ) → completed s.token b ≡ Some w → s.count < length list
       → Holds (step (length list) at (state_of s list) b) list
       (record { token = after s.token b; start = began_at s.token at s.start; count = s.count + 1 })
       (set list s.count w)
@@ -39,7 +39,7 @@ module _ (s : Scan) (at b : ℕ) (list : List ℕ) (fits : s.count ≤ length li
         fits = omega arith;
       }
 
-  pub by-full : (w : ℕ) → completed s.token b ≡ G.Word w → length list ≤ s.count
+  pub by-full : (w : ℕ) → completed s.token b ≡ Some w → length list ≤ s.count
       → Holds (step (length list) at (state_of s list) b) list
       (record { token = Wrong TooMany; start = began_at s.token at s.start; count = s.count })
       list

@@ -1,17 +1,13 @@
 -- A text of words: the words that it holds, or the first thing in it that is none.
-use Rattle.std.specs.Prelude.{ℕ, ◌+◌, ◌≤◌, cond, List, [], ◌∷◌, ◌++◌, ◌≡◌, eqb, ltb, length, take, drop}
+use Rattle.std.specs.Prelude.{ℕ, ◌+◌, ◌≤◌, cond, Option, None, Some, Result, Ok, Err, List, [], ◌∷◌, ◌++◌, ◌≡◌, eqb, ltb, length, take, drop}
 use Rattle.types.specs.Words.{filled}
-use Rattle.wordtext.specs.declared.book.Reading.{Reading}
-use Rattle.wordtext.specs.declared.book.Reading.TheVariants.{Words, Refused}
+use Rattle.wordtext.specs.declared.book.Refusal.{Refusal}
 use Rattle.wordtext.specs.declared.place.Place.{Place}
 use Rattle.wordtext.specs.declared.scan.Scan.{Scan}
+use Rattle.wordtext.specs.declared.token.Cause.{Cause}
 use Rattle.wordtext.specs.declared.token.Cause.TheVariants.{TooMany}
 use Rattle.wordtext.specs.declared.token.Token.{Token}
 use Rattle.wordtext.specs.declared.token.Token.TheVariants as T
-use Rattle.wordtext.specs.declared.token.Given.{Given}
-use Rattle.wordtext.specs.declared.token.Given.TheVariants as G
-use Rattle.wordtext.specs.declared.token.Verdict.{Verdict}
-use Rattle.wordtext.specs.declared.token.Verdict.TheVariants as W
 use Rattle.wordtext.specs.Token.{NEWLINE, after, completed, began_at, verdict_of}
 
 -- how far a reading has come: what is in hand, where that began, and the words before it
@@ -24,9 +20,9 @@ abbrev pub at_first : State
 at_first = record { token = T.Nothing; start = 0; words = [] }
 
 -- with the word that a byte gave, if it gave one: there is room for so many
-unfoldable pub taken : ℕ → State → Given → State
-taken room s G.Nothing = s
-taken room s (G.Word w) =
+unfoldable pub taken : ℕ → State → Option ℕ → State
+taken room s None = s
+taken room s (Some w) =
     cond (ltb (length s.words) room)
     (record { token = s.token; start = s.start; words = s.words ++ w ∷ [] })
     (record { token = T.Wrong TooMany; start = s.start; words = s.words })
@@ -59,14 +55,14 @@ unfoldable pub place_of : List ℕ → ℕ → Place
 place_of text at = place_from (record { line = 1; column = 1 }) (take at text)
 
 -- what a text comes to: so many words, or the first thing that is none, with its place
-abbrev pub answer_by : Verdict → Place → ℕ → Reading
-answer_by W.Right place count = Words count
-answer_by (W.Wrong cause) place count = Refused cause place
+abbrev pub answer_by : Result (Unit {0}) Cause → Place → ℕ → Result ℕ Refusal
+answer_by (Ok right) place count = Ok count
+answer_by (Err cause) place count = Err (record { cause = cause; place = place })
 
-abbrev pub answer_at : State → List ℕ → Reading
+abbrev pub answer_at : State → List ℕ → Result ℕ Refusal
 answer_at s text = answer_by (verdict_of s.token) (place_of text s.start) (length s.words)
 
-unfoldable pub answer_of : ℕ → List ℕ → Reading
+unfoldable pub answer_of : ℕ → List ℕ → Result ℕ Refusal
 answer_of room text = answer_at (read_of room text) text
 
 -- words laid over the start of a list
@@ -74,14 +70,14 @@ abbrev pub laid : List ℕ → List ℕ → List ℕ
 laid words list = words ++ drop (length words) list
 
 -- a book's words as bytes, laid over the start of a list; where the text is refused the list stays as it is
-abbrev pub book_over : Reading → List ℕ → List ℕ → List ℕ
-book_over (Words count) words bytes = filled words bytes
-book_over (Refused cause place) words bytes = bytes
+abbrev pub book_over : Result ℕ Refusal → List ℕ → List ℕ → List ℕ
+book_over (Ok count) words bytes = filled words bytes
+book_over (Err refusal) words bytes = bytes
 
 -- how many words a reading gave
-abbrev pub count_of : Reading → ℕ
-count_of (Words count) = count
-count_of (Refused cause place) = 0
+abbrev pub count_of : Result ℕ Refusal → ℕ
+count_of (Ok count) = count
+count_of (Err refusal) = 0
 
 -- what the code holds: the words stand at the start of a list
 abbrev pub state_of : Scan → List ℕ → State

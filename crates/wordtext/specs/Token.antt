@@ -1,15 +1,10 @@
 -- A word of a text, byte by byte: decimal or 0x-hexadecimal words, separated by white space or commas; `#` to the end of
 -- the line is a comment.
-use Rattle.std.specs.Prelude.{ℕ, ◌+◌, ◌*◌, ◌-◌, ◌^◌, Bool, cond, ◌||◌, ◌&&◌, eqb, ltb, leb}
+use Rattle.std.specs.Prelude.{ℕ, ◌+◌, ◌*◌, ◌-◌, ◌^◌, Bool, cond, ◌||◌, ◌&&◌, Option, None, Some, Result, Ok, Err, eqb, ltb, leb}
+use Rattle.wordtext.specs.declared.token.Cause.{Cause}
 use Rattle.wordtext.specs.declared.token.Cause.TheVariants.{NotANumber, TooLarge}
 use Rattle.wordtext.specs.declared.token.Token.{Token}
 use Rattle.wordtext.specs.declared.token.Token.TheVariants as T
-use Rattle.wordtext.specs.declared.token.Grown.{Grown}
-use Rattle.wordtext.specs.declared.token.Grown.TheVariants.{To, Not}
-use Rattle.wordtext.specs.declared.token.Given.{Given}
-use Rattle.wordtext.specs.declared.token.Given.TheVariants as G
-use Rattle.wordtext.specs.declared.token.Verdict.{Verdict}
-use Rattle.wordtext.specs.declared.token.Verdict.TheVariants as W
 
 -- bytes by their sign
 abbrev pub NEWLINE : ℕ
@@ -36,19 +31,23 @@ is_white b = between 9 13 b || eqb b 32
 unfoldable pub ends_at : ℕ → Bool
 ends_at b = is_white b || eqb b COMMA || eqb b HASH
 
--- the value of a digit, 0 to 9, A to F or a to f; 16 where the byte is none
-unfoldable pub digit_of : ℕ → ℕ
-digit_of b = cond (between 48 57 b) (b - 48) (cond (between 65 70 b) (b - 65 + 10) (cond (between 97 102 b) (b - 97 + 10) 16))
+-- the value of a digit, 0 to 9, A to F or a to f
+unfoldable pub digit_of : ℕ → Option ℕ
+digit_of b = cond (between 48 57 b) (Some (b - 48)) (cond (between 65 70 b) (Some (b - 65 + 10)) (cond (between 97 102 b) (Some (b - 97 + 10)) None))
 
 -- a number in this base, with one digit more: it has to be one of the base, and the number below the limit
-unfoldable pub with_digit : ℕ → ℕ → ℕ → Grown
-with_digit base value b =
-    cond (leb base (digit_of b)) (Not NotANumber)
-    (cond (ltb (value * base + digit_of b) LIMIT) (To (value * base + digit_of b)) (Not TooLarge))
+abbrev pub grown : ℕ → ℕ → Option ℕ → Result ℕ Cause
+grown base value None = Err NotANumber
+grown base value (Some digit) =
+    cond (leb base digit) (Err NotANumber)
+    (cond (ltb (value * base + digit) LIMIT) (Ok (value * base + digit)) (Err TooLarge))
 
-abbrev pub told : (ℕ → Token) → Grown → Token
-told kind (To n) = kind n
-told kind (Not cause) = T.Wrong cause
+unfoldable pub with_digit : ℕ → ℕ → ℕ → Result ℕ Cause
+with_digit base value b = grown base value (digit_of b)
+
+abbrev pub told : (ℕ → Token) → Result ℕ Cause → Token
+told kind (Ok n) = kind n
+told kind (Err cause) = T.Wrong cause
 
 abbrev pub decimal_of : ℕ → ℕ → Token
 decimal_of value b = told T.Decimal (with_digit 10 value b)
@@ -86,18 +85,18 @@ unfoldable pub after : Token → ℕ → Token
 after t b = cond (ends_at b) (closed t b) (gone_on t b)
 
 -- the word that is in hand
-abbrev pub word_of : Token → Given
-word_of T.Zero = G.Word 0
-word_of (T.Decimal value) = G.Word value
-word_of (T.Hexadecimal value) = G.Word value
-word_of T.Nothing = G.Nothing
-word_of T.Comment = G.Nothing
-word_of T.Prefix = G.Nothing
-word_of (T.Wrong cause) = G.Nothing
+abbrev pub word_of : Token → Option ℕ
+word_of T.Zero = Some 0
+word_of (T.Decimal value) = Some value
+word_of (T.Hexadecimal value) = Some value
+word_of T.Nothing = None
+word_of T.Comment = None
+word_of T.Prefix = None
+word_of (T.Wrong cause) = None
 
 -- the word that a byte completes
-unfoldable pub completed : Token → ℕ → Given
-completed t b = cond (ends_at b) (word_of t) G.Nothing
+unfoldable pub completed : Token → ℕ → Option ℕ
+completed t b = cond (ends_at b) (word_of t) None
 
 -- where what is in hand began: here, where nothing was
 unfoldable pub began_at : Token → ℕ → ℕ → ℕ
@@ -110,11 +109,11 @@ began_at (T.Hexadecimal value) at start = start
 began_at (T.Wrong cause) at start = start
 
 -- whether all was right so far
-abbrev pub verdict_of : Token → Verdict
-verdict_of (T.Wrong cause) = W.Wrong cause
-verdict_of T.Nothing = W.Right
-verdict_of T.Comment = W.Right
-verdict_of T.Zero = W.Right
-verdict_of T.Prefix = W.Right
-verdict_of (T.Decimal value) = W.Right
-verdict_of (T.Hexadecimal value) = W.Right
+abbrev pub verdict_of : Token → Result (Unit {0}) Cause
+verdict_of (T.Wrong cause) = Err cause
+verdict_of T.Nothing = Ok tt
+verdict_of T.Comment = Ok tt
+verdict_of T.Zero = Ok tt
+verdict_of T.Prefix = Ok tt
+verdict_of (T.Decimal value) = Ok tt
+verdict_of (T.Hexadecimal value) = Ok tt

@@ -3,7 +3,7 @@ ghost use Rattle.std.specs.Prelude.{◌≡◌, ◌+◌, ◌<◌, ◌^◌};
 ghost use Rattle.wordtext.specs.Text.{moved, place_of};
 
 // A line and a column, each counted from 1.
-#[derive(Clone, Copy)]
+#[derive(Clone, Copy, Debug, PartialEq, Eq)]
 pub struct Place {
     pub line: usize,
     pub column: usize,
@@ -31,12 +31,9 @@ fn moved(p: Place, b: u8) -> Place
 pub fn place_at(text: &[u8], at: usize) -> Place
     ensures { result ≡ place_of text.now at }
 {
-    let end = if at < text.len() { at } else { text.len() };
     let mut p = Place { line: 1, column: 1 };
-    let mut i = 0;
-    while i < end {
-        p = moved(p, text[i]);
-        i = i + 1;
+    for b in &text[..at.min(text.len())] {
+        p = moved(p, *b);
     }
     p
 }

@@ -2,7 +2,7 @@
 ghost use Rattle.std.specs.Prelude.{◌≤◌, length};
 ghost use Rattle.wordtext.specs.Text.{state_of, step, read_of, Holds};
 
-use crate::token::{Cause, Given, Token};
+use crate::token::{Cause, Token};
 
 // How far a reading has come: what is in hand, where that began, and how many words there are.
 #[derive(Clone, Copy)]
@@ -18,29 +18,23 @@ fn step(s: Scan, at: usize, b: u8, words: &mut [u32]) -> Scan
     ensures grows { s.count ≤ result.count }
     ensures holds { Holds (step (length words.old) at (state_of s words.old) b) words.old result words.new }
 {
-    let token = s.token;
-    let next = token.after(b);
-    let start = token.began(at, s.start);
-    let n = s.count;
-    let Given::Word(word) = token.completed(b) else {
-        return Scan {
-            token: next,
-            start: start,
-            count: n,
-        };
+    let token = s.token.after(b);
+    let start = s.token.began(at, s.start);
+    let Some(word) = s.token.completed(b) else {
+        return Scan { token, start, ..s };
     };
-    if n < words.len() {
-        words[n] = word;
+    if s.count < words.len() {
+        words[s.count] = word;
         return Scan {
-            token: next,
-            start: start,
-            count: n + 1,
+            token,
+            start,
+            count: s.count + 1,
         };
     }
     Scan {
         token: Token::Wrong(Cause::TooMany),
-        start: start,
-        count: n,
+        start,
+        ..s
     }
 }
 
@@ -53,10 +47,8 @@ pub fn scan_text(text: &[u8], words: &mut [u32]) -> Scan
         start: 0,
         count: 0,
     };
-    let mut i = 0;
-    while i < text.len() {
-        s = step(s, i, text[i], words);
-        i = i + 1;
+    for (i, b) in text.iter().enumerate() {
+        s = step(s, i, *b, words);
     }
-    step(s, i, b'\n', words)
+    step(s, text.len(), b'\n', words)
 }

@@ -5,7 +5,7 @@ ghost use Rattle.wordtext.specs.Token.{with_digit, decimal_of, hexadecimal_of, g
 use crate::byte;
 
 // Why something in a text is no word of the book.
-#[derive(Clone, Copy)]
+#[derive(Clone, Copy, Debug, PartialEq, Eq)]
 pub enum Cause {
     NotANumber,
     TooLarge,
@@ -26,57 +26,27 @@ pub enum Token {
 }
 
 // A number with one digit more.
-#[derive(Clone, Copy)]
-pub enum Grown {
-    To(u32),
-    Not(Cause),
-}
-
-// The word that a byte completes, if it does.
-#[derive(Clone, Copy)]
-pub enum Given {
-    Word(u32),
-    Nothing,
-}
-
-// Whether all was right so far.
-#[derive(Clone, Copy)]
-pub enum Verdict {
-    Right,
-    Wrong(Cause),
-}
-
-fn with_digit(base: u8, value: u32, b: u8) -> Grown
+#[tactic(auto, using(crate::proofs::Tests::tests), unfolding(crate::specs::Token::with_digit))]
+fn with_digit(base: u8, value: u32, b: u8) -> Result<u32, Cause>
     ensures { result ≡ with_digit base value b }
 {
-    let d = byte::digit(b);
-    if base <= d {
-        return Grown::Not(Cause::NotANumber);
-    }
-    let next = value as u64 * base as u64 + d as u64;
-    if next < 0x1_0000_0000 {
-        Grown::To(next as u32)
-    } else {
-        Grown::Not(Cause::TooLarge)
-    }
+    let digit = byte::digit(b)
+        .filter(|digit| *digit < base)
+        .ok_or(Cause::NotANumber)?;
+    let next = u64::from(value) * u64::from(base) + u64::from(digit);
+    u32::try_from(next).map_err(|_| Cause::TooLarge)
 }
 
 fn decimal(value: u32, b: u8) -> Token
     ensures { result ≡ decimal_of value b }
 {
-    match with_digit(10, value, b) {
-        Grown::To(n) => Token::Decimal(n),
-        Grown::Not(cause) => Token::Wrong(cause),
-    }
+    with_digit(10, value, b).map_or_else(Token::Wrong, Token::Decimal)
 }
 
 fn hexadecimal(value: u32, b: u8) -> Token
     ensures { result ≡ hexadecimal_of value b }
 {
-    match with_digit(16, value, b) {
-        Grown::To(n) => Token::Hexadecimal(n),
-        Grown::Not(cause) => Token::Wrong(cause),
-    }
+    with_digit(16, value, b).map_or_else(Token::Wrong, Token::Hexadecimal)
 }
 
 // What is in hand after a word: a comment, or nothing.
@@ -92,48 +62,36 @@ fn opened(b: u8) -> Token
 
 impl Token {
     // The word in hand with one byte more, which does not end it.
+    #[tactic(auto, using(crate::proofs::Tests::tests), unfolding(crate::specs::Token::gone_on))]
     fn gone_on(self, b: u8) -> Token
         ensures { result ≡ gone_on self b }
     {
         match self {
-            Token::Nothing => {
-                if b == b'0' {
-                    Token::Zero
-                } else {
-                    decimal(0, b)
-                }
-            }
-            Token::Zero => {
-                if b == b'x' {
-                    Token::Prefix
-                } else {
-                    decimal(0, b)
-                }
-            }
+            Token::Nothing if b == b'0' => Token::Zero,
+            Token::Zero if b == b'x' => Token::Prefix,
+            Token::Nothing | Token::Zero => decimal(0, b),
             Token::Prefix => hexadecimal(0, b),
             Token::Decimal(value) => decimal(value, b),
             Token::Hexadecimal(value) => hexadecimal(value, b),
-            Token::Comment => self,
-            Token::Wrong(_) => self,
+            Token::Comment | Token::Wrong(_) => self,
         }
     }
 
     // What a byte that ends a word leaves in hand. A comment ends with its line; `0x` alone is no number.
+    #[tactic(auto, using(crate::proofs::Tests::tests), unfolding(crate::specs::Token::closed))]
     fn closed(self, b: u8) -> Token
         ensures { result ≡ closed self b }
     {
         match self {
-            Token::Comment => { if b == b'\n' { Token::Nothing } else { self } }
+            Token::Comment if b == b'\n' => Token::Nothing,
+            Token::Comment | Token::Wrong(_) => self,
             Token::Prefix => Token::Wrong(Cause::NotANumber),
-            Token::Wrong(_) => self,
-            Token::Nothing => opened(b),
-            Token::Zero => opened(b),
-            Token::Decimal(_) => opened(b),
-            Token::Hexadecimal(_) => opened(b),
+            Token::Nothing | Token::Zero | Token::Decimal(_) | Token::Hexadecimal(_) => opened(b),
         }
     }
 
     // What is in hand after one byte more.
+    #[tactic(auto, unfolding(crate::specs::Token::after))]
     pub fn after(self, b: u8) -> Token
         ensures { result ≡ after self b }
     {
@@ -145,58 +103,42 @@ impl Token {
     }
 
     // The word that is in hand.
-    fn word(self) -> Given
+    fn word(self) -> Option<u32>
         ensures { result ≡ word_of self }
     {
         match self {
-            Token::Zero => Given::Word(0),
-            Token::Decimal(value) => Given::Word(value),
-            Token::Hexadecimal(value) => Given::Word(value),
-            Token::Nothing => Given::Nothing,
-            Token::Comment => Given::Nothing,
-            Token::Prefix => Given::Nothing,
-            Token::Wrong(_) => Given::Nothing,
+            Token::Zero => Some(0),
+            Token::Decimal(value) | Token::Hexadecimal(value) => Some(value),
+            Token::Nothing | Token::Comment | Token::Prefix | Token::Wrong(_) => None,
         }
     }
 
     // The word that a byte completes.
-    pub fn completed(self, b: u8) -> Given
+    #[tactic(auto, unfolding(crate::specs::Token::completed))]
+    pub fn completed(self, b: u8) -> Option<u32>
         ensures { result ≡ completed self b }
     {
-        if byte::ends(b) {
-            self.word()
-        } else {
-            Given::Nothing
-        }
+        if byte::ends(b) { self.word() } else { None }
     }
 
     // Where what is in hand began: here, where nothing was.
+    #[tactic(auto, unfolding(crate::specs::Token::began_at))]
     pub fn began(self, at: usize, start: usize) -> usize
         ensures { result ≡ began_at self at start }
     {
         match self {
             Token::Nothing => at,
-            Token::Comment => start,
-            Token::Zero => start,
-            Token::Prefix => start,
-            Token::Decimal(_) => start,
-            Token::Hexadecimal(_) => start,
-            Token::Wrong(_) => start,
+            _ => start,
         }
     }
 
     // Whether all was right up to here.
-    pub fn verdict(self) -> Verdict
+    pub fn verdict(self) -> Result<(), Cause>
         ensures { result ≡ verdict_of self }
     {
         match self {
-            Token::Wrong(cause) => Verdict::Wrong(cause),
-            Token::Nothing => Verdict::Right,
-            Token::Comment => Verdict::Right,
-            Token::Zero => Verdict::Right,
-            Token::Prefix => Verdict::Right,
-            Token::Decimal(_) => Verdict::Right,
-            Token::Hexadecimal(_) => Verdict::Right,
+            Token::Wrong(cause) => Err(cause),
+            _ => Ok(()),
         }
     }
 }

@@ -1,7 +1,9 @@
-use Rattle.text.proofs.Ink.{and_then}
+use Rattle.std.proofs.Common.{List, ℕ, ap, ◌∙◌, append_assoc}
+use Rattle.text.specs.Pens.{written}
+use Rattle.text.proofs.Pens.{and_written}
 use Rattle.bookwords.proofs.put_refusal.Goals as goal
 
 pub returns : goal.returns
-returns c = let where-line = and_then c.put-named.ensures c.put_decimal-line.ensures in
-    let where-column = and_then (and_then where-line c.put-then.ensures) c.put_decimal-column.ensures in
-    and_then (and_then (and_then where-column c.put-placed.ensures) c.put_cause-told.ensures) c.put_byte.ensures
+returns c = let placed = and_written _ _ c.args.pen.now (and_written _ _ c.args.pen.now c.put_named.ensures c.put_named-2.ensures) c.put.ensures in
+    let told = and_written _ _ c.args.pen.now placed (rw c.cause_text.ensures at c.put-2.ensures) in
+    and_written _ _ c.args.pen.now told c.put_byte.ensures ∙ ap (λ (text : List ℕ). written text c.args.pen.now) (simp append_assoc)

@@ -1,4 +1,5 @@
 use Rattle.std.proofs.Common.{rules}
+use Rattle.std.proofs.lemmas.Result.{err_from_is_err_and}
 use mathlib.Core.Path.{sym}
 use lib.Seq.{length-take-le}
 use Rattle.text.proofs.Ink.{stands-within}
@@ -28,16 +29,17 @@ pub slice_bounds-trace_calls-end-2 : goal.slice_bounds-trace_calls-end-2
 slice_bounds-trace_calls-end-2 g c = let opened = c.open-opening in
     sym (length-take-le _ _ (opening-fits _ _ _ opened.result opened.ensures.opened opened.ensures.laid))
 
-pub returns-then-not-put : goal.returns-then-not-put
-returns-then-not-put g c = let opened = c.open-opening in
+pub returns-in_err-put-clause-traced : goal.returns-in_err-put-clause-traced
+returns-in_err-put-clause-traced g c = let opened = c.open-opening in
     let said = opened.ensures in
     let made = c.new-pen.ensures in
     let name = same_name _ _ said.printed made.same in
-    record { loaded = said.laid; traced = not-begun _ _ _ opened.result _ _ _ said.opened (made_over _ made.stands made.held said.printed (search rules)) }
+    let p = err_from_is_err_and c.from_residual.result c.from_residual.ensures.1 in
+    rw p.1 (not-begun _ _ _ opened.result _ _ _ said.opened (made_over _ made.stands made.held said.printed (search rules)) _)
 
-pub returns : goal.returns
-returns g c = let opened = c.open-opening in
+pub returns-clause-traced : goal.returns-clause-traced
+returns-clause-traced g c = let opened = c.open-opening in
     let said = opened.ensures in
     let made = c.new-pen.ensures in
     let name = same_name _ _ said.printed made.same in
-    record { loaded = said.laid; traced = book-traced _ _ _ _ opened.result _ _ _ _ _ said.laid said.opened (made_over _ made.stands made.held said.printed (search rules)) c.trace_calls.ensures }
+    book-traced _ _ _ _ opened.result _ _ _ _ _ said.laid said.opened (made_over _ made.stands made.held said.printed (search rules)) c.trace_calls.ensures

@@ -1,14 +1,5 @@
-use mathlib.Core.Path.{sym}
-use lib.Seq.{length-take-le}
-use Rattle.text.proofs.Ink.{stands-within}
-use Rattle.desk.proofs.Rooms.{granted_fits}
+use Rattle.desk.proofs.Rooms.{granted, granted_fits}
 use Rattle.desk.proofs.room.asked.Goals as goal
 
-pub slice_bounds-line-end : goal.slice_bounds-line-end
-slice_bounds-line-end g c = stands-within c.put_refusal-n.ensures.laid
-
-pub slice_bounds-put-end : goal.slice_bounds-put-end
-slice_bounds-put-end g c = sym (length-take-le _ _ (stands-within c.put_refusal-n.ensures.laid))
-
 pub returns : goal.returns
-returns g c = rw c.granted.ensures (granted_fits _ _ c.argument-wish.ensures)
+returns g c = rw (c.ok.ensures.value, ← c.inspect_err.ensures.value, granted) (granted_fits _ _ c.argument.ensures)

@@ -1,16 +1,12 @@
-use Rattle.text.proofs.Ink.{and_then}
-use Rattle.desk.specs.Refusal.{refusal_text}
-use Rattle.desk.proofs.Refusals.{said, nothing}
+use Rattle.std.proofs.Common.{rules, ◌≡◌}
+use Rattle.text.proofs.Pens.{made_over, and_written, same_buffer}
+use Rattle.desk.specs.Refusal.{name_text, error_text, refusal_text}
+use Rattle.desk.proofs.Refusals.{said}
 use Rattle.desk.proofs.room.put_refusal.Goals as goal
 
-pub returns-in-Rows : goal.returns-in-Rows
+pub returns : goal.returns
 unfolding refusal_text
-returns-in-Rows c = let both = said c.args.program c.args.wish c.requires (rw c.in-Rows.is (nothing _)) in record { whole = both.0; laid = both.1 }
-
-pub returns-in-TooMany : goal.returns-in-TooMany
-unfolding refusal_text
-returns-in-TooMany c = let both = said c.args.program c.args.wish c.requires (rw c.in-TooMany.is (and_then c.put_name-named.ensures c.put.ensures)) in record { whole = both.0; laid = both.1 }
-
-pub returns-in-NoRoom : goal.returns-in-NoRoom
-unfolding refusal_text
-returns-in-NoRoom c = let both = said c.args.program c.args.wish c.requires (rw c.in-NoRoom.is (and_then c.put_name-named-in-NoRoom.ensures c.put-in-NoRoom.ensures)) in record { whole = both.0; laid = both.1 }
+returns c = let a = c.args in
+    let wrote = and_written (name_text a.program) (error_text a.error) c.new-pen.result (rw c.name.ensures at c.put.ensures) (rw c.text.ensures at c.put-2.ensures) in
+    let named : c.put-2.new.self.out.ghost_name ≡ c.new-pen.result.out.ghost_name = rw wrote (same_buffer _ _) in
+    let both = said a.program a.error c.requires (made_over c.new-pen.result c.new-pen.ensures.stands c.new-pen.ensures.held wrote (search (rules, same_buffer))) in record { whole = both.0; laid = both.1 }

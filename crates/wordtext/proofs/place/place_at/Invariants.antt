@@ -1,11 +1,6 @@
-use Prim.Native.Nat.{◌≤◌, ◌+◌, ◌-◌}
-use mathlib.Core.Path.{◌≡◌}
-use lib.ListN.{length}
+use Rattle.std.proofs.Common.{◌≡◌, ◌≤◌, ◌+◌}
 use Rattle.wordtext.specs.Text.{place_of}
 use Rattle.wordtext.proofs.place.place_at.Given as goal
 
-abbrev pub invariant-loop-i : goal.invariant-loop-i
-invariant-loop-i l = (l.i ≤ l.end) × (l.end ≤ length l.text) × (l.p ≡ place_of l.text l.i) × (l.p.line ≤ l.i + 1) × (l.p.column ≤ l.i + 1)
-
-abbrev pub decreases-loop-i : goal.decreases-loop-i
-decreases-loop-i l = l.end - l.i
+abbrev pub invariant-loop-b : goal.invariant-loop-b
+invariant-loop-b l = (l.p ≡ place_of l.b-items l.b-index) × (l.p.line ≤ l.b-index + 1) × (l.p.column ≤ l.b-index + 1)
