@@ -1,36 +1,15 @@
--- Words that lie in the script, and their bytes.
-use Prim.Native.Nat.{ℕ, zero, suc, ◌+◌, ◌*◌, ◌-◌, ◌/◌, ◌%◌, ◌^◌, ◌<◌, ◌≤◌}
+-- The first sixteen of some words, and their bytes.
+use Prim.Native.Nat.{ℕ, zero, suc, ◌+◌, ◌*◌, ◌/◌, ◌%◌, ◌^◌, ◌<◌}
 use mathlib.Core.List.{List, [], ◌∷◌}
 use mathlib.Core.Path.{◌≡◌, refl, ap, sym, ◌∙◌}
 use native.Mathlib.Nat.{div-one, zero-add, zero-div}
 use native.Mathlib.Omega.{arith}
 use lib.Dec.{lit<}
-use lib.ListN.{length, get_or, take, drop, length-take, length-drop, get_or-eq_default}
-use lib.Seq.{get_or-take, get_or-drop}
+use lib.ListN.{get_or}
 use Rattle.types.proofs.Counted.{get_d_counted}
 use Rattle.types.specs.Words.{bytes_of}
 use Rattle.init.specs.Initialise.{offered, switched}
 use Rattle.init.specs.Lent.{sixteen_of}
-
-module _ (s : List ℕ) (place count k : ℕ) where
-  long : length (take count (drop place s)) ≤ length s - place
-  long = rw (length-take, length-drop) (omega arith)
-
-  most : length (take count (drop place s)) ≤ count
-  most = rw length-take (omega arith)
-
-  -- past the end of the words
-  pub past : length (take count (drop place s)) ≤ k → 0 ≡ get_or (take count (drop place s)) k 0
-  past h = sym (get_or-eq_default (take count (drop place s)) 0 h)
-
-  pub past-count : count ≤ k → 0 ≡ get_or (take count (drop place s)) k 0
-  past-count h = past (omega (arith, most))
-
-  pub past-script : length s - place ≤ k → 0 ≡ get_or (take count (drop place s)) k 0
-  past-script h = past (omega (arith, long))
-
-  pub within : k < count → get_or s (place + k) 0 ≡ get_or (take count (drop place s)) k 0
-  within h = sym (get_or-take count (drop place s) k 0 h ∙ get_or-drop place s k 0)
 
 -- byte k of words is a byte of word k / 4
 byte : ℕ → ℕ → ℕ

@@ -13,13 +13,11 @@ use Rattle.tape.specs.declared.progress.Halt.TheVariants.{Refused, ScriptEnded, 
 use Rattle.tape.specs.declared.progress.Line.{Line}
 use Rattle.tape.specs.Pace.{Pace}
 use Rattle.tape.specs.Pace.{Going, Stopped}
-use Rattle.tape.specs.Pace.{Progress}
 use Rattle.tape.specs.declared.rows.Row.{Row}
 use Rattle.tape.specs.Plan.{Nothing, Cause, failed, ended, Plan, give, refuse, read, write, look, hold, handle, ◌then◌}
 use Rattle.tape.specs.Plan.{refusing, guard}
 use Rattle.tape.specs.Run.{State, at, After, stopped, noted, halt_of, kept_at, over_at, run, run_from, does_at, does, next_at, next}
-use Rattle.tape.specs.Run.{Behind, Gave, Did, Settled}
-use Rattle.tape.proofs.Behind.{some-script}
+use Rattle.tape.specs.Run.{Gave, Did, Settled}
 
 -- a test before a function is a test inside it
 by_test : {X Y : Type 0} (g : X → Y) (b : Bool) {x y : X} {z z' : Y} → z ≡ g x → z' ≡ g y → cond b z z' ≡ g (cond b x y)
@@ -148,19 +146,10 @@ dry {A} {d} {p} {w} {v} {w'} e = ap (λ (x : After A). x.state.progress.used) e.
     by Going = run_out [] d p w.progress.used w.progress.rows w.progress.line w.list (omega arith)
     by (Stopped x) = refl
 
--- a call that is going, and is said to go on
-pub still-going : {p r : Progress} → p.pace ≡ Going → r ≡ record { pace = Going; used = p.used; rows = p.rows; line = p.line } → r ≡ p
-still-going {p} going e = e ∙ ap (λ (x : Pace). record { pace = x; used = p.used; rows = p.rows; line = p.line }) (sym going)
-
 pub not-over : (a : Pace) (b : Bool) → over_at a b ≡ false → a ≡ Going
 unfolding over_at
 not-over Going b e = refl
 not-over (Stopped x) b e = cc
-
--- a step that reads what lies behind the first n words says what it does on every such script
-pub read-on : {n : ℕ} {r : List ℕ} {A : Type 0} {d : A} {p : Plan A} {a b : Progress} {v : A}
-    → ((s : List ℕ) (l : List Row) → Behind n r s → Gave s A d p (at a l) v (at b l)) → a.used ≤ b.used
-read-on {n} {r} e = some-script n r (λ s part. grows (e s [] part))
 
 -- what it gives where it stopped
 pub kept : {s : List ℕ} {A : Type 0} {d : A} {p : Plan A} {w : State} {v : A} {w' : State}
@@ -203,25 +192,10 @@ pub bind : {s : List ℕ} {A B : Type 0} {d : A} {d' : B} {p : Plan A} (f : A �
 bind {s} {A} {B} {d} {d'} {p} f {w} {w'} {w''} {v} {v'} e g =
     record { same = g.same ∙ ap (λ (x : After A). does s d' (f x.value) x.state) e.same ∙ sym (does_then s d d' p f w) }
 
--- a step that gives nothing, and then the next
-pub seq : {s : List ℕ} {B : Type 0} {d : B} {p : Plan Nothing} {q : Plan B} {w w' w'' : State} {v : B}
-    → Did s p w w' → Gave s B d q w' v w'' → Gave s B d (p then λ _. q) w v w''
-seq {s} {B} {d} {p} {q} e g = bind (λ _. q) e g
-
 -- a step whose value is not asked for
 pub forget : {s : List ℕ} {A : Type 0} {d : A} {p : Plan A} {w w' : State} {v : A}
     → Gave s A d p w v w' → Did s (p then λ _. give tt) w w'
 forget e = bind (λ _. give tt) e stay
-
--- a step, and a part of what it gives
-pub mapped : {s : List ℕ} {A B : Type 0} (f : A → B) {d : A} {p : Plan A} {w w' : State} {v : A}
-    → Gave s A d p w v w' → Gave s B (f d) (p then λ v. give (f v)) w (f v) w'
-unfolding does_at run kept_at
-mapped {s} {A} {B} f {d} {p} {w} {w'} {v} e = bind (λ v. give (f v)) e (by w'.progress.pace refl)
-  where
-    by : (q : Pace) → w'.progress.pace ≡ q → Gave s B (f d) (give (f v)) w' (f v) w'
-    by Going g = from-going g (rw (← g))
-    by (Stopped x) g = rw (rw g at (kept e)) (from-stopped g)
 
 -- a step that goes by a test
 pub on_true : {s : List ℕ} {A : Type 0} {d : A} {p : Plan A} (q : Plan A) {b : Bool} {w w' : State} {v : A}

@@ -2,17 +2,14 @@
 use Prim.Native.Nat.{ℕ, suc, ◌+◌, ◌-◌, ◌<◌, ◌≤◌}
 use mathlib.Core.Path.{◌≡◌, refl}
 use mathlib.Core.Bool.{Bool, true, false, cond}
-use mathlib.Core.List.{List, []}
+use mathlib.Core.List.{List}
 use native.Mathlib.Omega.{arith}
 use native.Mathlib.Nat.{le_trans, sub-zero}
 use Rattle.types.specs.declared.error.Error.TheVariants.{SoftwareTimeout}
 use Rattle.tape.specs.Pace.{Pace}
 use Rattle.tape.specs.Pace.{Going, Stopped}
-use Rattle.tape.specs.Pace.{Progress}
-use Rattle.tape.specs.declared.rows.Row.{Row}
 use Rattle.tape.specs.Plan.{Plan, give, fail, until}
-use Rattle.tape.specs.Run.{State, at, kept_at, over_at, run, Behind, Gave}
-use Rattle.tape.proofs.Behind.{some-script}
+use Rattle.tape.specs.Run.{State, kept_at, over_at, run, Gave}
 use Rattle.tape.proofs.Laws.{from-going, from-stopped, grows, kept, bind}
 
 -- After i turns w has become w', and what is left to do is what was to do: whatever ends the turns that are left ends
@@ -20,11 +17,6 @@ use Rattle.tape.proofs.Laws.{from-going, from-stopped, grows, kept, bind}
 pub record Turned (s : List ℕ) (A : Type 0) (d : A) (body : Plan A) (enough : A → Bool) (limit i : ℕ) (w w' : State) : Type 0 where
   pub grown : w.progress.used ≤ w'.progress.used
   pub whole : (v : A) (w'' : State) → Gave s A d (until (limit - i) enough body) w' v w'' → Gave s A d (until limit enough body) w v w''
-
--- the same, of a body that reads what lies behind the first n words
-pub turned_on : {n : ℕ} {r : List ℕ} {A : Type 0} {d : A} {body : Plan A} {enough : A → Bool} {limit i : ℕ} {a b : Progress}
-    → ((s : List ℕ) (l : List Row) → Behind n r s → Turned s A d body enough limit i (at a l) (at b l)) → a.used ≤ b.used
-turned_on {n} {r} t = some-script n r (λ s part. (t s [] part).grown)
 
 pub no_turn : {s : List ℕ} {A : Type 0} {d : A} {body : Plan A} {enough : A → Bool} {limit : ℕ} {w : State}
     → Turned s A d body enough limit 0 w w

@@ -3,7 +3,7 @@ use Prim.Native.Nat.{ℕ, zero, suc, ◌+◌, ◌-◌, ◌≤◌, ◌<◌, min}
 use mathlib.Core.Path.{◌≡◌, refl, ap, sym, ◌∙◌}
 use mathlib.Core.Bool.{Bool, true, false, cond}
 use mathlib.Core.List.{List, [], ◌∷◌}
-use native.Mathlib.Nat.{sub-zero, zero-add, add-zero}
+use native.Mathlib.Nat.{add-zero}
 use native.Mathlib.Omega.{arith}
 use lib.ListN.{length, get_or, take, drop, length-drop}
 use lib.Seq.{drop-cons, get_or-take, length-take-le}
@@ -28,9 +28,6 @@ pub record Led (like : ℕ → Bool) (n : ℕ) (ws : List ℕ) (i : ℕ) : Type 
   pub whole : i + leading (n - i) like (drop i ws) ≡ leading n like ws
 
 module _ {like : ℕ → Bool} {n : ℕ} {ws : List ℕ} where
-  pub none_led : Led like n ws 0
-  none_led = record { within = omega arith; whole = zero-add _ ∙ ap (λ (m : ℕ). leading m like ws) (sub-zero n) }
-
   module _ {i : ℕ} (t : Led like n ws i) where
     module _ (more : i < min n (length ws)) where
       left : n - i ≡ suc (n - (i + 1))

@@ -3,7 +3,6 @@ use Prim.Native.Nat.{ℕ, ◌≤◌}
 use mathlib.Core.Path.{◌≡◌, refl}
 use mathlib.Core.Bool.{Bool, true, false, cond}
 use mathlib.Core.List.{List, []}
-use native.Mathlib.Omega.{arith}
 use Rattle.std.specs.Prelude.{Result, Ok, Err, IsErrAnd}
 use Rattle.types.specs.declared.error.Error.{Error}
 use Rattle.tape.specs.declared.progress.Halt.{Halt}
@@ -11,9 +10,9 @@ use Rattle.tape.specs.declared.progress.Halt.TheVariants.{Refused}
 use Rattle.tape.specs.declared.progress.Head.{Head}
 use Rattle.tape.specs.declared.progress.Line.{Line}
 use Rattle.tape.specs.declared.rows.Row.{Row}
-use Rattle.tape.specs.Pace.{Going, Stopped}
-use Rattle.tape.specs.Plan.{Nothing, Cause, Plan, give, refuse, fail, look, handle, ensure, guard, refusing, ◌then◌}
-use Rattle.tape.specs.Run.{State, at, After, halt_of, run, next_at, stand, pace_of, value_of, going_at, left_at, seen_as, Behind, Settled, Took, Went}
+use Rattle.tape.specs.Pace.{Stopped}
+use Rattle.tape.specs.Plan.{Nothing, Cause, Plan, give, refuse, fail, look, handle, guard, refusing, ◌then◌}
+use Rattle.tape.specs.Run.{at, halt_of, run, next_at, stand, value_of, left_at, seen_as, Behind, Settled, Took, Went}
 use Rattle.tape.proofs.Behind.{some-script}
 use Rattle.tape.proofs.Laws.{from-going, from-stopped, bind, looking, grows, dry, handled, guarded}
 

@@ -42,7 +42,7 @@ impl Row {
     // In its word the register lies above the value.
     pub const ABOVE: u64 = 0x1_0000_0000;
 
-    // The row that lies in this word.
+    // The row that lies in this word. Not `From`, here and below: a call says which of a row's two words is meant.
     pub fn of(word: u64) -> Row
         ensures { result ≡ row_of word }
     {

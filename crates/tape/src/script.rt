@@ -111,7 +111,12 @@ pub fn quiet(words: &[u32], limit: u32, done: u32, wrong: u32) -> usize
 
 // Takes so many data words of a script of which `rest` is what lies behind its first `start` words: they are lent on, so
 // nothing is copied, and it takes no longer for many than for one.
-pub fn take_data<'a>(head: &mut Head, rest: &'a [u32], start: usize, count: usize) -> Result<&'a [u32], Halt>
+pub fn take_data<'a>(
+    head: &mut Head,
+    rest: &'a [u32],
+    start: usize,
+    count: usize,
+) -> Result<&'a [u32], Halt>
     requires { (start ≤ head.old.used) × (start + length rest.now < 2 ^ 64) }
     ensures { (s : List ℕ) (l : List Row) → Behind start rest.now s → Took s (List ℕ) [] (data_words count) head.old l (words_in result) head.new l }
 {

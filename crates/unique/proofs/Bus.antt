@@ -3,19 +3,23 @@ use Prim.Native.Nat.{ℕ}
 use mathlib.Core.List.{List, []}
 use mathlib.Core.Path.{◌≡◌, refl, ap, ◌∙◌}
 use Rattle.tape.specs.Plan.{Nothing, Plan, give, refuse, read, write, look, hold, failed, ended}
-use Rattle.tape.specs.Run.{After}
+use Rattle.tape.specs.declared.progress.Halt.{Halt}
+use Rattle.tape.specs.Layout.{rows_in}
+use Rattle.tape.specs.Run.{words_in}
 use Rattle.tape.specs.Steps.{row}
-use Rattle.bus.specs.declared.response.Words.{Words}
+use Rattle.std.specs.Prelude.{Result, Ok, Err}
+use Rattle.types.specs.declared.error.Error.{Error}
 use Rattle.bus.specs.Clock.{delayed}
+use Rattle.bus.specs.Transfer.{sent_in}
 use Rattle.bus.proofs.clock
 use Rattle.bus.proofs.command
 use Rattle.bus.proofs.poll
 use Rattle.bus.proofs.ready
 use Rattle.bus.proofs.response
 use Rattle.bus.proofs.transfer
-use Rattle.unique.specs.Unique.{Unique}
-use Rattle.unique.proofs.Determined.{determined}
-use Rattle.unique.proofs.Steps.{by-words, lies_at, listed, on, on-any, to_flag, to_progress, to_word}
+use Rattle.unique.specs.Unique.{Unique, UniqueIn}
+use Rattle.unique.proofs.Determined.{determined, part-determined}
+use Rattle.unique.proofs.Steps.{by-words, left, rows-left, answer, answered, listed, on, on-any}
 
 clock_configure_clock : Unique clock.configure_clock.Kinds.ps clock.configure_clock.Kinds.r clock.configure_clock.Reads.Learnt
 clock_configure_clock = determined _ λ _ _ _ p. listed p
@@ -77,8 +81,17 @@ response-response-form = determined _ λ _ _ _ p. p
 transfer_of_many : Unique transfer.of_many.Kinds.ps transfer.of_many.Kinds.r transfer.of_many.Reads.Learnt
 transfer_of_many = determined _ λ _ _ _ p. p
 
-transfer_blocking_data : Unique transfer.blocking_data.Kinds.ps transfer.blocking_data.Kinds.r transfer.blocking_data.Reads.Learnt
-transfer_blocking_data = determined _ λ _ _ _ p. ?
+abbrev none_in : Result (List ℕ) Halt → Result Nothing Halt
+none_in (Ok ws) = Ok tt
+none_in (Err x) = Err x
+
+none-back : (r : Result Nothing Halt) → r ≡ none_in (sent_in r)
+none-back (Ok v) = refl
+none-back (Err x) = refl
 
 transfer_blocking_send : Unique transfer.blocking_send.Kinds.ps transfer.blocking_send.Kinds.r transfer.blocking_send.Reads.Learnt
-transfer_blocking_send = determined _ λ _ _ _ p. ?
+transfer_blocking_send = determined _ λ _ _ x p i. (left p i, by-words (rows-left p) (none-back x.0 ∙ ap none_in (answer p)) i)
+
+-- An exception: what it gives is lent. What it holds is promised, and not where it lies.
+transfer_blocking_data : UniqueIn transfer.blocking_data.Kinds.ps transfer.blocking_data.Kinds.r transfer.blocking_data.Reads.Learnt (λ _ _ x. (x.1.0, x.1.1.1.0, words_in x.0))
+transfer_blocking_data = part-determined _ λ _ _ _ p. listed p

@@ -55,7 +55,12 @@ host_sdmmc_with = determined _ λ _ _ _ p. p
 host_sdmmc_untouched : Unique host.Sdmmc.untouched.Kinds.ps host.Sdmmc.untouched.Kinds.r host.Sdmmc.untouched.Reads.Learnt
 host_sdmmc_untouched = determined _ λ _ _ _ p. p []
 
+host_sdmmc_called : Unique host.Sdmmc.called.Kinds.ps host.Sdmmc.called.Kinds.r host.Sdmmc.called.Reads.Learnt
+host_sdmmc_called = determined _ λ _ _ _ p. p
+
 host_sdmmc_ends : Unique host.Sdmmc.ends.Kinds.ps host.Sdmmc.ends.Kinds.r host.Sdmmc.ends.Reads.Learnt
-host_sdmmc_ends = determined _ λ _ _ _ p. p c.self [] []
+host_sdmmc_ends = determined _ λ _ a _ p. p a.0 [] []
 
 -- An exception: what it gives is lent. What it holds is promised, and not where it lies.
+blocks-part : UniqueIn blocks.part.Kinds.ps blocks.part.Kinds.r blocks.part.Reads.Learnt (λ _ _ x. x.0.now)
+blocks-part = part-determined _ λ _ _ _ p. p

@@ -1,8 +1,4 @@
 -- A line for each public function of `init`.
-use mathlib.Core.List.{[]}
-use Rattle.types.specs.declared.card.Card.{Card}
-use Rattle.tape.specs.Run.{After}
-use Rattle.init.specs.declared.identify.Known.{Known}
 use Rattle.init.proofs.begin
 use Rattle.init.proofs.card
 use Rattle.init.proofs.identify
@@ -10,7 +6,7 @@ use Rattle.init.proofs.lent
 use Rattle.init.proofs.speed
 use Rattle.unique.specs.Unique.{Unique}
 use Rattle.unique.proofs.Determined.{determined}
-use Rattle.unique.proofs.Steps.{listed, to_flag, to_progress, to_word}
+use Rattle.unique.proofs.Steps.{listed}
 
 begin_begin_init : Unique begin.begin_init.Kinds.ps begin.begin_init.Kinds.r begin.begin_init.Reads.Learnt
 begin_begin_init = determined _ λ _ _ _ p. listed p

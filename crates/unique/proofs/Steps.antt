@@ -33,15 +33,25 @@ told-back (Err x) = refl
 pub by-words : {Z : Type 0} {ws : List ℕ} {rs : List Row} {z z' : Z} → rows_in ws ≡ rs → z ≡ z' → ◌≡◌ {A = List ℕ × Z} (ws, z) (words_of rs, z')
 by-words e f = λ i. (words-told e i, f i)
 
-module _ {s : List ℕ} {A : Type 0} {d : A} {p : Plan A} {h h' : Head} {l : List Row} {r : Result A Halt} where
-  -- of a step that leaves every row list as it is
-  pub answered : {l' : List Row} → Took s A d p h l r h' l' → let x = does s d p (going_at h l) in ◌≡◌ {A = Head × Result A Halt} (h', r) (head_of x, answer_of x)
-  answered e = λ i. (ap head_of e.gave.same i, (told-back r ∙ ap answer_of e.gave.same) i)
+module _ {s : List ℕ} {A : Type 0} {d : A} {p : Plan A} {h h' : Head} {l l' : List Row} {r : Result A Halt} (e : Took s A d p h l r h' l') where
+  pub left : h' ≡ head_of (does s d p (going_at h l))
+  left = ap head_of e.gave.same
 
-  -- of one that reads and writes
-  pub listed : {ws : List ℕ} → Took s A d p h l r h' (rows_in ws)
-      → let x = does s d p (going_at h l) in ◌≡◌ {A = Head × List ℕ × Result A Halt} (h', ws, r) (head_of x, words_of x.state.list, answer_of x)
-  listed e = λ i. (ap head_of e.gave.same i, by-words (ap (λ (x : After A). x.state.list) e.gave.same) (told-back r ∙ ap answer_of e.gave.same) i)
+  pub rows-left : l' ≡ (does s d p (going_at h l)).state.list
+  rows-left = ap (λ (x : After A). x.state.list) e.gave.same
+
+  pub answer : r ≡ answer_of (does s d p (going_at h l))
+  answer = told-back r ∙ ap answer_of e.gave.same
+
+-- of a step that leaves every row list as it is
+pub answered : {s : List ℕ} {A : Type 0} {d : A} {p : Plan A} {h h' : Head} {l l' : List Row} {r : Result A Halt} → Took s A d p h l r h' l'
+    → let x = does s d p (going_at h l) in ◌≡◌ {A = Head × Result A Halt} (h', r) (head_of x, answer_of x)
+answered e = λ i. (left e i, answer e i)
+
+-- of one that reads and writes
+pub listed : {s : List ℕ} {A : Type 0} {d : A} {p : Plan A} {h h' : Head} {l : List Row} {ws : List ℕ} {r : Result A Halt} → Took s A d p h l r h' (rows_in ws)
+    → let x = does s d p (going_at h l) in ◌≡◌ {A = Head × List ℕ × Result A Halt} (h', ws, r) (head_of x, words_of x.state.list, answer_of x)
+listed e = λ i. (left e i, by-words (rows-left e) (answer e) i)
 
 -- what holds of every script of which the rest lies behind n words
 pub on : {n : ℕ} {rest : List ℕ} {P : List ℕ → Type 0} → ((s : List ℕ) → Behind n rest s → P s) → P (behind n rest)

@@ -1,7 +1,15 @@
 -- A line for each public function of `tape`.
+use mathlib.Core.Bool.{false}
 use mathlib.Core.List.{[]}
 use mathlib.Core.Path.{ap}
+use Rattle.types.specs.declared.card.Signalling.TheVariants.{SDR12}
+use Rattle.tape.specs.declared.progress.Halt.{Halt}
+use Rattle.tape.specs.declared.progress.Halt.TheVariants.{TraceFull}
+use Rattle.tape.specs.declared.progress.Head.{Head}
 use Rattle.tape.specs.declared.script.Reading.TheVariants.{Status}
+use Rattle.tape.specs.Pace.{Pace, Going, Stopped}
+use Rattle.tape.specs.Plan.{Nothing}
+use Rattle.tape.specs.Run.{After, words_in}
 use Rattle.tape.proofs.pairs
 use Rattle.tape.proofs.progress
 use Rattle.tape.proofs.rows
@@ -10,13 +18,25 @@ use Rattle.tape.proofs.send
 use Rattle.tape.proofs.steps
 use Rattle.unique.specs.Unique.{Unique, UniqueIn}
 use Rattle.unique.proofs.Determined.{determined, part-determined}
-use Rattle.unique.proofs.Steps.{data_on, lies_at, listed, on-any, to_flag, to_progress, to_word}
+use Rattle.unique.proofs.Steps.{head_of, by-words, left, answer, answered, listed, on-any}
 
-progress-line-note : Unique progress.Line.note.Kinds.ps progress.Line.note.Kinds.r progress.Line.note.Reads.Learnt
-progress-line-note = determined _ λ _ _ _ p i. (p i, tt)
+-- why a stopped call stopped
+abbrev stopped_at : Pace → Halt
+stopped_at (Stopped x) = x
+stopped_at Going = TraceFull
+
+abbrev stopped_by : After Nothing → Halt
+stopped_by x = stopped_at x.state.progress.pace
+
+-- some head: what a step says of every one it says of this
+abbrev somewhere : Head
+somewhere = record { used = 0; rows = 0; line = record { clkcr = 0; clock = record { 0 = 0 }; gated = false; signalling = SDR12 } }
+
+progress-line-noted : Unique progress.Line.noted.Kinds.ps progress.Line.noted.Kinds.r progress.Line.noted.Reads.Learnt
+progress-line-noted = determined _ λ _ _ _ p. p
 
 progress-ensure : Unique progress.ensure.Kinds.ps progress.ensure.Kinds.r progress.ensure.Reads.Learnt
-progress-ensure = determined _ λ _ _ _ p. (let e = (p [] (record { used = 0; rows = 0; line = the_line }) []) in ?)
+progress-ensure = determined _ λ _ _ _ p. answer (p [] somewhere [])
 
 pairs_convert : Unique pairs.convert.Kinds.ps pairs.convert.Kinds.r pairs.convert.Reads.Learnt
 pairs_convert = determined _ λ _ _ _ p i. (p.1 i, p.0 i)
@@ -67,20 +87,21 @@ steps_set_clken : Unique steps.set_clken.Kinds.ps steps.set_clken.Kinds.r steps.
 steps_set_clken = determined _ λ _ _ _ p. listed (p [])
 
 steps_close : Unique steps.close.Kinds.ps steps.close.Kinds.r steps.close.Reads.Learnt
-steps_close = determined _ λ _ _ _ p. ?
+steps_close = determined _ λ _ _ _ p i.
+    (ap head_of (p []).same i, by-words (ap (λ (x : After Nothing). x.state.list) (p []).same) (ap stopped_by (p []).same) i)
 
 steps-hold-gated : Unique steps.hold_gated.Kinds.ps steps.hold_gated.Kinds.r steps.hold_gated.Reads.Learnt
-steps-hold-gated = determined _ λ _ _ _ p. ?
+steps-hold-gated = determined _ λ _ _ _ p i. (left (p [] []) i, tt)
 
 steps-hold-clock : Unique steps.hold_clock.Kinds.ps steps.hold_clock.Kinds.r steps.hold_clock.Reads.Learnt
-steps-hold-clock = determined _ λ _ _ _ p. ?
+steps-hold-clock = determined _ λ _ _ _ p i. (left (p [] []) i, tt)
 
 steps-hold-signalling : Unique steps.hold_signalling.Kinds.ps steps.hold_signalling.Kinds.r steps.hold_signalling.Reads.Learnt
-steps-hold-signalling = determined _ λ _ _ _ p. ?
+steps-hold-signalling = determined _ λ _ _ _ p i. (left (p [] []) i, tt)
 
-script_take_data : Unique script.take_data.Kinds.ps script.take_data.Kinds.r script.take_data.Reads.Learnt
-script_take_data = determined _ λ _ _ _ p. ?
-
--- An exception: what it gives is lent. What it holds is promised, and not where it lies.
+-- Exceptions: what they give is lent. What it holds is promised, and not where it lies.
 script-rest : UniqueIn script.rest.Kinds.ps script.rest.Kinds.r script.rest.Reads.Learnt (λ _ _ x. x.0.now)
 script-rest = part-determined _ λ _ _ _ p. p.0.part
+
+script_take_data : UniqueIn script.take_data.Kinds.ps script.take_data.Kinds.r script.take_data.Reads.Learnt (λ _ _ x. (x.1.0, words_in x.0))
+script_take_data = part-determined _ λ _ _ _ p. answered (on-any p)

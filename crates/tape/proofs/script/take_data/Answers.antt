@@ -1,7 +1,7 @@
 use lib.Seq.{drop-cons}
 use lib.ListN.{length, get_or, take, drop}
 use mathlib.Core.List.{List, [], ◌∷◌}
-use mathlib.Core.Path.{◌≡◌, refl, ap, sym, ◌∙◌}
+use mathlib.Core.Path.{◌≡◌, ap, sym, ◌∙◌}
 use Prim.Native.Nat.{ℕ, zero, suc, ◌≤◌, ◌<◌, ◌-◌, ◌+◌}
 use native.Mathlib.Omega.{arith}
 use native.Mathlib.Numerals.{add-one}
@@ -61,13 +61,13 @@ pub returns-then-more-count : goal.returns-then-more-count
 returns-then-more-count c = let a = c.args in
     let more : c.left_from-more.result ≡ length a.rest.now - (a.head.now.used - a.start) = c.left_from-more.ensures in
     λ s l part.
-        let left = more ∙ sym (left-used part c.requires.0) in
-        took (rw left (sym (ended s 0 _ _ _ _ l (omega (arith, left)))))
+    let left = more ∙ sym (left-used part c.requires.0) in
+    took (rw left (sym (ended s 0 _ _ _ _ l (omega (arith, left)))))
 
 pub returns : goal.returns
 returns c = let a = c.args in
     let more : c.left_from-more.result ≡ length a.rest.now - (a.head.now.used - a.start) = c.left_from-more.ensures in
     λ s l part.
-        let left = more ∙ sym (left-used part c.requires.0) in
-        let lent = (further part c.requires.0 c.rest-left.ensures.part).part in
-        took (rw lent (sym (there s 0 _ _ _ _ l (omega (arith, left)))))
+    let left = more ∙ sym (left-used part c.requires.0) in
+    let lent = (further part c.requires.0 c.rest-left.ensures.part).part in
+    took (rw lent (sym (there s 0 _ _ _ _ l (omega (arith, left)))))

@@ -1,5 +1,5 @@
 use Prim.Native.Nat.{ℕ, ◌+◌, ◌^◌, ◌<◌}
-use mathlib.Core.Path.{◌≡◌, refl, ap, ◌∙◌}
+use mathlib.Core.Path.{refl, ap, ◌∙◌}
 use mathlib.Core.List.{List}
 use native.Mathlib.Omega.{arith}
 use native.Mathlib.Numerals.{add-one}
@@ -25,7 +25,7 @@ loop-i-preserved c = let ws = words_of c.args.bytes.now in
     let value = word_made c.args.bytes.now i _ (omega (arith, c.requires.count_in_bounds_2)) c.little.ensures in
     let fits : c.little.result < 2 ^ 32 = search rules in
     rw c.word.ensures
-        (row-stored c.loop-i.rows (place + i) (fifo c.little.result) fits
-        ∙ ap (λ (rs : List Row). set rs (place + i) (fifo c.little.result)) c.loop-i.invariant
-        ∙ ap (λ (w : ℕ). set (sent_over ws 0 i place l) (place + i) (fifo w)) value
-        ∙ rw (add-one i) (rw (zero-add i) at (sent-more ws 0 i place l)))
+    (row-stored c.loop-i.rows (place + i) (fifo c.little.result) fits
+    ∙ ap (λ (rs : List Row). set rs (place + i) (fifo c.little.result)) c.loop-i.invariant
+    ∙ ap (λ (w : ℕ). set (sent_over ws 0 i place l) (place + i) (fifo w)) value
+    ∙ rw (add-one i) (rw (zero-add i) at (sent-more ws 0 i place l)))

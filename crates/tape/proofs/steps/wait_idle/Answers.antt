@@ -1,7 +1,7 @@
 use Prim.Native.Nat.{ℕ, ◌≤◌, ◌<◌}
 use mathlib.Core.Bool.{Bool, true, false, not}
 use mathlib.Core.List.{List}
-use mathlib.Core.Path.{◌≡◌, refl, ap}
+use mathlib.Core.Path.{◌≡◌, refl}
 use native.Mathlib.Omega.{arith}
 use lib.ListN.{length, get_or}
 use Rattle.types.specs.Bits.{clear}
@@ -58,15 +58,15 @@ overflow_add-head c = omega (arith, counted-within _ c.args.limit c.args.rest.no
 
 pub returns-in_err-read_word : goal.returns-in_err-read_word
 returns-in_err-read_word c = λ s l part. passed c.from_residual.ensures.1 (record {
-    gave = found c.args.data c.args.limit refl part (rw c.idle_mask.ensures at c.busy-busy.ensures) refl c.if-busy-limit.true (c.in_err-read_word.ensures Status s l part).gave
-  })
+  gave = found c.args.data c.args.limit refl part (rw c.idle_mask.ensures at c.busy-busy.ensures) refl c.if-busy-limit.true (c.in_err-read_word.ensures Status s l part).gave;
+})
 
 pub returns-then-busy-limit : goal.returns-then-busy-limit
 returns-then-busy-limit c = λ s l part. record {
-    gave = found c.args.data c.args.limit refl part (rw c.idle_mask.ensures at c.busy-busy.ensures) refl c.if-busy-limit.true (c.in_ok-read_word.ensures Status s l part).gave
-  }
+  gave = found c.args.data c.args.limit refl part (rw c.idle_mask.ensures at c.busy-busy.ensures) refl c.if-busy-limit.true (c.in_ok-read_word.ensures Status s l part).gave;
+}
 
 pub returns : goal.returns
 returns c = λ s l part. record {
-    gave = spent c.args.data c.args.limit refl part (rw c.idle_mask.ensures at c.busy-busy.ensures) refl c.if-busy-limit.false refuses.gave
-  }
+  gave = spent c.args.data c.args.limit refl part (rw c.idle_mask.ensures at c.busy-busy.ensures) refl c.if-busy-limit.false refuses.gave;
+}
