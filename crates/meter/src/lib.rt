@@ -14,7 +14,7 @@ ghost use Rattle.meter.specs.Metered.{told_with, served_at, served_from, metered
 
 use bench::{print, serve, trace};
 use book::layout;
-use book::layout::Asked;
+use book::layout::{Asked, Kind};
 use feed::feed::{init_card, read_blocks, read_sd_status, write_blocks};
 use host::blocks;
 use host::host::{Called, Sdmmc};
@@ -82,68 +82,96 @@ fn feed_call(
     ensures listed { rows_in rows.new ≡ (comes host (asking (rows_in rows.old) buffer.old words.now asked)).list }
     ensures filled { buffer.new ≡ buffer_after (asking (rows_in rows.old) buffer.old words.now asked) (comes host (asking (rows_in rows.old) buffer.old words.now asked)) buffer.old }
 {
-    let kind = asked.kind;
-    let a = asked.a;
     let script = serve::script_of(words, asked);
-    if kind == 1 {
-        return init_card(host, script, rows, Hertz(a));
+    match Kind::of(asked.kind) {
+        Some(Kind::Initialise) => init_card(host, script, rows, Hertz(asked.a)),
+        Some(Kind::Read) => read_blocks(host, script, rows, asked.a, buffer),
+        Some(Kind::Write) => {
+            feed_write(
+                host,
+                serve::data_of(words, asked),
+                script,
+                rows,
+                asked.a,
+                buffer,
+            )
+        }
+        Some(Kind::Status) => feed_status(host, script, rows),
+        None => feed_status(host, script, rows),
     }
-    if kind == 2 {
-        return read_blocks(host, script, rows, a, buffer);
-    }
-    if kind == 4 {
-        return feed_write(host, serve::data_of(words, asked), script, rows, a, buffer);
-    }
-    feed_status(host, script, rows)
 }
 
-// One call, on the script or one answer at a time.
-fn ask(
-    stepped: bool,
-    host: Sdmmc,
-    words: &[u32],
-    asked: Asked,
-    rows: &mut [u64],
-    buffer: &mut [u8],
-) -> Called
-    ensures answered { result ≡ called_of (comes host (asking (rows_in rows.old) buffer.old words.now asked)) }
-    ensures listed { rows_in rows.new ≡ (comes host (asking (rows_in rows.old) buffer.old words.now asked)).list }
-    ensures filled { buffer.new ≡ buffer_after (asking (rows_in rows.old) buffer.old words.now asked) (comes host (asking (rows_in rows.old) buffer.old words.now asked)) buffer.old }
-{
-    if stepped {
-        return feed_call(host, words, asked, rows, buffer);
+// A way to serve a call of words that are laid out as a book's.
+trait Serves {
+    fn ask(
+        &self,
+        host: Sdmmc,
+        words: &[u32],
+        asked: Asked,
+        rows: &mut [u64],
+        buffer: &mut [u8],
+    ) -> Called
+        ensures answered { result ≡ called_of (comes host (asking (rows_in rows.old) buffer.old words.now asked)) }
+        ensures listed { rows_in rows.new ≡ (comes host (asking (rows_in rows.old) buffer.old words.now asked)).list }
+        ensures filled { buffer.new ≡ buffer_after (asking (rows_in rows.old) buffer.old words.now asked) (comes host (asking (rows_in rows.old) buffer.old words.now asked)) buffer.old };
+}
+
+// On the script.
+struct OnScript {}
+
+impl Serves for OnScript {
+    fn ask(
+        &self,
+        host: Sdmmc,
+        words: &[u32],
+        asked: Asked,
+        rows: &mut [u64],
+        buffer: &mut [u8],
+    ) -> Called {
+        serve::ask(host, words, asked, rows, buffer)
     }
-    serve::ask(host, words, asked, rows, buffer)
+}
+
+// One answer at a time.
+struct Stepped {}
+
+impl Serves for Stepped {
+    fn ask(
+        &self,
+        host: Sdmmc,
+        words: &[u32],
+        asked: Asked,
+        rows: &mut [u64],
+        buffer: &mut [u8],
+    ) -> Called {
+        feed_call(host, words, asked, rows, buffer)
+    }
 }
 
 // Serves call k, counted from 0, in the lent list and buffer.
-fn serve_call(
-    stepped: bool,
-    host: Sdmmc,
+fn serve_call<S: Serves>(
+    way: &S,
+    turn: Turn,
     words: &[u32],
     k: u32,
-    place: usize,
     rows: &mut [u64],
     buffer: &mut [u8],
 ) -> Turn
-    ensures served { record { host = result.host; list = rows_in rows.new; buffer = buffer.new; told = result.told } ≡ served_at words.now k place host (rows_in rows.old) buffer.old }
-    ensures passed { result.place ≡ place_after words.now k place }
+    ensures served { record { host = result.host; list = rows_in rows.new; buffer = buffer.new; told = result.told } ≡ served_at words.now k turn.place turn.host (rows_in rows.old) buffer.old }
+    ensures passed { result.place ≡ place_after words.now k turn.place }
 {
-    let asked = layout::call_at(words, k, place);
-    let end = trace::behind(words, asked.body_at, asked.body_len);
-    let called = ask(stepped, host, words, asked, rows, buffer);
-    let answer = called.answer;
-    let next = called.host;
+    let asked = layout::call_at(words, k, turn.place);
+    let called = way.ask(turn.host, words, asked, rows, buffer);
     Turn {
-        host: next,
-        place: end,
-        told: told(answer.number(), called.rows, called.words),
+        host: called.host,
+        place: trace::behind(words, asked.body_at, asked.body_len),
+        told: told(called.answer.number(), called.rows, called.words),
     }
 }
 
 // Serves so many calls one after the other; gives what the last came to, and at first what was told before.
-fn serve_calls(
-    stepped: bool,
+fn serve_calls<S: Serves>(
+    way: &S,
     host: Sdmmc,
     words: &[u32],
     calls: u32,
@@ -160,18 +188,15 @@ fn serve_calls(
         place: layout::contents(words),
         told: before,
     };
-    let mut k: u32 = 0;
-    while k < calls {
-        let next = turn.host;
-        turn = serve_call(stepped, next, words, k, turn.place, rows, buffer);
-        k = k + 1;
+    for k in 0..calls {
+        turn = serve_call(way, turn, words, k, rows, buffer);
     }
     turn.told
 }
 
 // Makes the host of words that are laid out as a book's, however many, and serves their calls in the lent list and buffer;
 // a read fills all of the buffer. Gives what the last call came to, or the host where there is none.
-fn serve_list(stepped: bool, words: &[u32], rows: &mut [u64], buffer: &mut [u8]) -> u64
+fn serve_list<S: Serves>(way: &S, words: &[u32], rows: &mut [u64], buffer: &mut [u8]) -> u64
     ensures told { result ≡ (metered words.now (rows_in rows.old) buffer.old).told }
     ensures listed { rows_in rows.new ≡ (metered words.now (rows_in rows.old) buffer.old).list }
     ensures filled { buffer.new ≡ (metered words.now (rows_in rows.old) buffer.old).buffer }
@@ -180,20 +205,10 @@ fn serve_list(stepped: bool, words: &[u32], rows: &mut [u64], buffer: &mut [u8])
     if heading.ready_attempts > 65535 {
         return told(23, 0, 0);
     }
-    let calls = heading.calls;
     let made = Sdmmc::new(serve::settings(heading));
-    let answer = made.answer;
-    let host = made.host;
-    let before = told(answer.number(), 0, 0);
-    serve_calls(
-        stepped,
-        host,
-        words,
-        trace::served(answer, calls),
-        before,
-        rows,
-        buffer,
-    )
+    let calls = trace::served(made.answer, heading.calls);
+    let before = told(made.answer.number(), 0, 0);
+    serve_calls(way, made.host, words, calls, before, rows, buffer)
 }
 
 // The calls of a list, on the script.
@@ -203,7 +218,7 @@ pub extern "C" fn boresacu_meter_calls(words: &[u32], rows: &mut [u64], buffer: 
     ensures listed { rows_in rows.new ≡ (metered words.now (rows_in rows.old) buffer.old).list }
     ensures filled { buffer.new ≡ (metered words.now (rows_in rows.old) buffer.old).buffer }
 {
-    serve_list(false, words, rows, buffer)
+    serve_list(&OnScript {}, words, rows, buffer)
 }
 
 // The calls of a list, one answer at a time.
@@ -213,7 +228,7 @@ pub extern "C" fn boresacu_meter_steps(words: &[u32], rows: &mut [u64], buffer: 
     ensures listed { rows_in rows.new ≡ (metered words.now (rows_in rows.old) buffer.old).list }
     ensures filled { buffer.new ≡ (metered words.now (rows_in rows.old) buffer.old).buffer }
 {
-    serve_list(true, words, rows, buffer)
+    serve_list(&Stepped {}, words, rows, buffer)
 }
 
 // What is printed of a file's bytes as a book, as far as it fits; gives how many bytes that is.

@@ -15,8 +15,7 @@ use Rattle.host.specs.Calls.{called_of}
 use Rattle.calls.specs.Serve.{comes}
 use Rattle.feed.specs.Turns.{starts}
 use Rattle.book.specs.declared.layout.Asked.{Asked}
-use Rattle.book.specs.declared.layout.Opened.{Opened}
-use Rattle.book.specs.declared.layout.Opened.TheVariants as O
+use Rattle.std.specs.Prelude as O
 use Rattle.types.specs.Words.{words_of}
 use Rattle.book.specs.Readers.{asked_at, call_asked, opened_of}
 use Rattle.types.proofs.Back.{length-words}
@@ -89,27 +88,27 @@ none_told ws ws' room start all out t =
     let none : t.served ≡ 0 = omega (arith, t.within) in
     record { served = 0; within = omega arith; whole = λ e. refl; last = rw none at t.last }
 
-module _ (bytes words last : List ℕ) (room : ℕ) (r : Opening) (all : Bool) (out out' out'' : List ℕ) (f : last ≡ inked 0 (words_of bytes) words) where
-  by : (o : Opened) → opened_of bytes (length words) ≡ o → OpensAs o (words_of bytes) r
+module _ (bytes words last : List ℕ) (room : ℕ) (r : Opening) (all : Bool) (out out' out'' : List ℕ) (at : ℕ) (f : last ≡ inked 0 (words_of bytes) words) where
+  by : (o : O.Option ℕ) → opened_of bytes (length words) ≡ o → OpensAs o (words_of bytes) r
       → Tellings (take r.words last) room (start_of o (words_of bytes) out) (calls_of o (words_of bytes)) all out''
       → Tellings (words_of bytes) room (start_of o (words_of bytes) out) (calls_of o (words_of bytes)) all out''
   unfolding OpensAs calls_of
-  by (O.Words n) e s t =
+  by (O.Some n) e s t =
       let many : r.words ≡ n = s.words ∙ length-words bytes ∙ sym (opened_some bytes (length words) n e).2 in
       let lie : take r.words last ≡ words_of bytes = rw many (words_lie bytes words last n e f) in
       rw lie at t
-  by O.Bad e s t = none_told (take r.words last) (words_of bytes) room _ all out'' t
+  by O.None e s t = none_told (take r.words last) (words_of bytes) room _ all out'' t
 
-  pub book-told : OpensAs (opened_of bytes (length words)) (words_of bytes) r → Laid 0 (head_of (opened_of bytes (length words)) (words_of bytes)) out r.at out'
+  pub book-told : OpensAs (opened_of bytes (length words)) (words_of bytes) r → Laid 0 (head_of (opened_of bytes (length words)) (words_of bytes)) out at out'
       → Tellings (take r.words last) room (record { host = r.host; place = r.body_at; out = out' }) r.calls all out''
       → Tellings (words_of bytes) room (start_of (opened_of bytes (length words)) (words_of bytes) out) (calls_of (opened_of bytes (length words)) (words_of bytes)) all out''
   book-told s l t =
       let o = opened_of bytes (length words) in
-      by o refl s (rw (opened-start o (words_of bytes) out out' r s l, opened-calls o (words_of bytes) r s) at t)
+      by o refl s (rw (opened-start o (words_of bytes) out out' at r s l, opened-calls o (words_of bytes) r s) at t)
 
 -- its first text could not be written
-pub not-begun : (o : Opened) (ws : List ℕ) (room : ℕ) (r : Opening) (out out' : List ℕ) → OpensAs o ws r → Laid 0 (head_of o ws) out r.at out'
+pub not-begun : (o : O.Option ℕ) (ws : List ℕ) (room : ℕ) (r : Opening) (out out' : List ℕ) (at : ℕ) → OpensAs o ws r → Laid 0 (head_of o ws) out at out'
     → Tellings ws room (start_of o ws out) (calls_of o ws) false out'
 unfolding after_calls
-not-begun o ws room r out out' s l =
-    record { served = 0; within = omega arith; whole = never; last = ap (λ (p : Point). p.out) (opened-start o ws out out' r s l) }
+not-begun o ws room r out out' at s l =
+    record { served = 0; within = omega arith; whole = never; last = ap (λ (p : Point). p.out) (opened-start o ws out out' at r s l) }

@@ -7,7 +7,8 @@ use native.Mathlib.Omega.{arith}
 use lib.Dec.{eqb}
 use lib.ListN.{length, take, drop, length-append, length-drop}
 use lib.Seq.{length-take-le}
-use borrow.Author.Tests.{eq-eqb, ne_eqb}
+use Rattle.std.specs.Prelude.{None}
+use Rattle.book.proofs.Numbers.{Numbered}
 use Rattle.types.specs.Words.{bytes_of, words_of}
 use Rattle.types.proofs.Bytes.{length-bytes}
 use Rattle.tape.specs.declared.rows.Row.{Row}
@@ -40,21 +41,23 @@ stands host e = ap (λ (p : Plan Closing). record { before = host; ahead = next 
 module _ (host : Sdmmc) (kind a : ℕ) (sent : List ℕ) (bytes : ℕ) where
   pub initialises : kind ≡ 1 → init_call host a ≡ plan_of host kind a sent bytes
   unfolding plan_of
-  initialises one = rw (eq-eqb kind 1 one) refl
+  initialises one = rw one refl
 
-  module _ (none : kind ≡ 1 → ⊥) where
-    pub reads : kind ≡ 2 → blocks_call host incoming a bytes ≡ plan_of host kind a sent bytes
-    unfolding plan_of
-    reads two = rw (ne_eqb kind 1 none, eq-eqb kind 2 two) refl
+  pub reads : kind ≡ 2 → blocks_call host incoming a bytes ≡ plan_of host kind a sent bytes
+  unfolding plan_of
+  reads two = rw two refl
 
-    module _ (nor : kind ≡ 2 → ⊥) where
-      pub writes : kind ≡ 4 → blocks_call host (outgoing sent) a bytes ≡ plan_of host kind a sent bytes
-      unfolding plan_of
-      writes four = rw (ne_eqb kind 1 none, ne_eqb kind 2 nor, eq-eqb kind 4 four) refl
+  pub writes : kind ≡ 4 → blocks_call host (outgoing sent) a bytes ≡ plan_of host kind a sent bytes
+  unfolding plan_of
+  writes four = rw four refl
 
-      pub asks-status : (kind ≡ 4 → ⊥) → status_call host ≡ plan_of host kind a sent bytes
-      unfolding plan_of
-      asks-status neither = rw (ne_eqb kind 1 none, ne_eqb kind 2 nor, ne_eqb kind 4 neither) refl
+  pub asks-status : kind ≡ 3 → status_call host ≡ plan_of host kind a sent bytes
+  unfolding plan_of
+  asks-status three = rw three refl
+
+  pub asks-other : Numbered None kind → status_call host ≡ plan_of host kind a sent bytes
+  unfolding plan_of
+  asks-other other = rw (other.0, other.1, other.3) refl
 
 -- words laid into a buffer leave it as long as it was
 long_filled : (ws buffer : List ℕ) → length (blocks_filled ws buffer) ≡ length buffer

@@ -1,7 +1,7 @@
 // A book told event by event on standard output, its calls taken one answer at a time.
 #![tactic(auto)]
 
-ghost use Rattle.std.specs.Prelude.{◌≡◌, [], false, ◌+◌, ◌*◌, ◌≤◌, ◌<◌, min, length, take, replicate};
+ghost use Rattle.std.specs.Prelude.{◌≡◌, [], false, ◌+◌, ◌*◌, ◌≤◌, ◌<◌, min, length, take, replicate, IfSome};
 ghost use Rattle.tape.specs.Layout.{rows_in};
 ghost use Rattle.text.specs.Ink.{inked};
 ghost use Rattle.host.specs.Calls.{called_of};
@@ -17,9 +17,10 @@ ghost use Rattle.sheet.specs.Sheet.{Fits};
 ghost use Rattle.tracing.specs.Traced.{start_of, calls_of};
 ghost use Rattle.telling.specs.Told.{Tellings, leaf, evented, events_of, begun, begins, ends_on, call_out};
 
+use bench::print::Turn;
 use bench::{serve, trace};
 use book::layout;
-use book::layout::Asked;
+use book::layout::{Asked, Kind};
 use events::event;
 use feed::turn::{Event, Feeding};
 use host::blocks;
@@ -28,7 +29,7 @@ use sheet::lines;
 use sheet::sheet::Sheet;
 use std::io::Write;
 use streams::sink::Sink;
-use text::pen;
+use text::pen::Pen;
 use types::clock::Hertz;
 use underway::call::Call;
 
@@ -39,30 +40,17 @@ struct Told {
     sheet: Sheet,
 }
 
-// After a call: the next host, where the next body starts, and whether all text was written.
-#[derive(Clone, Copy)]
-struct Place {
-    host: Sdmmc,
-    body_at: usize,
-    written: bool,
-}
-
 // A call at its start, a read or a write with so many bytes.
 fn begin(host: Sdmmc, asked: Asked, bytes: usize) -> Call
     ensures { (g : Lent) → under g result ≡ begun host asked g.sent bytes }
 {
-    let kind = asked.kind;
-    let a = asked.a;
-    if kind == 1 {
-        return Call::init_card(host, Hertz(a));
+    match Kind::of(asked.kind) {
+        Some(Kind::Initialise) => Call::init_card(host, Hertz(asked.a)),
+        Some(Kind::Read) => Call::read_blocks(host, asked.a, bytes),
+        Some(Kind::Write) => Call::write_blocks(host, asked.a, bytes),
+        Some(Kind::Status) => Call::read_sd_status(host),
+        None => Call::read_sd_status(host),
     }
-    if kind == 2 {
-        return Call::read_blocks(host, a, bytes);
-    }
-    if kind == 4 {
-        return Call::write_blocks(host, a, bytes);
-    }
-    Call::read_sd_status(host)
 }
 
 // What came about, where it has a line: a row that found no room was not written, and the end is no event.
@@ -179,7 +167,8 @@ fn tell_end<W: Write>(
     state.handed(out, output)
 }
 
-// All of a call, with a row list and a buffer of its blocks' bytes.
+// All of a call, with a row list and a buffer of its blocks' bytes. Gives the turn of the next call, or none where not all
+// text was written.
 fn tell_exact<W: Write>(
     host: Sdmmc,
     words: &[u32],
@@ -189,10 +178,9 @@ fn tell_exact<W: Write>(
     rows: &mut [u64],
     out: &mut [u8],
     output: &mut Sink<W>,
-) -> Place
+) -> Option<Turn>
     requires { 512 ≤ length out.old }
-    ensures served { result.host ≡ (comes host (asking (rows_in rows.old) buffer.old words.now asked)).host }
-    ensures passed { result.body_at ≡ min (asked.body_at + asked.body_len) (length words.now) }
+    ensures next { IfSome result (λ t. (t.host ≡ (comes host (asking (rows_in rows.old) buffer.old words.now asked)).host) × (t.body_at ≡ min (asked.body_at + asked.body_len) (length words.now))) }
     ensures told { out.new ≡ call_out number host words.now asked buffer.old (rows_in rows.old) out.old }
 {
     let blank = Sheet {
@@ -202,37 +190,36 @@ fn tell_exact<W: Write>(
     let begins = lines::tell_begins(blank, number, asked, out, output);
     let told = tell_events(host, words, asked, buffer, rows, begins, out, output);
     let called = told.called;
-    let next = called.host;
     let sheet = tell_end(told, number, asked.kind, out, output);
-    Place {
-        host: next,
-        body_at: trace::behind(words, asked.body_at, asked.body_len),
-        written: sheet.written,
+    if !sheet.written {
+        return None;
     }
+    Some(Turn {
+        host: called.host,
+        body_at: trace::behind(words, asked.body_at, asked.body_len),
+    })
 }
 
 // Call k in the parts of a row list and of a buffer that it may take.
 fn tell_in<W: Write>(
-    host: Sdmmc,
+    turn: Turn,
     words: &[u32],
     k: u16,
-    body_at: usize,
     room: usize,
     list: &mut [u64],
     buffer: &mut [u8],
     out: &mut [u8],
     output: &mut Sink<W>,
-) -> Place
+) -> Option<Turn>
     requires { (4096 ≤ length list.old) × (8192 ≤ length buffer.old) × (512 ≤ length out.old) }
-    ensures served { result.host ≡ (comes host (asking (rows_in (take (min room 4096) list.old)) (take (bytes_at words.now k body_at) buffer.old) words.now (asked_at words.now k body_at))).host }
-    ensures passed { result.body_at ≡ place_after words.now k body_at }
-    ensures told { out.new ≡ call_out (k + 1) host words.now (asked_at words.now k body_at) (take (bytes_at words.now k body_at) buffer.old) (rows_in (take (min room 4096) list.old)) out.old }
+    ensures next { IfSome result (λ t. (t.host ≡ (comes turn.host (asking (rows_in (take (min room 4096) list.old)) (take (bytes_at words.now k turn.body_at) buffer.old) words.now (asked_at words.now k turn.body_at))).host) × (t.body_at ≡ place_after words.now k turn.body_at)) }
+    ensures told { out.new ≡ call_out (k + 1) turn.host words.now (asked_at words.now k turn.body_at) (take (bytes_at words.now k turn.body_at) buffer.old) (rows_in (take (min room 4096) list.old)) out.old }
 {
-    let asked = layout::call_at(words, k as u32, body_at);
-    let rows = pen::least(room, 4096);
-    let bytes = 512 * pen::least(asked.b as usize, 16);
+    let asked = layout::call_at(words, k as u32, turn.body_at);
+    let rows = room.min(4096);
+    let bytes = 512 * (asked.b as usize).min(16);
     tell_exact(
-        host,
+        turn.host,
         words,
         asked,
         k as u32 + 1,
@@ -243,62 +230,42 @@ fn tell_in<W: Write>(
     )
 }
 
-// Takes call k, counted from 0, whose body starts at a place, with so many rows of room, and tells it.
+// Takes call k, counted from 0, with so many rows of room, and tells it.
 fn tell_call<W: Write>(
-    host: Sdmmc,
+    turn: Turn,
     words: &[u32],
     k: u16,
-    body_at: usize,
     room: usize,
     out: &mut [u8],
     output: &mut Sink<W>,
-) -> Place
+) -> Option<Turn>
     requires { 512 ≤ length out.old }
-    ensures served { result.host ≡ (comes host (call_at words.now k body_at room)).host }
-    ensures passed { result.body_at ≡ place_after words.now k body_at }
-    ensures told { out.new ≡ call_out (k + 1) host words.now (asked_at words.now k body_at) (replicate (bytes_at words.now k body_at) 0) (rows_in (replicate (min room 4096) 0)) out.old }
+    ensures next { IfSome result (λ t. (t.host ≡ (comes turn.host (call_at words.now k turn.body_at room)).host) × (t.body_at ≡ place_after words.now k turn.body_at)) }
+    ensures told { out.new ≡ call_out (k + 1) turn.host words.now (asked_at words.now k turn.body_at) (replicate (bytes_at words.now k turn.body_at) 0) (rows_in (replicate (min room 4096) 0)) out.old }
 {
     let mut list = [0u64; 4096];
     let mut buffer = [0u8; 8192];
-    tell_in(
-        host,
-        words,
-        k,
-        body_at,
-        room,
-        &mut list,
-        &mut buffer,
-        out,
-        output,
-    )
+    tell_in(turn, words, k, room, &mut list, &mut buffer, out, output)
 }
 
 // Takes a book's calls one after the other. Answers whether all was written; where it was not, no further call is taken.
 fn tell_calls<W: Write>(
-    host: Sdmmc,
+    start: Turn,
     words: &[u32],
     calls: u16,
-    body_at: usize,
     room: usize,
     out: &mut [u8],
     output: &mut Sink<W>,
 ) -> bool
     requires { 512 ≤ length out.old }
-    ensures { Tellings words.now room (record { host = host; place = body_at; out = out.old }) calls result out.new }
+    ensures { Tellings words.now room (record { host = start.host; place = start.body_at; out = out.old }) calls result out.new }
 {
-    let mut place = Place {
-        host: host,
-        body_at: body_at,
-        written: true,
-    };
-    let mut k = 0;
-    while k < calls {
-        let next = place.host;
-        place = tell_call(next, words, k, place.body_at, room, out, output);
-        if !place.written {
-            return false;
+    let mut turn = start;
+    for k in 0..calls {
+        match tell_call(turn, words, k, room, out, output) {
+            Some(next) => turn = next,
+            None => return false,
         }
-        k = k + 1;
     }
     true
 }
@@ -315,27 +282,22 @@ fn tell_all<W: Write>(
     ensures loaded { words.new ≡ inked 0 (words_of bytes.now) words.old }
     ensures told { Tellings (words_of bytes.now) room (start_of (opened_of bytes.now (length words.old)) (words_of bytes.now) out.old) (calls_of (opened_of bytes.now (length words.old)) (words_of bytes.now)) result out.new }
 {
-    let opening = trace::open(bytes, words, out);
-    let at = opening.at;
+    let mut pen = Pen::new(out, 0);
+    let opening = trace::open(bytes, words, &mut pen);
     let head = Sheet {
-        at: at,
+        at: pen.at,
         written: true,
     };
     let sheet = head.handed(out, output);
     if !sheet.written {
         return false;
     }
-    let host = opening.host;
+    let start = Turn {
+        host: opening.host,
+        body_at: opening.body_at,
+    };
     let n = opening.words;
-    tell_calls(
-        host,
-        &words[..n],
-        opening.calls,
-        opening.body_at,
-        room,
-        out,
-        output,
-    )
+    tell_calls(start, &words[..n], opening.calls, room, out, output)
 }
 
 // Tells a file's bytes as a book, with so many rows of room for each call, by way of a list for its words and a buffer for

@@ -7,17 +7,14 @@ use borrow.Author.Rules.{rules}
 use Rattle.meter.proofs.serve_calls.Goals as goal
 
 pub loop-k-init : goal.loop-k-init
-loop-k-init c = (record { within = omega arith; rest = rw (c.contents.ensures, sub-zero) }, (refl, refl))
+loop-k-init g c = (record { within = omega arith; rest = rw (c.contents.ensures, sub-zero) }, (refl, refl))
 
 pub loop-k-preserved : goal.loop-k-preserved
-loop-k-preserved c = let done = c.serve_call-turn.ensures in (
+loop-k-preserved g c = let done = c.serve_call-turn.ensures in (
   next-served c.loop-k.invariant.0 c.loop-k-test.true done.passed done.served,
   (search rules, search rules),
 )
 
 pub returns : goal.returns
-returns c = let all = all-served c.loop-k.invariant.0 c.loop-k-test.false in
+returns g c = let all = all-served c.loop-k.invariant.0 c.loop-k-test.false in
     record { told = ap (λ (x : Served). x.told) all; listed = ap (λ (x : Served). x.list) all; filled = ap (λ (x : Served). x.buffer) all }
-
-pub loop-k-smaller : goal.loop-k-smaller
-loop-k-smaller c = omega arith

@@ -1,4 +1,3 @@
-use Prim.Native.Nat.{◌-◌}
 use mathlib.Core.Path.{◌≡◌}
 use lib.ListN.{length}
 use Rattle.tape.specs.Layout.{rows_in}
@@ -8,10 +7,7 @@ use Rattle.meter.proofs.Served.{Serving}
 use Rattle.meter.proofs.serve_calls.Given as goal
 
 abbrev pub invariant-loop-k : goal.invariant-loop-k
-invariant-loop-k l =
+invariant-loop-k g l =
     Serving l.words l.calls (served_from l.calls l.words 0 (contents_of l.words) (record { host = l.initial.turn.host; list = rows_in l.initial.rows; buffer = l.initial.buffer; told = l.before })) l.k l.turn.place
     (record { host = l.turn.host; list = rows_in l.rows; buffer = l.buffer; told = l.turn.told })
     × ((length l.rows ≡ length l.initial.rows) × (length l.buffer ≡ length l.initial.buffer))
-
-abbrev pub decreases-loop-k : goal.decreases-loop-k
-decreases-loop-k l = l.calls - l.k

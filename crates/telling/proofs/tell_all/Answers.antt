@@ -1,17 +1,25 @@
+use Rattle.std.proofs.Common.{rules}
 use mathlib.Core.Path.{sym}
 use lib.Seq.{length-take-le}
 use Rattle.text.proofs.Ink.{stands-within}
+use Rattle.text.proofs.Lent.{same_name}
+use Rattle.text.proofs.Pens.{made_over}
 use Rattle.bench.proofs.Opens.{opening-fits}
 use Rattle.telling.proofs.Books.{not-begun, book-told}
 use Rattle.telling.proofs.tell_all.Goals as goal
 
 pub handed-sheet-requires : goal.handed-sheet-requires
-handed-sheet-requires g c = stands-within c.open-opening.ensures.printed
+handed-sheet-requires g c =
+    let made = c.new-pen.ensures in
+    let name = same_name _ _ c.open-opening.ensures.printed made.same in
+    stands-within (made_over _ made.stands made.held c.open-opening.ensures.printed (search rules))
 
 pub returns-then-not-sheet : goal.returns-then-not-sheet
 returns-then-not-sheet g c = let opened = c.open-opening in
     let said = opened.ensures in
-    record { loaded = said.laid; told = not-begun _ _ _ opened.result _ _ said.opened said.printed }
+    let made = c.new-pen.ensures in
+    let name = same_name _ _ said.printed made.same in
+    record { loaded = said.laid; told = not-begun _ _ _ opened.result _ _ _ said.opened (made_over _ made.stands made.held said.printed (search rules)) }
 
 pub slice_bounds-tell_calls-end : goal.slice_bounds-tell_calls-end
 slice_bounds-tell_calls-end g c = let opened = c.open-opening in
@@ -24,4 +32,6 @@ slice_bounds-tell_calls-end-2 g c = let opened = c.open-opening in
 pub returns : goal.returns
 returns g c = let opened = c.open-opening in
     let said = opened.ensures in
-    record { loaded = said.laid; told = book-told _ _ _ _ opened.result _ _ _ _ said.laid said.opened said.printed c.tell_calls.ensures }
+    let made = c.new-pen.ensures in
+    let name = same_name _ _ said.printed made.same in
+    record { loaded = said.laid; told = book-told _ _ _ _ opened.result _ _ _ _ _ said.laid said.opened (made_over _ made.stands made.held said.printed (search rules)) c.tell_calls.ensures }

@@ -12,11 +12,15 @@ tell_events-told-requires g c = still-fits c.tell_begins-begins.ensures (search 
 pub tell_end-sheet-requires : goal.tell_end-sheet-requires
 tell_end-sheet-requires g c = c.tell_events-told.ensures.fits
 
+pub returns-then-not-sheet-clause-told : goal.returns-then-not-sheet-clause-told
+returns-then-not-sheet-clause-told g c = let a = c.args in
+    let said = c.tell_events-told.ensures in
+    call-out a.number a.host a.words.now a.asked a.buffer.now (rows_in a.rows.now) c.tell_begins-begins.ensures said.answered said.told c.tell_end-sheet.ensures
+
 pub returns : goal.returns
 returns g c = let a = c.args in
     let said = c.tell_events-told.ensures in record {
-      served = ap (λ (x : Called). x.host) said.answered;
-      passed = c.behind.ensures;
+      next = (ap (λ (x : Called). x.host) said.answered, c.behind.ensures);
       told = call-out a.number a.host a.words.now a.asked a.buffer.now (rows_in a.rows.now) c.tell_begins-begins.ensures said.answered said.told
           c.tell_end-sheet.ensures;
     }
