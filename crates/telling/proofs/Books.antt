@@ -1,6 +1,7 @@
 -- A book told call by call.
 use Prim.Native.Nat.{ℕ, ◌+◌, ◌≤◌, min}
-use mathlib.Core.Bool.{Bool, true, false}
+use mathlib.Core.Bool.{true, false}
+use Rattle.std.specs.Prelude.{Result, Ok, Err, IsOk}
 use mathlib.Core.List.{List}
 use mathlib.Core.Path.{◌≡◌, refl, ap, sym, ◌∙◌}
 use native.Mathlib.Numerals.{add-one}
@@ -36,7 +37,7 @@ use Rattle.telling.proofs.Lines.{as_leaf}
 -- a call's lines, its events and its last two lines are all of it
 module _ (number : ℕ) (host : Sdmmc) (ws : List ℕ) (asked : Asked) (buffer : List ℕ) (l : List Row) where
   pub call-out : {at : ℕ} {out out₁ out₂ out₃ : List ℕ} {sheet : Sheet} {c : Called}
-      → Tells (begins_text number asked) (record { at = 0; written = true }) out sheet out₁
+      → Tells (begins_text number asked) (record { at = 0; written = Ok tt }) out sheet out₁
       → c ≡ called_of (comes host (asking l buffer ws asked))
       → leaf at out₂ ≡ events_of (call_asked ws asked).script (starts (begins host ws asked buffer)) l (leaf sheet.at out₁)
       → out₃ ≡ (ends_on number asked.kind c (leaf at out₂)).out → out₃ ≡ call_out number host ws asked buffer l out
@@ -72,23 +73,23 @@ one_more ws room start k host host' place place' out out' s h p l =
     })
 
 -- all of them, or the first so many
-pub all-calls : {ws : List ℕ} {room : ℕ} {start : Point} {host : Sdmmc} {place : ℕ} {out : List ℕ} (k calls : ℕ) → Stands ws room start k host place out → k ≡ calls → Tellings ws room start calls true out
+pub all-calls : {E : Type 0} {ws : List ℕ} {room : ℕ} {start : Point} {host : Sdmmc} {place : ℕ} {out : List ℕ} (k calls : ℕ) → Stands ws room start k host place out → k ≡ calls → Tellings {E = E} ws room start calls (Ok tt) out
 all-calls k calls s e = record { served = k; within = omega arith; whole = λ t. e; last = s.laid }
 
 never : {n m : ℕ} → false ≡ true → n ≡ m
 never e = let z : ◌≡◌ {A = ℕ} 0 1 = cc in absurd (omega arith)
 
-pub some-calls : {ws : List ℕ} {room : ℕ} {start : Point} {host : Sdmmc} {place : ℕ} {out : List ℕ} (k calls : ℕ) → Stands ws room start k host place out → k ≤ calls → Tellings ws room start calls false out
-some-calls k calls s h = record { served = k; within = h; whole = never; last = s.laid }
+pub some-calls : {E : Type 0} {ws : List ℕ} {room : ℕ} {start : Point} {host : Sdmmc} {place : ℕ} {out : List ℕ} (k calls : ℕ) → Stands ws room start k host place out → k ≤ calls → (why : E) → Tellings ws room start calls (Err why) out
+some-calls k calls s h why = record { served = k; within = h; whole = never; last = s.laid }
 
 -- where there is no call, its words do not matter
-none_told : (ws ws' : List ℕ) (room : ℕ) (start : Point) (all : Bool) (out : List ℕ) → Tellings ws room start 0 all out → Tellings ws' room start 0 all out
+none_told : {E : Type 0} (ws ws' : List ℕ) (room : ℕ) (start : Point) (all : Result (Unit {0}) E) (out : List ℕ) → Tellings ws room start 0 all out → Tellings ws' room start 0 all out
 unfolding after_calls
 none_told ws ws' room start all out t =
     let none : t.served ≡ 0 = omega (arith, t.within) in
     record { served = 0; within = omega arith; whole = λ e. refl; last = rw none at t.last }
 
-module _ (bytes words last : List ℕ) (room : ℕ) (r : Opening) (all : Bool) (out out' out'' : List ℕ) (at : ℕ) (f : last ≡ inked 0 (words_of bytes) words) where
+module _ {E : Type 0} (bytes words last : List ℕ) (room : ℕ) (r : Opening) (all : Result (Unit {0}) E) (out out' out'' : List ℕ) (at : ℕ) (f : last ≡ inked 0 (words_of bytes) words) where
   by : (o : O.Option ℕ) → opened_of bytes (length words) ≡ o → OpensAs o (words_of bytes) r
       → Tellings (take r.words last) room (start_of o (words_of bytes) out) (calls_of o (words_of bytes)) all out''
       → Tellings (words_of bytes) room (start_of o (words_of bytes) out) (calls_of o (words_of bytes)) all out''
@@ -107,8 +108,8 @@ module _ (bytes words last : List ℕ) (room : ℕ) (r : Opening) (all : Bool) (
       by o refl s (rw (opened-start o (words_of bytes) out out' at r s l, opened-calls o (words_of bytes) r s) at t)
 
 -- its first text could not be written
-pub not-begun : (o : O.Option ℕ) (ws : List ℕ) (room : ℕ) (r : Opening) (out out' : List ℕ) (at : ℕ) → OpensAs o ws r → Laid 0 (head_of o ws) out at out'
-    → Tellings ws room (start_of o ws out) (calls_of o ws) false out'
+pub not-begun : {E : Type 0} (o : O.Option ℕ) (ws : List ℕ) (room : ℕ) (r : Opening) (out out' : List ℕ) (at : ℕ) → OpensAs o ws r → Laid 0 (head_of o ws) out at out'
+    → (why : E) → Tellings ws room (start_of o ws out) (calls_of o ws) (Err why) out'
 unfolding after_calls
-not-begun o ws room r out out' at s l =
+not-begun o ws room r out out' at s l why =
     record { served = 0; within = omega arith; whole = never; last = ap (λ (p : Point). p.out) (opened-start o ws out out' at r s l) }

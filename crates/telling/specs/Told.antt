@@ -1,6 +1,6 @@
 -- What is laid on a sheet when a book is told: for each call the call as the book has it, its events in their order, its line
 -- and the state. Each line goes where the sheet has room for it.
-use Rattle.std.specs.Prelude.{ℕ, zero, suc, ◌+◌, ◌≤◌, min, Bool, true, cond, List, ◌≡◌, eqb, length, replicate}
+use Rattle.std.specs.Prelude.{ℕ, zero, suc, ◌+◌, ◌≤◌, min, Result, IsOk, cond, List, ◌≡◌, eqb, length, replicate}
 use Rattle.text.specs.Ink.{inked, next}
 use Rattle.tape.specs.declared.rows.Row.{Row}
 use Rattle.tape.specs.Layout.{rows_in}
@@ -108,8 +108,8 @@ after_calls ws room start (suc k) = stepped ws room k (after_calls ws room start
 
 -- so many of the calls were told, all of them where all was written, and this is what the buffer holds. How many could be
 -- written is in no contract
-pub record Tellings (ws : List ℕ) (room : ℕ) (start : Point) (calls : ℕ) (all : Bool) (out : List ℕ) : Type 0 where
+pub record Tellings {E : Type 0} (ws : List ℕ) (room : ℕ) (start : Point) (calls : ℕ) (all : Result (Unit {0}) E) (out : List ℕ) : Type 0 where
   pub served : ℕ
   pub within : served ≤ calls
-  pub whole : all ≡ true → served ≡ calls
+  pub whole : IsOk all → served ≡ calls
   pub last : out ≡ (after_calls ws room start served).out

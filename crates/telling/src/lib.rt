@@ -1,7 +1,7 @@
 // A book told event by event on standard output, its calls taken one answer at a time.
 #![tactic(auto)]
 
-ghost use Rattle.std.specs.Prelude.{◌≡◌, [], false, ◌+◌, ◌*◌, ◌≤◌, ◌<◌, min, length, take, replicate, IfSome};
+ghost use Rattle.std.specs.Prelude.{◌≡◌, [], IsErr, ◌+◌, ◌*◌, ◌≤◌, ◌<◌, min, length, take, replicate, IfOk};
 ghost use Rattle.tape.specs.Layout.{rows_in};
 ghost use Rattle.text.specs.Ink.{inked};
 ghost use Rattle.host.specs.Calls.{called_of};
@@ -27,6 +27,7 @@ use host::blocks;
 use host::host::{Called, Sdmmc};
 use sheet::lines;
 use sheet::sheet::Sheet;
+use std::io;
 use std::io::Write;
 use streams::sink::Sink;
 use text::pen::Pen;
@@ -167,8 +168,8 @@ fn tell_end<W: Write>(
     state.handed(out, output)
 }
 
-// All of a call, with a row list and a buffer of its blocks' bytes. Gives the turn of the next call, or none where not all
-// text was written.
+// All of a call, with a row list and a buffer of its blocks' bytes. Gives the turn of the next call, where all text was
+// written.
 fn tell_exact<W: Write>(
     host: Sdmmc,
     words: &[u32],
@@ -178,23 +179,21 @@ fn tell_exact<W: Write>(
     rows: &mut [u64],
     out: &mut [u8],
     output: &mut Sink<W>,
-) -> Option<Turn>
+) -> io::Result<Turn>
     requires { 512 ≤ length out.old }
-    ensures next { IfSome result (λ t. (t.host ≡ (comes host (asking (rows_in rows.old) buffer.old words.now asked)).host) × (t.body_at ≡ min (asked.body_at + asked.body_len) (length words.now))) }
+    ensures next { IfOk result (λ t. (t.host ≡ (comes host (asking (rows_in rows.old) buffer.old words.now asked)).host) × (t.body_at ≡ min (asked.body_at + asked.body_len) (length words.now))) }
     ensures told { out.new ≡ call_out number host words.now asked buffer.old (rows_in rows.old) out.old }
 {
     let blank = Sheet {
         at: 0,
-        written: true,
+        written: Ok(()),
     };
     let begins = lines::tell_begins(blank, number, asked, out, output);
     let told = tell_events(host, words, asked, buffer, rows, begins, out, output);
     let called = told.called;
     let sheet = tell_end(told, number, asked.kind, out, output);
-    if !sheet.written {
-        return None;
-    }
-    Some(Turn {
+    sheet.written?;
+    Ok(Turn {
         host: called.host,
         body_at: trace::behind(words, asked.body_at, asked.body_len),
     })
@@ -210,9 +209,9 @@ fn tell_in<W: Write>(
     buffer: &mut [u8],
     out: &mut [u8],
     output: &mut Sink<W>,
-) -> Option<Turn>
+) -> io::Result<Turn>
     requires { (4096 ≤ length list.old) × (8192 ≤ length buffer.old) × (512 ≤ length out.old) }
-    ensures next { IfSome result (λ t. (t.host ≡ (comes turn.host (asking (rows_in (take (min room 4096) list.old)) (take (bytes_at words.now k turn.body_at) buffer.old) words.now (asked_at words.now k turn.body_at))).host) × (t.body_at ≡ place_after words.now k turn.body_at)) }
+    ensures next { IfOk result (λ t. (t.host ≡ (comes turn.host (asking (rows_in (take (min room 4096) list.old)) (take (bytes_at words.now k turn.body_at) buffer.old) words.now (asked_at words.now k turn.body_at))).host) × (t.body_at ≡ place_after words.now k turn.body_at)) }
     ensures told { out.new ≡ call_out (k + 1) turn.host words.now (asked_at words.now k turn.body_at) (take (bytes_at words.now k turn.body_at) buffer.old) (rows_in (take (min room 4096) list.old)) out.old }
 {
     let asked = layout::call_at(words, k as u32, turn.body_at);
@@ -238,9 +237,9 @@ fn tell_call<W: Write>(
     room: usize,
     out: &mut [u8],
     output: &mut Sink<W>,
-) -> Option<Turn>
+) -> io::Result<Turn>
     requires { 512 ≤ length out.old }
-    ensures next { IfSome result (λ t. (t.host ≡ (comes turn.host (call_at words.now k turn.body_at room)).host) × (t.body_at ≡ place_after words.now k turn.body_at)) }
+    ensures next { IfOk result (λ t. (t.host ≡ (comes turn.host (call_at words.now k turn.body_at room)).host) × (t.body_at ≡ place_after words.now k turn.body_at)) }
     ensures told { out.new ≡ call_out (k + 1) turn.host words.now (asked_at words.now k turn.body_at) (replicate (bytes_at words.now k turn.body_at) 0) (rows_in (replicate (min room 4096) 0)) out.old }
 {
     let mut list = [0u64; 4096];
@@ -248,7 +247,7 @@ fn tell_call<W: Write>(
     tell_in(turn, words, k, room, &mut list, &mut buffer, out, output)
 }
 
-// Takes a book's calls one after the other. Answers whether all was written; where it was not, no further call is taken.
+// Takes a book's calls one after the other. Where something could not be written, no further call is taken.
 fn tell_calls<W: Write>(
     start: Turn,
     words: &[u32],
@@ -256,18 +255,15 @@ fn tell_calls<W: Write>(
     room: usize,
     out: &mut [u8],
     output: &mut Sink<W>,
-) -> bool
+) -> io::Result<()>
     requires { 512 ≤ length out.old }
     ensures { Tellings words.now room (record { host = start.host; place = start.body_at; out = out.old }) calls result out.new }
 {
     let mut turn = start;
     for k in 0..calls {
-        match tell_call(turn, words, k, room, out, output) {
-            Some(next) => turn = next,
-            None => return false,
-        }
+        turn = tell_call(turn, words, k, room, out, output)?;
     }
-    true
+    Ok(())
 }
 
 // All of a book, in a buffer that has room for a line.
@@ -277,7 +273,7 @@ fn tell_all<W: Write>(
     words: &mut [u32],
     out: &mut [u8],
     output: &mut Sink<W>,
-) -> bool
+) -> io::Result<()>
     requires { 512 ≤ length out.old }
     ensures loaded { words.new ≡ inked 0 (words_of bytes.now) words.old }
     ensures told { Tellings (words_of bytes.now) room (start_of (opened_of bytes.now (length words.old)) (words_of bytes.now) out.old) (calls_of (opened_of bytes.now (length words.old)) (words_of bytes.now)) result out.new }
@@ -286,12 +282,10 @@ fn tell_all<W: Write>(
     let opening = trace::open(bytes, words, &mut pen);
     let head = Sheet {
         at: pen.at,
-        written: true,
+        written: Ok(()),
     };
     let sheet = head.handed(out, output);
-    if !sheet.written {
-        return false;
-    }
+    sheet.written?;
     let start = Turn {
         host: opening.host,
         body_at: opening.body_at,
@@ -301,20 +295,20 @@ fn tell_all<W: Write>(
 }
 
 // Tells a file's bytes as a book, with so many rows of room for each call, by way of a list for its words and a buffer for
-// the lines. Answers whether all of it was written: of a buffer with no room for a line, nothing.
+// the lines. In a buffer with no room for a line nothing is told.
 pub fn tell_book<W: Write>(
     bytes: &[u8],
     room: usize,
     words: &mut [u32],
     out: &mut [u8],
     output: &mut Sink<W>,
-) -> bool
+) -> io::Result<()>
     ensures loaded { 512 ≤ length out.old → words.new ≡ inked 0 (words_of bytes.now) words.old }
     ensures told { 512 ≤ length out.old → Tellings (words_of bytes.now) room (start_of (opened_of bytes.now (length words.old)) (words_of bytes.now) out.old) (calls_of (opened_of bytes.now (length words.old)) (words_of bytes.now)) result out.new }
-    ensures short { length out.old < 512 → (result ≡ false) × (words.new ≡ words.old) × (out.new ≡ out.old) }
+    ensures short { length out.old < 512 → IsErr result × (words.new ≡ words.old) × (out.new ≡ out.old) }
 {
     if out.len() < 512 {
-        return false;
+        return Err(io::Error::from(io::ErrorKind::InvalidInput));
     }
     tell_all(bytes, room, words, out, output)
 }

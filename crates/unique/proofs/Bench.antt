@@ -1,11 +1,10 @@
 -- A line for each public function of `bench`.
 use Prim.Native.Nat.{ℕ}
 use mathlib.Core.List.{List}
-use mathlib.Core.Path.{◌≡◌, ap, ◌∙◌}
+use mathlib.Core.Path.{◌≡◌}
 use lib.ListN.{length}
 use Rattle.host.specs.Calls.{no_host, made}
-use Rattle.book.specs.declared.layout.Opened.{Opened}
-use Rattle.book.specs.declared.layout.Opened.TheVariants as O
+use Rattle.std.specs.Prelude.{Option, Some, None}
 use Rattle.types.specs.Words.{words_of}
 use Rattle.book.specs.Layout.{count_of, contents_of, book_in}
 use Rattle.book.specs.Readers.{opened_of}
@@ -20,21 +19,20 @@ use Rattle.unique.specs.Unique.{Unique, UniqueIn}
 use Rattle.unique.proofs.Determined.{determined, part-determined}
 use Rattle.unique.proofs.Steps.{by-words}
 
--- what opening a file comes to, but for the place where the next text goes
-opening : Opened → List ℕ → ℕ → Opening
-opening (O.Words n) ws at = record {
+-- what opening a file comes to
+opening : Option ℕ → List ℕ → Opening
+opening (Some n) ws = record {
   host = (made (settings_of (book_in ws))).host;
   calls = calls_served (made (settings_of (book_in ws))).answer (count_of ws);
   words = length ws;
   body_at = contents_of ws;
-  at = at;
 }
-opening O.Bad ws at = record { host = no_host; calls = 0; words = 0; body_at = 0; at = at }
+opening None ws = record { host = no_host; calls = 0; words = 0; body_at = 0 }
 
-opens : (o : Opened) (ws : List ℕ) (r : Opening) → OpensAs o ws r → r ≡ opening o ws r.at
+opens : (o : Option ℕ) (ws : List ℕ) (r : Opening) → OpensAs o ws r → r ≡ opening o ws
 unfolding OpensAs opening
-opens (O.Words n) ws r e = λ i. record { host = e.host i; calls = e.calls i; words = e.words i; body_at = e.place i; at = r.at }
-opens O.Bad ws r e = λ i. record { host = e.host i; calls = e.calls i; words = e.words i; body_at = e.place i; at = r.at }
+opens (Some n) ws r e = λ i. record { host = e.host i; calls = e.calls i; words = e.words i; body_at = e.place i }
+opens None ws r e = λ i. record { host = e.host i; calls = e.calls i; words = e.words i; body_at = e.place i }
 
 print_print_book : Unique print.print_book.Kinds.ps print.print_book.Kinds.r print.print_book.Reads.Learnt
 print_print_book = determined _ λ _ _ _ p i. (p.laid i, p.placed i)
@@ -55,13 +53,11 @@ trace_served : Unique trace.served.Kinds.ps trace.served.Kinds.r trace.served.Re
 trace_served = determined _ λ _ _ _ p. p
 
 trace_trace_call : Unique trace.trace_call.Kinds.ps trace.trace_call.Kinds.r trace.trace_call.Reads.Learnt
-trace_trace_call = determined _ λ _ _ _ p i. (p.1.1.laid i, record { host = p.0 i; body_at = p.1.0 i; at = p.1.1.placed i })
+trace_trace_call = determined _ λ _ _ _ p i. (p.1.1 i, record { host = p.0 i; body_at = p.1.0 i })
 
 trace_open : Unique trace.«open».Kinds.ps trace.«open».Kinds.r trace.«open».Reads.Learnt
 trace_open = determined _ λ _ a x p i.
-    let o = opened_of a.0.now (length a.1.0.now) in
-    let ws = words_of a.0.now in
-    (p.0 i, (p.1.1.laid i, (opens o ws x.0 p.1.0 ∙ ap (opening o ws) p.1.1.placed) i))
+    (p.0 i, (p.1.1 i, opens (opened_of a.0.now (length a.1.0.now)) (words_of a.0.now) x.0 p.1.0 i))
 
 -- Exceptions: what they give is lent. What it holds is promised, and not where it lies.
 serve_data_of : UniqueIn serve.data_of.Kinds.ps serve.data_of.Kinds.r serve.data_of.Reads.Learnt (λ _ _ x. x.0.now)

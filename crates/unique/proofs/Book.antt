@@ -4,6 +4,9 @@ use Rattle.book.proofs.lines
 use Rattle.unique.specs.Unique.{Unique}
 use Rattle.unique.proofs.Determined.{determined}
 
+layout_kind_of : Unique layout.Kind.of.Kinds.ps layout.Kind.of.Kinds.r layout.Kind.of.Reads.Learnt
+layout_kind_of = determined _ λ _ _ _ p. p
+
 layout_load : Unique layout.load.Kinds.ps layout.load.Kinds.r layout.load.Reads.Learnt
 layout_load = determined _ λ _ _ _ p i. (p.laid i, p.placed i)
 
@@ -29,7 +32,7 @@ layout_open : Unique layout.«open».Kinds.ps layout.«open».Kinds.r layout.«o
 layout_open = determined _ λ _ _ _ p i. (p.1 i, p.0 i)
 
 lines_put_host : Unique lines.put_host.Kinds.ps lines.put_host.Kinds.r lines.put_host.Reads.Learnt
-lines_put_host = determined _ λ _ _ _ p i. (p.laid i, p.placed i)
+lines_put_host = determined _ λ _ _ _ p i. (p i, tt)
 
 lines_put_call : Unique lines.put_call.Kinds.ps lines.put_call.Kinds.r lines.put_call.Reads.Learnt
-lines_put_call = determined _ λ _ _ _ p i. (p.laid i, p.placed i)
+lines_put_call = determined _ λ _ _ _ p i. (p i, tt)

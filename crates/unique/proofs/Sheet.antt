@@ -1,5 +1,5 @@
 -- A line for the public function of `sheet` that writes nothing. Whether text could be written is in no contract, so of the
--- others the flag that tells it is open.
+-- others what tells it is open.
 use Rattle.sheet.proofs.sheet
 use Rattle.unique.specs.Unique.{Unique}
 use Rattle.unique.proofs.Determined.{determined}

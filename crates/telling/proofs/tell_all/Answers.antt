@@ -1,4 +1,5 @@
 use Rattle.std.proofs.Common.{rules}
+use Rattle.std.proofs.lemmas.Result.{err_from_is_err_and}
 use mathlib.Core.Path.{sym}
 use lib.Seq.{length-take-le}
 use Rattle.text.proofs.Ink.{stands-within}
@@ -14,12 +15,13 @@ handed-sheet-requires g c =
     let name = same_name _ _ c.open-opening.ensures.printed made.same in
     stands-within (made_over _ made.stands made.held c.open-opening.ensures.printed (search rules))
 
-pub returns-then-not-sheet : goal.returns-then-not-sheet
-returns-then-not-sheet g c = let opened = c.open-opening in
+pub returns-in_err-sheet-clause-told : goal.returns-in_err-sheet-clause-told
+returns-in_err-sheet-clause-told g c = let opened = c.open-opening in
     let said = opened.ensures in
     let made = c.new-pen.ensures in
     let name = same_name _ _ said.printed made.same in
-    record { loaded = said.laid; told = not-begun _ _ _ opened.result _ _ _ said.opened (made_over _ made.stands made.held said.printed (search rules)) }
+    let p = err_from_is_err_and c.from_residual.result c.from_residual.ensures.1 in
+    rw p.1 (not-begun _ _ _ opened.result _ _ _ said.opened (made_over _ made.stands made.held said.printed (search rules)) _)
 
 pub slice_bounds-tell_calls-end : goal.slice_bounds-tell_calls-end
 slice_bounds-tell_calls-end g c = let opened = c.open-opening in

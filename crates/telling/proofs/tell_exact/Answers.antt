@@ -12,8 +12,8 @@ tell_events-told-requires g c = still-fits c.tell_begins-begins.ensures (search 
 pub tell_end-sheet-requires : goal.tell_end-sheet-requires
 tell_end-sheet-requires g c = c.tell_events-told.ensures.fits
 
-pub returns-then-not-sheet-clause-told : goal.returns-then-not-sheet-clause-told
-returns-then-not-sheet-clause-told g c = let a = c.args in
+pub returns-in_err-sheet-clause-told : goal.returns-in_err-sheet-clause-told
+returns-in_err-sheet-clause-told g c = let a = c.args in
     let said = c.tell_events-told.ensures in
     call-out a.number a.host a.words.now a.asked a.buffer.now (rows_in a.rows.now) c.tell_begins-begins.ensures said.answered said.told c.tell_end-sheet.ensures
 
