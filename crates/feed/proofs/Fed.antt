@@ -1,5 +1,6 @@
 -- A call that is fed from a script, on its way: what it comes to from there on is what it comes to from its start. Every turn is
 -- one fewer of those that it takes, so that feeding ends.
+use Rattle.std.specs.Prelude.{Some, None}
 use Prim.Native.Nat.{ℕ, suc, ◌+◌, ◌<◌, ◌≤◌}
 use mathlib.Core.Path.{◌≡◌, refl, ap, sym, ◌∙◌}
 use mathlib.Core.Bool.{Bool, true, false, cond, not}
@@ -25,7 +26,6 @@ use Rattle.step.proofs.Words.{is-handed}
 use Rattle.stepping.specs.Closing.{Closing}
 use Rattle.underway.specs.declared.call.Call.{Call}
 use Rattle.underway.specs.declared.call.Closed.{Closed}
-use Rattle.underway.specs.declared.call.Outcome.TheVariants as O
 use Rattle.underway.specs.Under.{Under, under, answered, unanswered, written, closed_of}
 use Rattle.feed.specs.Runs.{run_next, came_by, came_of, no_closing, lies_at, place_run, place_next, next_span}
 use Rattle.feed.specs.Turns.{Way, starts, lent, way_of, Turned, turned, turn_by, turn_of, fed_from, place_from, taken_at, handed_at, turned_of, goes_on, called_with, called_at}
@@ -51,11 +51,11 @@ module _ (w : Way) (c : Closed) (is : c ≡ closed_of w.call) where
   all : called_with w c.host c.outcome ≡ called_at w
   all = ap (λ (x : Closed). called_with w x.host x.outcome) is
 
-  pub over-called : (answer : Answer) → c.outcome ≡ O.Over answer → record { answer = answer; words = w.used; rows = w.rows; host = c.host } ≡ called_at w
+  pub over-called : (answer : Answer) → c.outcome ≡ Some answer → record { answer = answer; words = w.used; rows = w.rows; host = c.host } ≡ called_at w
   unfolding called_with
   over-called answer e = rw e at all
 
-  pub full-called : c.outcome ≡ O.Not → record { answer = Answered.TraceFull; words = w.used; rows = w.rows; host = w.call.before } ≡ called_at w
+  pub full-called : c.outcome ≡ None → record { answer = Answered.TraceFull; words = w.used; rows = w.rows; host = w.call.before } ≡ called_at w
   unfolding called_with
   full-called e = rw e at all
 

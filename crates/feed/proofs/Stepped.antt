@@ -1,5 +1,6 @@
 -- A call taken one answer at a time from a script comes to what the call on that script does, whoever takes it; the data words
 -- handed out, each at its place, are those of an accepted read.
+use Rattle.std.specs.Prelude.{Some, None}
 use Prim.Native.Nat.{ℕ, zero, suc, ◌+◌, ◌*◌, ◌/◌, ◌<◌, ◌≤◌}
 use mathlib.Core.Path.{◌≡◌, refl, ap, sym, ◌∙◌}
 use mathlib.Core.List.{List, [], ◌∷◌}
@@ -34,8 +35,6 @@ use Rattle.stepping.specs.declared.call.At.TheVariants as A
 use Rattle.stepping.specs.declared.call.End.TheVariants as Z
 use Rattle.underway.specs.declared.call.Call.{Call}
 use Rattle.underway.specs.declared.call.Closed.{Closed}
-use Rattle.underway.specs.declared.call.Outcome.TheVariants as O
-use Rattle.underway.specs.declared.ends.Ends.TheVariants as Ends
 use Rattle.underway.specs.Under.{Under, under, ends_at, closed_of}
 use Rattle.underway.proofs.Ending.{closed-under}
 use Rattle.feed.specs.Runs.{run_next, came_by, came_of, no_closing, next_span}
@@ -90,7 +89,7 @@ module _ (s : List ℕ) where
     abbrev Comes : Called → Next Closing → Type 0
     Comes r x = (r ≡ called_of (comes_to (at x) u n l)) × (l ≡ (comes_to (at x) u n l).list)
 
-    closed-comes : (x : Next Closing) (answer : Answer) → (closed_of (at x)).outcome ≡ O.Over answer
+    closed-comes : (x : Next Closing) (answer : Answer) → (closed_of (at x)).outcome ≡ Some answer
         → Comes (record { answer = answer; words = u; rows = n; host = (closed_of (at x)).host }) x
     unfolding run_next closed_of came_by
     closed-comes (asks h r k z) answer e = (cc, cc)
@@ -223,12 +222,12 @@ module _ (m : Call) (g : Lent) where
   by-asked (Q.Sends a n) = λ many. absurd (omega arith)
 
   -- a call keeps sixteen words at most: more are those that were handed out
-  over-handed : (closed_of (under g m)).outcome ≡ O.Over Answered.Accepted → Handing (taken_in (under g m).ahead)
+  over-handed : (closed_of (under g m)).outcome ≡ Some Answered.Accepted → Handing (taken_in (under g m).ahead)
   unfolding ends_at at_plan end_plan phase_of phase_by next accepting finding keeping dropping taken_in
   over-handed ok = by m.at refl
     where
-      waiting : ends_at m.at ≡ Ends.Not → ⊥
-      waiting e = let over : O.Not ≡ O.Over Answered.Accepted = ap (λ (c : Closed). c.outcome) (closed-under m g e) ∙ ok in let z : ◌≡◌ {A = ℕ} 0 1 = cc in omega arith
+      waiting : ends_at m.at ≡ None → ⊥
+      waiting e = let over : None ≡ Some Answered.Accepted = ap (λ (c : Closed). c.outcome) (closed-under m g e) ∙ ok in let z : ◌≡◌ {A = ℕ} 0 1 = cc in omega arith
 
       by : (p : At) → m.at ≡ p → Handing (taken_in (next (at_plan m.job m.known m.held g p) m.line))
       by (A.Command s c) e = absurd (waiting (rw e))
@@ -243,7 +242,7 @@ module _ (m : Call) (g : Lent) where
 
 module _ (s : List ℕ) where
   taken-closed : (host : Sdmmc) (u n : ℕ) (l : List Row) (x : Next Closing) (answer : Answer)
-      → (closed_of (record { before = host; ahead = x })).outcome ≡ O.Over answer → (comes_to s (record { before = host; ahead = x }) u n l).taken ≡ taken_in x
+      → (closed_of (record { before = host; ahead = x })).outcome ≡ Some answer → (comes_to s (record { before = host; ahead = x }) u n l).taken ≡ taken_in x
   unfolding closed_of run_next came_by taken_in
   taken-closed host u n l (asks h r k z) answer e = cc
   taken-closed host u n l (tells h r p) answer e = cc
@@ -253,7 +252,7 @@ module _ (s : List ℕ) where
 
   left-handed : {x : Midway} {r : Called} → Left s x r → r.answer ≡ Answered.Accepted → Handing x.call x.out (comes_from s x).taken
   left-handed (closed {m = m} {g = g} {u = u} {n = n} {l = l} answer e) ok =
-      rw (taken-closed (under g m).before u n l (under g m).ahead answer e) (over-handed m g (e ∙ ap O.Over ok))
+      rw (taken-closed (under g m).before u n l (under g m).ahead answer e) (over-handed m g (e ∙ ap Some ok))
   left-handed (full r e dry) ok = absurd (other-answer 2 refl refl ok)
 
 module _ {host : Sdmmc} {index bytes : ℕ} {s : List ℕ} {l : List Row} {r : Called} {last : Midway} (x : Stepped host (S.read index bytes s l) r last) where

@@ -1,7 +1,7 @@
 -- A call taken one answer at a time from a script, by anybody: each turn is what the contracts of `wants`, `fed`, `missed` and
 -- `went` say of it, and it is left where it is over or where the list is full. Asking at the script's end, it is told so. Where a call
 -- wants word k of what it sends, its row has that word of `sent` (`filled_in`).
-use Rattle.std.specs.Prelude.{ℕ, ◌+◌, ◌<◌, ◌≤◌, ◌≡◌, List, [], ◌∷◌, length, get_or, set}
+use Rattle.std.specs.Prelude.{ℕ, ◌+◌, ◌<◌, ◌≤◌, ◌≡◌, List, [], ◌∷◌, length, get_or, set, Some}
 use Rattle.types.specs.declared.error.Answer.{Answer}
 use Rattle.types.specs.declared.error.Answer.TheVariants as Answered
 use Rattle.types.specs.Words.{words_of}
@@ -16,7 +16,6 @@ use Rattle.step.specs.declared.wants.Wants.TheVariants as W
 use Rattle.step.specs.Next.{next, want_of, Lent, Handed}
 use Rattle.stepping.specs.Closing.{Closing}
 use Rattle.underway.specs.declared.call.Call.{Call}
-use Rattle.underway.specs.declared.call.Outcome.TheVariants as O
 use Rattle.underway.specs.Under.{under, answered, unanswered, written, closed_of}
 use Rattle.underway.specs.Whole.{init_call, blocks_call, status_call}
 
@@ -52,7 +51,7 @@ module _ (s : List ℕ) where
 
   -- what it has come to there
   pub data Left : Midway → Called → Type 0 where
-    closed : {m : Call} {g : Lent} {u n : ℕ} {l : List Row} (answer : Answer) → (closed_of (under g m)).outcome ≡ O.Over answer
+    closed : {m : Call} {g : Lent} {u n : ℕ} {l : List Row} (answer : Answer) → (closed_of (under g m)).outcome ≡ Some answer
         → Left (midway m g u n l) (record { answer = answer; words = u; rows = n; host = (closed_of (under g m)).host })
     full : {m : Call} {g : Lent} {u n : ℕ} {l : List Row} (r : Row) → W.Write r ≡ want_of (under g m).ahead → length l ≤ n
         → Left (midway m g u n l) (record { answer = Answered.TraceFull; words = u; rows = n; host = (under g m).before })

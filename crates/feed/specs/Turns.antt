@@ -1,6 +1,6 @@
 -- A call that is fed from a script, told by what is ahead of it; and one turn of it, which says everything: what came about, how
 -- the call goes on, and the list.
-use Rattle.std.specs.Prelude.{ℕ, ◌+◌, Bool, true, false, cond, List, ltb, length, get_or, set}
+use Rattle.std.specs.Prelude.{ℕ, ◌+◌, Bool, true, false, cond, List, ltb, length, get_or, set, Option, Some, None}
 use Rattle.types.specs.declared.error.Answer.TheVariants as Answered
 use Rattle.tape.specs.declared.rows.Row.{Row}
 use Rattle.host.specs.declared.host.Called.{Called}
@@ -9,14 +9,13 @@ use Rattle.host.specs.Calls.{Came}
 use Rattle.step.specs.declared.wants.Wants.{Wants}
 use Rattle.step.specs.declared.wants.Wants.TheVariants as W
 use Rattle.step.specs.Next.{want_of, Lent, handed_to}
-use Rattle.underway.specs.declared.call.Outcome.{Outcome}
-use Rattle.underway.specs.declared.call.Outcome.TheVariants as O
 use Rattle.underway.specs.Under.{Under, under, answered, unanswered, written, closed_of}
 use Rattle.feed.specs.Runs.{run_next, came_of, no_closing, lies_at, place_next}
 use Rattle.feed.specs.declared.turn.Event.{Event}
 use Rattle.feed.specs.declared.turn.Event.TheVariants as E
 use Rattle.feed.specs.declared.turn.Feeding.{Feeding}
 use Rattle.feed.specs.declared.turn.Turn.{Turn}
+use Rattle.types.specs.declared.error.Answer.{Answer}
 
 -- the words taken and the rows written so far, and where the data words lie
 pub record Way : Type 0 where
@@ -94,9 +93,9 @@ goes_on (E.Full r) = false
 goes_on E.Over = false
 
 -- what a call has come to where none follows: it is over, or its row found no room, and the host is as before
-unfoldable pub called_with : Way → Sdmmc → Outcome → Called
-called_with w host (O.Over answer) = record { answer = answer; words = w.used; rows = w.rows; host = host }
-called_with w host O.Not = record { answer = Answered.TraceFull; words = w.used; rows = w.rows; host = w.call.before }
+unfoldable pub called_with : Way → Sdmmc → Option Answer → Called
+called_with w host (Some answer) = record { answer = answer; words = w.used; rows = w.rows; host = host }
+called_with w host None = record { answer = Answered.TraceFull; words = w.used; rows = w.rows; host = w.call.before }
 
 abbrev pub called_at : Way → Called
 called_at w = called_with w (closed_of w.call).host (closed_of w.call).outcome

@@ -14,7 +14,7 @@ use tape::rows::Row;
 use tape::script::Reading;
 use types::error::Answer;
 use types::words;
-use underway::call::{Call, Outcome};
+use underway::call::Call;
 
 // A call that is fed: the words taken and the rows written so far, and where in the script the first data word of its last
 // transfer lay.
@@ -186,13 +186,13 @@ impl Feeding {
         let outcome = closed.outcome;
         let host = closed.host;
         match outcome {
-            Outcome::Over(answer) => Called {
+            Some(answer) => Called {
                 answer: answer,
                 words: self.used,
                 rows: self.rows,
                 host: host,
             },
-            Outcome::Not => Called {
+            None => Called {
                 answer: Answer::TraceFull,
                 words: self.used,
                 rows: self.rows,

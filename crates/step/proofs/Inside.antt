@@ -9,8 +9,9 @@ use Rattle.step.specs.Next.{Next, asks, tells, over, refused, next, heard, told,
 use Rattle.step.specs.Context.{Context, plug, plug_next, next_plug, wants_plug, heard_plug, missed_plug, told_plug, line_plug}
 use Rattle.step.specs.Command.{command_plan, command_next}
 use Rattle.step.specs.declared.command.Command.{Command}
-use Rattle.step.specs.declared.command.CommandStep.{CommandStep}
+use Rattle.step.specs.declared.why.Step.{Step}
 use Rattle.step.proofs.Parts as parts
+use Rattle.step.specs.declared.command.Words.{Words}
 
 -- two plans with the same ahead of them have the same ahead of them in a context
 pub same-plug : {B A : Type 0} (k : Context B A) (p q : Plan A) (h : Line) → next p h ≡ next q h → next (plug k p) h ≡ next (plug k q) h
@@ -50,7 +51,7 @@ command-gated : (c : Command) (h : Line) → (line_after (next (command_plan c) 
 command-gated c h = parts.part-gated c.limit c.index c.argument c.response c.gate h c.part
 
 -- a command in its context, after its row
-pub command-goes : {B : Type 0} (k : Context B (List ℕ)) (c : Command) (s : CommandStep) (h : Line)
+pub command-goes : {B : Type 0} (k : Context B (List ℕ)) (c : Command) (s : Step Command Words) (h : Line)
     → command_next s (line_after (next (command_plan c) h)) ≡ told (next (command_plan c) h)
     → plug_next k (command_next s (line_after (next (plug k (command_plan c)) h))) ≡ told (next (plug k (command_plan c)) h)
 command-goes k c s h e =

@@ -1,4 +1,5 @@
 -- How a command goes on from each of its parts.
+use Rattle.std.specs.Prelude.{Result, Ok, Err}
 use Prim.Native.Nat.{ℕ, suc, ◌-◌, ◌%◌}
 use mathlib.Core.Path.{◌≡◌, refl, ap, sym, ◌∙◌}
 use mathlib.Core.Bool.{Bool, true, false}
@@ -16,8 +17,6 @@ use Rattle.bus.specs.Command.{form_of, wait_completion, poll_completion, respons
 use Rattle.step.specs.Next.{Next, next, heard, told, missed, want_of, line_after, waits}
 use Rattle.step.specs.Context.{plug, heard_read, missed_read, missed_write, wants_read, waits_read, waits_write, told_read, line_read, heard_write, told_write, line_write}
 use Rattle.step.specs.Command.{end_next, shut, within, polling, polled_at, tells_plan, asks_plan, part_plan, begun_plan, reading_of}
-use Rattle.step.specs.declared.command.Ended.{Ended}
-use Rattle.step.specs.declared.command.Ended.TheVariants.{Well, Badly}
 use Rattle.step.specs.declared.command.Part.{Part}
 use Rattle.step.specs.declared.command.Part.TheVariants as P
 use Rattle.step.specs.declared.command.Asks.{Asks}
@@ -27,16 +26,18 @@ use Rattle.step.specs.declared.command.Tells.TheVariants as T
 use Rattle.tape.specs.Run.{noted}
 use Rattle.step.specs.declared.wants.Wants.TheVariants as W
 use Rattle.types.specs.declared.error.Error.TheVariants as E
+use Rattle.step.specs.declared.why.Why.{Why}
+use Rattle.step.specs.declared.command.Words.{Words}
 
 -- a number that is not 0 is one more than one less
 pub one_less : (n : ℕ) → (n ≡ 0 → ⊥) → suc (n - 1) ≡ n
 one_less n more = omega arith
 
 -- behind its gate, a command's end is the row that closes it, and the end
-pub closing : (x : Ended) (h : Line) → next (set_clken false then λ _. end_next x) h ≡ next (plug (shut true) (end_next x)) h
+pub closing : (x : Result Words Why) (h : Line) → next (set_clken false then λ _. end_next x) h ≡ next (plug (shut true) (end_next x)) h
 unfolding plug shut end_next handle
-closing (Well w) h = refl
-closing (Badly e) h = refl
+closing (Ok w) h = refl
+closing (Err e) h = refl
 
 module _ (limit index argument : ℕ) (response : Response) (gate : Bool) (h : Line) where
   abbrev asking : Asks → Next (List ℕ)
@@ -105,7 +106,7 @@ module _ (limit index argument : ℕ) (response : Response) (gate : Bool) (h : L
   unfolding tells_plan complete polling row handle plug
   order_goes = rw (line_write (shut gate) h _ _) (sym (told_write (shut gate) h _ _))
 
-  pub closed : (x : Ended) → next (end_next x) (line_after (telling (T.Close x) h)) ≡ told (telling (T.Close x) h)
+  pub closed : (x : Result Words Why) → next (end_next x) (line_after (telling (T.Close x) h)) ≡ told (telling (T.Close x) h)
   unfolding tells_plan set_clken row handle next line_after told
   closed x = refl
 

@@ -1,5 +1,5 @@
 -- How a data phase goes on from each of its places.
-use Rattle.std.specs.Prelude.{Ok, Err}
+use Rattle.std.specs.Prelude.{Ok, Err, Some, None}
 use Prim.Native.Nat.{ℕ, suc, ◌+◌, ◌-◌, ◌%◌, ◌^◌, ◌<◌, ◌≤◌}
 use mathlib.Core.Path.{◌≡◌, refl, ap, sym, ◌∙◌}
 use mathlib.Core.Bool.{Bool, true, false, not, ◌||◌}
@@ -34,21 +34,15 @@ use Rattle.step.specs.Ready.{limit_at, ready_plan, ready_next}
 use Rattle.step.specs.Transfer.{transfer_of, sends_of, buffer_of, top_of, place_of, after_of, given_of, all_of, reading_at, phase_plan, received, started, armed, ordered, start_site, ending, stopping, unclocked, stop_site, closing, refusal, idling, sending, polling, taking, reads_plan, stopped, writes_plan, row_at, told_plan, data_plan}
 use Rattle.step.specs.declared.arm.Arm.{Arm}
 use Rattle.step.specs.declared.arm.Arm.TheVariants as Ar
-use Rattle.step.specs.declared.arm.ArmStep.TheVariants as ArS
 use Rattle.step.specs.declared.arm.Stop.{Stop}
 use Rattle.step.specs.declared.arm.Stop.TheVariants as St
-use Rattle.step.specs.declared.arm.StopStep.TheVariants as StS
 use Rattle.step.specs.declared.reset.Reset.{Reset}
 use Rattle.step.specs.declared.reset.Reset.TheVariants as Re
-use Rattle.step.specs.declared.reset.ResetStep.TheVariants as ReS
-use Rattle.step.specs.declared.command.Begun.TheVariants as B
 use Rattle.step.specs.declared.command.Command.{Command}
-use Rattle.step.specs.declared.command.CommandStep.TheVariants as C
-use Rattle.step.specs.declared.command.Ended.TheVariants as X
+use Rattle.step.specs.declared.why.Step.TheVariants as Sp
 use Rattle.step.specs.declared.command.Words.{Words}
 use Rattle.step.specs.declared.ready.Bus.{Bus}
 use Rattle.step.specs.declared.ready.Ready.{Ready}
-use Rattle.step.specs.declared.ready.ReadyStep.TheVariants as RS
 use Rattle.step.specs.declared.phase.Phase.{Phase}
 use Rattle.step.specs.declared.phase.Phase.TheVariants as P
 use Rattle.step.specs.declared.transfer.Reads.{Reads}
@@ -134,29 +128,29 @@ module _ (bus : Bus) (phase : Phase) (h : Line) where
   polls_go ws n = refl
 
   -- the data command
-  pub starts-on : (ws : Lent) (c : Command) → begun_next (B.On c) h ≡ next (begun_plan (limit_at bus) (transfer_of phase).index (transfer_of phase).argument R1 false) h
+  pub starts-on : (ws : Lent) (c : Command) → begun_next (Some c) h ≡ next (begun_plan (limit_at bus) (transfer_of phase).index (transfer_of phase).argument R1 false) h
       → next (data_plan bus phase ws (D.Start c)) h ≡ next (told_plan bus phase ws W.Open) h
   unfolding data_plan told_plan begun_next
   starts-on ws c e =
       same-plug (start_site bus phase ws) _ _ h
       (e ∙ ap (λ (p : Plan (List ℕ)). next p h) (parts.begins-inner (limit_at bus) (transfer_of phase).index (transfer_of phase).argument R1))
 
-  pub starts-failed : (ws : Lent) → begun_next B.Spent h ≡ next (begun_plan (limit_at bus) (transfer_of phase).index (transfer_of phase).argument R1 false) h
+  pub starts-failed : (ws : Lent) → begun_next None h ≡ next (begun_plan (limit_at bus) (transfer_of phase).index (transfer_of phase).argument R1 false) h
       → next (refusal bus phase (Y.Failed E.SoftwareTimeout)) h ≡ next (told_plan bus phase ws W.Open) h
   unfolding refusal told_plan begun_next start_site handle plug
   starts-failed ws e =
       same-plug (start_site bus phase ws) (fail E.SoftwareTimeout) _ h
       (e ∙ ap (λ (p : Plan (List ℕ)). next p h) (parts.begins-inner (limit_at bus) (transfer_of phase).index (transfer_of phase).argument R1))
 
-  pub starting_on : (ws : Lent) (c : Command) → next (data_plan bus phase ws (D.Start c)) h ≡ plug_next (start_site bus phase ws) (command_next (C.On c) h)
+  pub starting_on : (ws : Lent) (c : Command) → next (data_plan bus phase ws (D.Start c)) h ≡ plug_next (start_site bus phase ws) (command_next (Sp.On c) h)
   unfolding data_plan command_next
   starting_on ws c = next_plug (start_site bus phase ws) (command_plan c) h
 
-  pub starting_well : (ws : Lent) (w : Words) → next (plug (ordered bus phase ws) (give tt)) h ≡ plug_next (start_site bus phase ws) (command_next (C.Over (X.Well w)) h)
+  pub starting_well : (ws : Lent) (w : Words) → next (plug (ordered bus phase ws) (give tt)) h ≡ plug_next (start_site bus phase ws) (command_next (Sp.Over (Ok w)) h)
   unfolding start_site command_next end_next plug_next handle plug next
   starting_well ws w = refl
 
-  pub starting_badly : (ws : Lent) (e : Why) → next (refusal bus phase e) h ≡ plug_next (start_site bus phase ws) (command_next (C.Over (X.Badly e)) h)
+  pub starting_badly : (ws : Lent) (e : Why) → next (refusal bus phase e) h ≡ plug_next (start_site bus phase ws) (command_next (Sp.Over (Err e)) h)
   unfolding refusal start_site command_next end_next plug_next handle plug next
   starting_badly ws e = refl
 
@@ -208,15 +202,15 @@ module _ (bus : Bus) (phase : Phase) (h : Line) where
     sends-done last = let none : after_of phase m ≡ 0 = omega arith in rw none (polls_begin ws)
 
   -- the closing ready wait
-  pub waiting-on : (ws : Lent) (r : Ready) → next (data_plan bus phase ws (D.Ready r)) h ≡ plug_next (ending bus phase ws) (ready_next bus (RS.On r) h)
+  pub waiting-on : (ws : Lent) (r : Ready) → next (data_plan bus phase ws (D.Ready r)) h ≡ plug_next (ending bus phase ws) (ready_next bus (Sp.On r) h)
   unfolding data_plan ready_next
   waiting-on ws r = next_plug (ending bus phase ws) (ready_plan bus r) h
 
-  pub waiting-done : (ws : Lent) → over h (all_of phase ws) ≡ plug_next (ending bus phase ws) (ready_next bus RS.Done h)
+  pub waiting-done : (ws : Lent) → over h (all_of phase ws) ≡ plug_next (ending bus phase ws) (ready_next bus (Sp.Over (Ok tt)) h)
   unfolding ready_next ending plug_next handle plug next
   waiting-done ws = refl
 
-  pub waiting-failed : (ws : Lent) (e : Why) → next (refusal bus phase e) h ≡ plug_next (ending bus phase ws) (ready_next bus (RS.Failed e) h)
+  pub waiting-failed : (ws : Lent) (e : Why) → next (refusal bus phase e) h ≡ plug_next (ending bus phase ws) (ready_next bus (Sp.Over (Err e)) h)
   unfolding ready_next refusal ending plug_next handle plug
   waiting-failed ws e = refl
 
@@ -224,15 +218,15 @@ module _ (bus : Bus) (phase : Phase) (h : Line) where
   abbrev ready : Plan Nothing
   ready = wait_ready bus.source.0 bus.config bus.rca
 
-  pub stopping-on : (ws : Lent) (c : Command) → next (data_plan bus phase ws (D.Stop c)) h ≡ plug_next (stop_site bus phase ws) (command_next (C.On c) h)
+  pub stopping-on : (ws : Lent) (c : Command) → next (data_plan bus phase ws (D.Stop c)) h ≡ plug_next (stop_site bus phase ws) (command_next (Sp.On c) h)
   unfolding data_plan command_next
   stopping-on ws c = next_plug (stop_site bus phase ws) (command_plan c) h
 
-  pub stopping_well : (ws : Lent) (w : Words) → plug_next (ending bus phase ws) (next ready h) ≡ plug_next (stop_site bus phase ws) (command_next (C.Over (X.Well w)) h)
+  pub stopping_well : (ws : Lent) (w : Words) → plug_next (ending bus phase ws) (next ready h) ≡ plug_next (stop_site bus phase ws) (command_next (Sp.Over (Ok w)) h)
   unfolding stop_site command_next end_next plug_next handle plug next
   stopping_well ws w = sym (next_plug (ending bus phase ws) ready h)
 
-  pub stopping_badly : (ws : Lent) (e : Why) → next (refusal bus phase e) h ≡ plug_next (stop_site bus phase ws) (command_next (C.Over (X.Badly e)) h)
+  pub stopping_badly : (ws : Lent) (e : Why) → next (refusal bus phase e) h ≡ plug_next (stop_site bus phase ws) (command_next (Sp.Over (Err e)) h)
   unfolding refusal stop_site ending command_next end_next plug_next handle plug next
   stopping_badly ws e = refl
 
@@ -247,12 +241,12 @@ module _ (bus : Bus) (phase : Phase) (h : Line) where
     unfolding unclocked stop_site stop_transmission handle plug
     stops e = same-plug (stop_site bus phase ws) _ _ h (parts.begins (limit_at bus) 12 0 R1 gated h (sym gate)) ∙ rw e
 
-    pub stops-on : (c : Command) → of_many (transfer_of phase).index ≡ true → begun_next (B.On c) h ≡ next (begun_plan (limit_at bus) 12 0 R1 gated) h
+    pub stops-on : (c : Command) → of_many (transfer_of phase).index ≡ true → begun_next (Some c) h ≡ next (begun_plan (limit_at bus) 12 0 R1 gated) h
         → next (data_plan bus phase ws (D.Stop c)) h ≡ next (plug (unclocked bus phase ws) (give tt)) h
     unfolding data_plan begun_next
     stops-on c e b = same-plug (stop_site bus phase ws) _ _ h b ∙ stops e
 
-    pub stops-failed : of_many (transfer_of phase).index ≡ true → begun_next B.Spent h ≡ next (begun_plan (limit_at bus) 12 0 R1 gated) h
+    pub stops-failed : of_many (transfer_of phase).index ≡ true → begun_next None h ≡ next (begun_plan (limit_at bus) 12 0 R1 gated) h
         → next (refusal bus phase (Y.Failed E.SoftwareTimeout)) h ≡ next (plug (unclocked bus phase ws) (give tt)) h
     unfolding begun_next refusal stop_site ending handle plug
     stops-failed e b = same-plug (stop_site bus phase ws) (fail E.SoftwareTimeout) _ h b ∙ stops e
@@ -267,29 +261,29 @@ module _ (bus : Bus) (phase : Phase) (h : Line) where
 
   -- after a row
   module _ (ws : Lent) where
-    pub reset-on : (r r' : Reset) (e : Why) → step_left (ReS.At r') ≡ rest_left r → telling ws (W.Reset r' e) ≡ next (told_plan bus phase ws (W.Reset r e)) h
+    pub reset-on : (r r' : Reset) (e : Why) → step_left (Some r') ≡ rest_left r → telling ws (W.Reset r' e) ≡ next (told_plan bus phase ws (W.Reset r e)) h
     unfolding writes_plan told_plan step_left
     reset-on r r' e p = ap (λ (rs : List Row). next (plug (closing bus phase e) (rows_from rs)) h) p
 
-    pub reset-done : (r : Reset) (e : Why) → step_left ReS.Done ≡ rest_left r → refused h (cause_of e) ≡ next (told_plan bus phase ws (W.Reset r e)) h
+    pub reset-done : (r : Reset) (e : Why) → step_left None ≡ rest_left r → refused h (cause_of e) ≡ next (told_plan bus phase ws (W.Reset r e)) h
     unfolding told_plan step_left plug handle rows_from next
     reset-done r e p = ap (λ (rs : List Row). next (plug (closing bus phase e) (rows_from rs)) h) p
 
-    pub arm-on : (r r' : Arm) → arm_next timeout (transfer_of phase) (ArS.At r') ≡ arm_rest timeout (transfer_of phase) r
+    pub arm-on : (r r' : Arm) → arm_next timeout (transfer_of phase) (Some r') ≡ arm_rest timeout (transfer_of phase) r
         → telling ws (W.Arm r') ≡ next (told_plan bus phase ws (W.Arm r)) h
     unfolding writes_plan told_plan arm_next
     arm-on r r' p = ap (λ (rs : List Row). next (plug (armed bus phase ws) (rows_from rs)) h) p
 
-    pub arm_done : (r : Arm) → arm_next timeout (transfer_of phase) ArS.Done ≡ arm_rest timeout (transfer_of phase) r
+    pub arm_done : (r : Arm) → arm_next timeout (transfer_of phase) None ≡ arm_rest timeout (transfer_of phase) r
         → next (plug (armed bus phase ws) (give tt)) h ≡ next (told_plan bus phase ws (W.Arm r)) h
     unfolding told_plan arm_next rows_from
     arm_done r p = ap (λ (rs : List Row). next (plug (armed bus phase ws) (rows_from rs)) h) p
 
-    pub stop_on : (r r' : Stop) → stop_next (StS.At r') ≡ stop_rest r → telling ws (W.Stop r') ≡ next (told_plan bus phase ws (W.Stop r)) h
+    pub stop_on : (r r' : Stop) → stop_next (Some r') ≡ stop_rest r → telling ws (W.Stop r') ≡ next (told_plan bus phase ws (W.Stop r)) h
     unfolding writes_plan told_plan stop_next
     stop_on r r' p = ap (λ (rs : List Row). next (plug (stopping bus phase ws) (rows_from rs)) h) p
 
-    pub stop_done : (r : Stop) → stop_next StS.Done ≡ stop_rest r → next (stopped bus phase ws) h ≡ next (told_plan bus phase ws (W.Stop r)) h
+    pub stop_done : (r : Stop) → stop_next None ≡ stop_rest r → next (stopped bus phase ws) h ≡ next (told_plan bus phase ws (W.Stop r)) h
     unfolding stopped told_plan stop_next
     stop_done r p = ap (λ (rs : List Row). next (plug (stopping bus phase ws) (rows_from rs)) h) p
 

@@ -1,4 +1,5 @@
 -- How a ready wait goes on from each of its places.
+use Rattle.std.specs.Prelude.{Some, None, Ok, Err}
 use Prim.Native.Nat.{ℕ, suc, ◌*◌, ◌^◌}
 use mathlib.Core.Path.{◌≡◌, refl, ap, sym, ◌∙◌}
 use mathlib.Core.Bool.{Bool, true, false, cond}
@@ -18,15 +19,13 @@ use Rattle.step.specs.Command.{command_plan, command_next, end_next, list_of, be
 use Rattle.step.specs.Why.{cause_of}
 use Rattle.step.specs.declared.why.Why.{Why}
 use Rattle.step.specs.Ready.{limit_at, attempts, tried, asked, ready_plan, ready_next}
-use Rattle.step.specs.declared.command.Begun.TheVariants as B
 use Rattle.step.specs.declared.command.Command.{Command}
-use Rattle.step.specs.declared.command.CommandStep.TheVariants as C
-use Rattle.step.specs.declared.command.Ended.TheVariants as X
+use Rattle.step.specs.declared.why.Step.TheVariants as St
 use Rattle.step.specs.declared.command.Words.{Words}
 use Rattle.step.specs.declared.ready.Bus.{Bus}
 use Rattle.step.specs.declared.ready.Ready.{Ready}
 use Rattle.step.specs.declared.ready.Ready.TheVariants as R
-use Rattle.step.specs.declared.ready.ReadyStep.{ReadyStep}
+use Rattle.step.specs.declared.why.Step.{Step}
 use Rattle.step.specs.declared.wants.Wants.TheVariants as W
 use Rattle.step.proofs.Inside.{same-plug, command-waits, inside-waits, inside-line, inside-told}
 use Rattle.step.proofs.Parts as parts
@@ -41,12 +40,12 @@ module _ (bus : Bus) (h : Line) where
     unfolding asked attempts until try_ready read_status handle plug
     begins = same-plug (asked bus n) _ _ h (parts.begins (limit_at bus) 13 (bus.rca * 2 ^ 16) R1 gated h (sym gate))
 
-    pub attempt_on : (c : Command) → begun_next (B.On c) h ≡ next (begun_plan (limit_at bus) 13 (bus.rca * 2 ^ 16) R1 gated) h
+    pub attempt_on : (c : Command) → begun_next (Some c) h ≡ next (begun_plan (limit_at bus) 13 (bus.rca * 2 ^ 16) R1 gated) h
         → next (ready_plan bus (R.Asks n c)) h ≡ next (attempts bus (suc n)) h
     unfolding ready_plan begun_next
     attempt_on c e = same-plug (asked bus n) _ _ h e ∙ begins
 
-    pub attempt_failed : begun_next B.Spent h ≡ next (begun_plan (limit_at bus) 13 (bus.rca * 2 ^ 16) R1 gated) h
+    pub attempt_failed : begun_next None h ≡ next (begun_plan (limit_at bus) 13 (bus.rca * 2 ^ 16) R1 gated) h
         → refused h (failed E.SoftwareTimeout) ≡ next (attempts bus (suc n)) h
     unfolding begun_next asked handle plug next
     attempt_failed e = same-plug (asked bus n) (fail E.SoftwareTimeout) (begun_plan (limit_at bus) 13 (bus.rca * 2 ^ 16) R1 gated) h e ∙ begins
@@ -67,15 +66,15 @@ module _ (bus : Bus) (h : Line) where
     unfolding ready_plan asked handle plug
     answered-not w e = ap looked (sym e)
 
-    pub asking-on : (c : Command) → next (ready_plan bus (R.Asks n c)) h ≡ plug_next (asked bus n) (command_next (C.On c) h)
+    pub asking-on : (c : Command) → next (ready_plan bus (R.Asks n c)) h ≡ plug_next (asked bus n) (command_next (St.On c) h)
     unfolding ready_plan command_next
     asking-on c = next_plug (asked bus n) (command_plan c) h
 
-    pub asking_well : (w : Words) → next (plug (asked bus n) (give (list_of w))) h ≡ plug_next (asked bus n) (command_next (C.Over (X.Well w)) h)
+    pub asking_well : (w : Words) → next (plug (asked bus n) (give (list_of w))) h ≡ plug_next (asked bus n) (command_next (St.Over (Ok w)) h)
     unfolding command_next end_next plug_next next
     asking_well w = refl
 
-    pub asking_badly : (e : Why) → refused h (cause_of e) ≡ plug_next (asked bus n) (command_next (C.Over (X.Badly e)) h)
+    pub asking_badly : (e : Why) → refused h (cause_of e) ≡ plug_next (asked bus n) (command_next (St.Over (Err e)) h)
     unfolding command_next end_next plug_next asked handle plug next
     asking_badly e = refl
 
@@ -98,7 +97,7 @@ module _ (bus : Bus) (h : Line) where
   ready-waits (R.Delay n) = refl
 
   -- in a context, after its row
-  pub ready-goes : {B : Type 0} (k : Context B Nothing) (r : Ready) (s : ReadyStep)
+  pub ready-goes : {B : Type 0} (k : Context B Nothing) (r : Ready) (s : Step Ready (Unit {0}))
       → ready_next bus s (line_after (next (ready_plan bus r) h)) ≡ told (next (ready_plan bus r) h)
       → plug_next k (ready_next bus s (line_after (next (plug k (ready_plan bus r)) h))) ≡ told (next (plug k (ready_plan bus r)) h)
   ready-goes k r s e =

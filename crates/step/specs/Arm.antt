@@ -1,5 +1,5 @@
 -- The rows that ready the data path, and the rows that stop it, from each of them on.
-use Rattle.std.specs.Prelude.{ℕ, ◌*◌, ◌≡◌, List, [], ◌∷◌}
+use Rattle.std.specs.Prelude.{ℕ, ◌*◌, ◌≡◌, List, [], ◌∷◌, Option, Some, None}
 use Rattle.std.proofs.Math.Path.{refl}
 use Rattle.tape.specs.declared.rows.Row.{Row}
 use Rattle.tape.specs.Rows.{MASK, DCTRL, ICR, DTIMER, DLEN, DCTRL2}
@@ -7,12 +7,8 @@ use Rattle.bus.specs.declared.transfer.Transfer.{Transfer}
 use Rattle.step.specs.Rows.{arm_rows, stop_rows}
 use Rattle.step.specs.declared.arm.Arm.{Arm}
 use Rattle.step.specs.declared.arm.Arm.TheVariants as A
-use Rattle.step.specs.declared.arm.ArmStep.{ArmStep}
-use Rattle.step.specs.declared.arm.ArmStep.TheVariants as AS
 use Rattle.step.specs.declared.arm.Stop.{Stop}
 use Rattle.step.specs.declared.arm.Stop.TheVariants as S
-use Rattle.step.specs.declared.arm.StopStep.{StopStep}
-use Rattle.step.specs.declared.arm.StopStep.TheVariants as SS
 
 module _ (timeout : ℕ) (transfer : Transfer) where
   unfoldable pub arm_row : Arm → Row
@@ -34,9 +30,9 @@ module _ (timeout : ℕ) (transfer : Transfer) where
   abbrev pub arm_left : Arm → List Row
   arm_left a = arm_row a ∷ arm_rest a
 
-  unfoldable pub arm_next : ArmStep → List Row
-  arm_next (AS.At a) = arm_left a
-  arm_next AS.Done = []
+  unfoldable pub arm_next : Option Arm → List Row
+  arm_next (Some a) = arm_left a
+  arm_next None = []
 
   pub all_arm : arm_left A.Dctrl2 ≡ arm_rows timeout transfer
   unfolding arm_row arm_rest
@@ -55,9 +51,9 @@ stop_rest S.Icr = []
 abbrev pub stop_left : Stop → List Row
 stop_left s = stop_row s ∷ stop_rest s
 
-unfoldable pub stop_next : StopStep → List Row
-stop_next (SS.At s) = stop_left s
-stop_next SS.Done = []
+unfoldable pub stop_next : Option Stop → List Row
+stop_next (Some s) = stop_left s
+stop_next None = []
 
 pub all_stop : stop_left S.Mask ≡ stop_rows
 unfolding stop_row stop_rest

@@ -1,6 +1,6 @@
 -- The wait until the card is ready, under way: what is ahead of it at each of its places. It is the plan of the bus, from that
 -- place on.
-use Rattle.std.specs.Prelude.{ℕ, Bool, true, false, cond, List}
+use Rattle.std.specs.Prelude.{ℕ, Bool, true, false, cond, List, Option, Some, None, Ok, Err}
 use Rattle.types.specs.Sd.{ready_of}
 use Rattle.types.specs.declared.error.Error.TheVariants as E
 use Rattle.tape.specs.declared.progress.Line.{Line}
@@ -14,10 +14,8 @@ use Rattle.step.specs.Why.{cause_of}
 use Rattle.step.specs.declared.ready.Bus.{Bus}
 use Rattle.step.specs.declared.ready.Ready.{Ready}
 use Rattle.step.specs.declared.ready.Ready.TheVariants as R
-use Rattle.step.specs.declared.ready.ReadyStep.{ReadyStep}
-use Rattle.step.specs.declared.ready.ReadyStep.TheVariants as S
-use Rattle.step.specs.declared.ready.Waits.{Waits}
-use Rattle.step.specs.declared.ready.Waits.TheVariants as B
+use Rattle.step.specs.declared.why.Step.{Step}
+use Rattle.step.specs.declared.why.Step.TheVariants as St
 
 module _ (bus : Bus) where
   abbrev pub limit_at : ℕ
@@ -44,11 +42,11 @@ module _ (bus : Bus) where
   ready_plan (R.Asks n c) = plug (asked n) (command_plan c)
   ready_plan (R.Delay n) = plug (tried n) (retry_delay bus.source.0 then λ _. give false)
 
-  unfoldable pub ready_next : ReadyStep → Line → Next Nothing
-  ready_next (S.On r) h = next (ready_plan r) h
-  ready_next S.Done h = over h tt
-  ready_next (S.Failed why) h = refused h (cause_of why)
+  unfoldable pub ready_next : Step Ready (Unit {0}) → Line → Next Nothing
+  ready_next (St.On r) h = next (ready_plan r) h
+  ready_next (St.Over (Ok tt)) h = over h tt
+  ready_next (St.Over (Err why)) h = refused h (cause_of why)
 
-  unfoldable pub waits_next : Waits → Line → Next Nothing
-  waits_next (B.On r) h = next (ready_plan r) h
-  waits_next B.Spent h = refused h (failed E.SoftwareTimeout)
+  unfoldable pub waits_next : Option Ready → Line → Next Nothing
+  waits_next (Some r) h = next (ready_plan r) h
+  waits_next None h = refused h (failed E.SoftwareTimeout)

@@ -1,12 +1,10 @@
 -- The reset rows from each of them on.
-use Rattle.std.specs.Prelude.{◌≡◌, refl, List, [], ◌∷◌}
+use Rattle.std.specs.Prelude.{◌≡◌, refl, List, [], ◌∷◌, Option, Some, None}
 use Rattle.tape.specs.declared.rows.Row.{Row}
 use Rattle.tape.specs.Rows.{MASK, DCTRL, ICR, DTIMER, DLEN, DCTRL2, CMD, POWER, CLKCR, ARG}
 use Rattle.step.specs.Rows.{reset_rows}
 use Rattle.step.specs.declared.reset.Reset.{Reset}
 use Rattle.step.specs.declared.reset.Reset.TheVariants as R
-use Rattle.step.specs.declared.reset.ResetStep.{ResetStep}
-use Rattle.step.specs.declared.reset.ResetStep.TheVariants.{At, Done}
 
 unfoldable pub reset_row : Reset → Row
 reset_row R.Mask = record { register = MASK; value = 0 }
@@ -40,6 +38,6 @@ pub all_rows : rows_left R.Mask ≡ reset_rows
 unfolding rest_left reset_row
 all_rows = refl
 
-unfoldable pub step_left : ResetStep → List Row
-step_left (At r) = rows_left r
-step_left Done = []
+unfoldable pub step_left : Option Reset → List Row
+step_left (Some r) = rows_left r
+step_left None = []

@@ -1,6 +1,6 @@
 -- A data phase under way: what is ahead of it at each of its places. It is the plan of the bus, from that place on; `ws` are the
 -- words that it is to send, and the data words that it has come to so far.
-use Rattle.std.specs.Prelude.{ℕ, suc, ◌+◌, ◌-◌, min, ◌≡◌, Bool, cond, not, true, false, ◌||◌, List, [], ◌++◌, eqb, ltb, take, set}
+use Rattle.std.specs.Prelude.{ℕ, suc, ◌+◌, ◌-◌, min, ◌≡◌, Bool, cond, not, true, false, ◌||◌, List, [], ◌++◌, eqb, ltb, take, set, Ok, Err}
 use Rattle.types.specs.Bits.{clear}
 use Rattle.types.specs.declared.error.Error.TheVariants as E
 use Rattle.types.specs.declared.config.Config.{Config}
@@ -35,8 +35,8 @@ use Rattle.step.specs.declared.transfer.Writes.{Writes}
 use Rattle.step.specs.declared.transfer.Writes.TheVariants as W
 use Rattle.step.specs.declared.transfer.Data.{Data}
 use Rattle.step.specs.declared.transfer.Data.TheVariants as D
-use Rattle.step.specs.declared.transfer.DataStep.{DataStep}
-use Rattle.step.specs.declared.transfer.DataStep.TheVariants as S
+use Rattle.step.specs.declared.why.Step.{Step}
+use Rattle.step.specs.declared.why.Step.TheVariants as St
 
 -- a read or a write is of 1 to 511 blocks
 unfoldable pub blocks_of : ℕ → ℕ
@@ -282,10 +282,10 @@ module _ (bus : Bus) (phase : Phase) where
   data_plan ws (D.Stop c) = plug (stop_site ws) (command_plan c)
   data_plan ws (D.Ready r) = plug (ending ws) (ready_plan bus r)
 
-  unfoldable pub data_next : Lent → DataStep → Line → Next (List ℕ)
-  data_next ws (S.On d) h = next (data_plan ws d) h
-  data_next ws S.Done h = over h (all_of phase ws)
-  data_next ws (S.Failed why) h = refused h (cause_of why)
+  unfoldable pub data_next : Lent → Step Data (Unit {0}) → Line → Next (List ℕ)
+  data_next ws (St.On d) h = next (data_plan ws d) h
+  data_next ws (St.Over (Ok tt)) h = over h (all_of phase ws)
+  data_next ws (St.Over (Err why)) h = refused h (cause_of why)
 
 -- ws' has the word w after a reading, where ws were there before it
 unfoldable pub HandedAt : Phase → Data → ℕ → Lent → Lent → Type 0

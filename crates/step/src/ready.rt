@@ -8,9 +8,9 @@ ghost use Rattle.step.specs.Context.{plug, plug_next};
 ghost use Rattle.step.specs.Command.{command_next, list_of};
 ghost use Rattle.step.specs.Ready.{attempts, asked, ready_plan, ready_next, waits_next};
 
-use crate::command::{Begun, Command, CommandStep, Ended, Words};
+use crate::command::{Command, Words};
 use crate::wants::Wants;
-use crate::why::Why;
+use crate::why::{Step, Why};
 use bus::ready;
 use bus::response::Response;
 use tape::progress::Line;
@@ -35,41 +35,23 @@ pub enum Ready {
     Delay(u32),
 }
 
-// A ready wait at its start, or before another attempt: its attempts, or the polls of CMD13, may be spent at once.
-#[derive(Clone, Copy)]
-pub enum Waits {
-    On(Ready),
-    Spent,
-}
-
-// A ready wait after an answer.
-#[derive(Clone, Copy)]
-pub enum ReadyStep {
-    On(Ready),
-    Done,
-    Failed(Why),
-}
-
 impl Bus {
-    // The wait with so many attempts, where the clock is gated or not.
-    fn attempt(self, gated: bool, left: u32) -> Waits
+    // The wait with so many attempts, where the clock is gated or not; none where they, or the polls of CMD13, are spent at once.
+    fn attempt(self, gated: bool, left: u32) -> Option<Ready>
         ensures { (h : Line) → h.gated ≡ gated → waits_next self result h ≡ next (attempts self left) h }
     {
         if left == 0 {
-            return Waits::Spent;
+            return None;
         }
         let more = left - 1;
         let limit = self.config.poll_limit;
         let argument = self.rca as u32 * 0x1_0000;
-        let begun = Command::begin(limit, 13, argument, Response::R1, gated);
-        match begun {
-            Begun::On(command) => Waits::On(Ready::Asks(more, command)),
-            Begun::Spent => Waits::Spent,
-        }
+        let command = Command::begin(limit, 13, argument, Response::R1, gated)?;
+        Some(Ready::Asks(more, command))
     }
 
     // The wait at its start.
-    pub fn wait_ready(self, gated: bool) -> Waits
+    pub fn wait_ready(self, gated: bool) -> Option<Ready>
         ensures { (h : Line) → h.gated ≡ gated → waits_next self result h ≡ next (wait_ready self.source.0 self.config self.rca) h }
     {
         let left = self.config.card_ready_attempts;
@@ -77,36 +59,36 @@ impl Bus {
     }
 
     // A ready wait before an attempt, as one after an answer.
-    pub fn tries(self, waits: Waits) -> ReadyStep
+    pub fn tries(self, waits: Option<Ready>) -> Step<Ready, ()>
         ensures { (h : Line) → ready_next self result h ≡ waits_next self waits h }
     {
         match waits {
-            Waits::On(ready) => ReadyStep::On(ready),
-            Waits::Spent => ReadyStep::Failed(Why::Failed(Error::SoftwareTimeout)),
+            Some(ready) => Step::On(ready),
+            None => Step::Over(Err(Why::Failed(Error::SoftwareTimeout))),
         }
     }
 
     // The card's status came.
-    fn answered(self, left: u32, words: Words) -> ReadyStep
+    fn answered(self, left: u32, words: Words) -> Step<Ready, ()>
         ensures { (h : Line) → ready_next self result h ≡ next (plug (asked self left) (give (list_of words))) h }
     {
         let status = CardStatus(words.a);
         if status.ready() {
-            ReadyStep::Done
+            Step::Over(Ok(()))
         } else {
-            ReadyStep::On(Ready::Delay(left))
+            Step::On(Ready::Delay(left))
         }
     }
 
     // CMD13 after an answer.
-    fn asking(self, left: u32, step: CommandStep) -> ReadyStep
+    fn asking(self, left: u32, step: Step<Command, Words>) -> Step<Ready, ()>
         ensures { (h : Line) → ready_next self result h ≡ plug_next (asked self left) (command_next step h) }
     {
         match step {
-            CommandStep::On(command) => ReadyStep::On(Ready::Asks(left, command)),
-            CommandStep::Over(ended) => match ended {
-                Ended::Well(words) => self.answered(left, words),
-                Ended::Badly(why) => ReadyStep::Failed(why),
+            Step::On(command) => Step::On(Ready::Asks(left, command)),
+            Step::Over(ended) => match ended {
+                Ok(words) => self.answered(left, words),
+                Err(why) => Step::Over(Err(why)),
             },
         }
     }
@@ -130,27 +112,27 @@ impl Ready {
     }
 
     // After the word that it asked for; unasked, as it was.
-    pub fn fed(self, bus: Bus, word: u32) -> ReadyStep
+    pub fn fed(self, bus: Bus, word: u32) -> Step<Ready, ()>
         ensures { (h : Line) → ready_next bus result h ≡ heard (next (ready_plan bus self) h) word }
     {
         match self {
             Ready::Asks(left, command) => bus.asking(left, command.fed(word)),
-            Ready::Delay(_) => ReadyStep::On(self),
+            Ready::Delay(_) => Step::On(self),
         }
     }
 
     // Where no word will come; unasked, as it was.
-    pub fn missed(self, bus: Bus) -> ReadyStep
+    pub fn missed(self, bus: Bus) -> Step<Ready, ()>
         ensures { (h : Line) → ready_next bus result h ≡ missed (next (ready_plan bus self) h) }
     {
         match self {
             Ready::Asks(left, command) => bus.asking(left, command.missed()),
-            Ready::Delay(_) => ReadyStep::On(self),
+            Ready::Delay(_) => Step::On(self),
         }
     }
 
     // After its row was written; with none to write, as it was.
-    pub fn went(self, bus: Bus, gated: bool) -> ReadyStep
+    pub fn went(self, bus: Bus, gated: bool) -> Step<Ready, ()>
         ensures { (h : Line) → h.gated ≡ gated → ready_next bus result (line_after (next (ready_plan bus self) h)) ≡ told (next (ready_plan bus self) h) }
     {
         match self {

@@ -12,13 +12,13 @@ ghost use Rattle.step.specs.Command.{command_next};
 ghost use Rattle.step.specs.Ready.{ready_next};
 ghost use Rattle.step.specs.Transfer.{transfer_of, buffer_of, place_of, after_of, words_by, held_by, phase_plan, refusal, idling, polling, armed, ordered, start_site, received, sending, stop_site, ending, stopped, unclocked, reads_plan, reading_at, told_plan, row_at, data_plan, data_next, HandedAt};
 
-use crate::arm::{Arm, ArmStep, Stop, StopStep};
-use crate::command::{Begun, Command, CommandStep, Ended};
+use crate::arm::{Arm, Stop};
+use crate::command::{Command, Words};
 use crate::phase::Phase;
-use crate::ready::{Bus, Ready, ReadyStep};
-use crate::reset::{Reset, ResetStep};
+use crate::ready::{Bus, Ready};
+use crate::reset::Reset;
 use crate::wants::Wants;
-use crate::why::Why;
+use crate::why::{Step, Why};
 use bus::response::Response;
 use bus::transfer::of_many;
 use tape::progress::Line;
@@ -60,14 +60,6 @@ pub enum Data {
     Start(Command),
     Stop(Command),
     Ready(Ready),
-}
-
-// A data phase after an answer.
-#[derive(Clone, Copy)]
-pub enum DataStep {
-    On(Data),
-    Done,
-    Failed(Why),
 }
 
 // Whether a status word says that the transfer is not over yet.
@@ -193,8 +185,8 @@ impl Bus {
             false,
         );
         match begun {
-            Begun::On(command) => Data::Start(command),
-            Begun::Spent => self.refuses(phase, Error::SoftwareTimeout),
+            Some(command) => Data::Start(command),
+            None => self.refuses(phase, Error::SoftwareTimeout),
         }
     }
 
@@ -210,44 +202,46 @@ impl Bus {
     }
 
     // The data command after an answer.
-    fn starting(self, phase: Phase, step: CommandStep) -> Data
+    fn starting(self, phase: Phase, step: Step<Command, Words>) -> Data
         ensures { (ws : Lent) (h : Line) → next (data_plan self phase ws result) h ≡ plug_next (start_site self phase ws) (command_next step h) }
     {
         match step {
-            CommandStep::On(command) => Data::Start(command),
-            CommandStep::Over(ended) => match ended {
-                Ended::Well(_) => self.ordered(phase),
-                Ended::Badly(why) => self.drops(phase, why),
+            Step::On(command) => Data::Start(command),
+            Step::Over(ended) => match ended {
+                Ok(_) => self.ordered(phase),
+                Err(why) => self.drops(phase, why),
             },
         }
     }
 
     // The closing ready wait after an answer.
-    fn waiting(self, phase: Phase, step: ReadyStep) -> DataStep
+    fn waiting(self, phase: Phase, step: Step<Ready, ()>) -> Step<Data, ()>
         ensures { (ws : Lent) (h : Line) → data_next self phase ws result h ≡ plug_next (ending self phase ws) (ready_next self step h) }
     {
         match step {
-            ReadyStep::On(ready) => DataStep::On(Data::Ready(ready)),
-            ReadyStep::Done => DataStep::Done,
-            ReadyStep::Failed(why) => DataStep::On(self.drops(phase, why)),
+            Step::On(ready) => Step::On(Data::Ready(ready)),
+            Step::Over(ended) => match ended {
+                Ok(()) => Step::Over(Ok(())),
+                Err(why) => Step::On(self.drops(phase, why)),
+            },
         }
     }
 
     // CMD12 after an answer.
-    fn stopping(self, phase: Phase, gated: bool, step: CommandStep) -> DataStep
+    fn stopping(self, phase: Phase, gated: bool, step: Step<Command, Words>) -> Step<Data, ()>
         ensures { (ws : Lent) (h : Line) → h.gated ≡ gated → data_next self phase ws result h ≡ plug_next (stop_site self phase ws) (command_next step h) }
     {
         match step {
-            CommandStep::On(command) => DataStep::On(Data::Stop(command)),
-            CommandStep::Over(ended) => match ended {
-                Ended::Well(_) => self.waiting(phase, self.tries(self.wait_ready(gated))),
-                Ended::Badly(why) => DataStep::On(self.drops(phase, why)),
+            Step::On(command) => Step::On(Data::Stop(command)),
+            Step::Over(ended) => match ended {
+                Ok(_) => self.waiting(phase, self.tries(self.wait_ready(gated))),
+                Err(why) => Step::On(self.drops(phase, why)),
             },
         }
     }
 
     // After the row that closes the clock: CMD12 after CMD18 and CMD25, and the ready wait.
-    fn stops(self, phase: Phase, gated: bool) -> DataStep
+    fn stops(self, phase: Phase, gated: bool) -> Step<Data, ()>
         ensures { (ws : Lent) (h : Line) → h.gated ≡ gated → data_next self phase ws result h ≡ next (plug (unclocked self phase ws) (give tt)) h }
     {
         let transfer = phase.transfer();
@@ -255,19 +249,19 @@ impl Bus {
             let limit = self.config.poll_limit;
             let begun = Command::begin(limit, 12, 0, Response::R1, gated);
             return match begun {
-                Begun::On(command) => DataStep::On(Data::Stop(command)),
-                Begun::Spent => DataStep::On(self.refuses(phase, Error::SoftwareTimeout)),
+                Some(command) => Step::On(Data::Stop(command)),
+                None => Step::On(self.refuses(phase, Error::SoftwareTimeout)),
             };
         }
         self.waiting(phase, self.tries(self.wait_ready(gated)))
     }
 
     // After the rows that stop the data path: the clock is closed where it is gated.
-    fn closes(self, phase: Phase, gated: bool) -> DataStep
+    fn closes(self, phase: Phase, gated: bool) -> Step<Data, ()>
         ensures { (ws : Lent) (h : Line) → h.gated ≡ gated → data_next self phase ws result h ≡ next (stopped self phase ws) h }
     {
         if gated {
-            DataStep::On(Data::Tells(Writes::Gate))
+            Step::On(Data::Tells(Writes::Gate))
         } else {
             self.stops(phase, gated)
         }
@@ -311,31 +305,31 @@ impl Bus {
     }
 
     // After a row.
-    fn goes(self, phase: Phase, gated: bool, writes: Writes) -> DataStep
+    fn goes(self, phase: Phase, gated: bool, writes: Writes) -> Step<Data, ()>
         ensures { (ws : Lent) (h : Line) → h.gated ≡ gated → data_next self phase ws result h ≡ next (told_plan self phase ws writes) h }
     {
         match writes {
             Writes::Reset(reset, why) => {
                 let step = reset.after();
                 match step {
-                    ResetStep::At(reset) => DataStep::On(Data::Tells(Writes::Reset(reset, why))),
-                    ResetStep::Done => DataStep::Failed(why),
+                    Some(reset) => Step::On(Data::Tells(Writes::Reset(reset, why))),
+                    None => Step::Over(Err(why)),
                 }
             }
             Writes::Arm(arm) => {
                 let step = arm.after();
                 match step {
-                    ArmStep::At(arm) => DataStep::On(Data::Tells(Writes::Arm(arm))),
-                    ArmStep::Done => DataStep::On(self.readied(phase)),
+                    Some(arm) => Step::On(Data::Tells(Writes::Arm(arm))),
+                    None => Step::On(self.readied(phase)),
                 }
             }
-            Writes::Control => DataStep::On(self.controls(phase)),
-            Writes::Open => DataStep::On(self.starts(phase)),
+            Writes::Control => Step::On(self.controls(phase)),
+            Writes::Open => Step::On(self.starts(phase)),
             Writes::Stop(stop) => {
                 let step = stop.after();
                 match step {
-                    StopStep::At(stop) => DataStep::On(Data::Tells(Writes::Stop(stop))),
-                    StopStep::Done => self.closes(phase, gated),
+                    Some(stop) => Step::On(Data::Tells(Writes::Stop(stop))),
+                    None => self.closes(phase, gated),
                 }
             }
             Writes::Gate => self.stops(phase, gated),
@@ -496,42 +490,42 @@ impl Data {
     }
 
     // After the word that it asked for; unasked, as it was.
-    pub fn fed(self, bus: Bus, phase: Phase, gated: bool, word: u32) -> DataStep
+    pub fn fed(self, bus: Bus, phase: Phase, gated: bool, word: u32) -> Step<Data, ()>
         ensures { (ws ws' : Lent) (h : Line) → h.gated ≡ gated → HandedAt phase self word ws ws' → data_next bus phase ws' result h ≡ heard (next (data_plan bus phase ws self) h) word }
     {
         match self {
-            Data::Asks(reads) => DataStep::On(bus.hears(phase, reads, word)),
-            Data::Tells(_) => DataStep::On(self),
-            Data::Sends(_) => DataStep::On(self),
-            Data::Start(command) => DataStep::On(bus.starting(phase, command.fed(word))),
+            Data::Asks(reads) => Step::On(bus.hears(phase, reads, word)),
+            Data::Tells(_) => Step::On(self),
+            Data::Sends(_) => Step::On(self),
+            Data::Start(command) => Step::On(bus.starting(phase, command.fed(word))),
             Data::Stop(command) => bus.stopping(phase, gated, command.fed(word)),
             Data::Ready(ready) => bus.waiting(phase, ready.fed(bus, word)),
         }
     }
 
     // Where no word will come; unasked, as it was.
-    pub fn missed(self, bus: Bus, phase: Phase, gated: bool) -> DataStep
+    pub fn missed(self, bus: Bus, phase: Phase, gated: bool) -> Step<Data, ()>
         ensures { (ws : Lent) (h : Line) → h.gated ≡ gated → data_next bus phase ws result h ≡ missed (next (data_plan bus phase ws self) h) }
     {
         match self {
-            Data::Asks(_) => DataStep::On(bus.drops(phase, Why::NoWord)),
-            Data::Tells(_) => DataStep::On(self),
-            Data::Sends(_) => DataStep::On(self),
-            Data::Start(command) => DataStep::On(bus.starting(phase, command.missed())),
+            Data::Asks(_) => Step::On(bus.drops(phase, Why::NoWord)),
+            Data::Tells(_) => Step::On(self),
+            Data::Sends(_) => Step::On(self),
+            Data::Start(command) => Step::On(bus.starting(phase, command.missed())),
             Data::Stop(command) => bus.stopping(phase, gated, command.missed()),
             Data::Ready(ready) => bus.waiting(phase, ready.missed(bus)),
         }
     }
 
     // After its row was written; with none to write, as it was.
-    pub fn went(self, bus: Bus, phase: Phase, gated: bool) -> DataStep
+    pub fn went(self, bus: Bus, phase: Phase, gated: bool) -> Step<Data, ()>
         ensures { (ws : Lent) (h : Line) → h.gated ≡ gated → data_next bus phase ws result (line_after (next (data_plan bus phase ws self) h)) ≡ told (next (data_plan bus phase ws self) h) }
     {
         match self {
-            Data::Asks(_) => DataStep::On(self),
+            Data::Asks(_) => Step::On(self),
             Data::Tells(writes) => bus.goes(phase, gated, writes),
-            Data::Sends(after) => DataStep::On(bus.sent(phase, after)),
-            Data::Start(command) => DataStep::On(bus.starting(phase, command.went())),
+            Data::Sends(after) => Step::On(bus.sent(phase, after)),
+            Data::Start(command) => Step::On(bus.starting(phase, command.went())),
             Data::Stop(command) => bus.stopping(phase, gated, command.went()),
             Data::Ready(ready) => bus.waiting(phase, ready.went(bus, gated)),
         }

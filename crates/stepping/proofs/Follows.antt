@@ -1,5 +1,5 @@
 -- What follows each step of an initialisation: the rest of the plan after it.
-use Rattle.std.specs.Prelude.{Ok, Err}
+use Rattle.std.specs.Prelude.{Ok, Err, Option, Some, None}
 use Prim.Native.Nat.{ℕ, suc, ◌+◌, ◌*◌, ◌/◌, ◌^◌, min}
 use mathlib.Core.Path.{◌≡◌, refl, ap, ◌∙◌}
 use mathlib.Core.Bool.{Bool, true, false, cond, not, ◌&&◌, ◌||◌}
@@ -30,8 +30,6 @@ use Rattle.bus.specs.Ready.{retry_delay}
 use Rattle.init.specs.Initialise.{source_of, version, timed_out, late, card_version, power_up, try_power_up, wait_power_up, high_capacity, same, select, publish, identify, read_scr, set_width, set_clock, transfer_clock, switch_speed, ask_switch, take_switch, offered, switched, settle_card}
 use Rattle.step.specs.declared.command.Words.{Words}
 use Rattle.step.specs.declared.reset.Reset.{Reset}
-use Rattle.step.specs.declared.reset.ResetStep.{ResetStep}
-use Rattle.step.specs.declared.reset.ResetStep.TheVariants as ReS
 use Rattle.step.specs.Command.{list_of}
 use Rattle.step.specs.Context.{plug}
 use Rattle.step.specs.Next.{Next, next, Lent}
@@ -373,15 +371,15 @@ module _ (j : Job) (k : Known) (h : Line) where
     open_refused x e = ap (λ (p : Plan Nothing). next (plug (Sites.powered_on j.host initial frequency) p) h) e
 
     -- after a row
-    pub reset-on : (r : Reset) (s : ResetStep) → step_left s ≡ rest_left r → follows k ws (reset_on s) ≡ next (told_plan j k (R.Reset r)) h
+    pub reset-on : (r : Reset) (s : Option Reset) → step_left s ≡ rest_left r → follows k ws (reset_on s) ≡ next (told_plan j k (R.Reset r)) h
     unfolding follow_plan reset_on writes_plan idling clock_on change_site told_plan step_left rows_from configure_clock handle plug
-    reset-on r (ReS.At r') p = ap (λ (rs : List Row). next (plug (Sites.resetting j.host initial frequency) (rows_from rs)) h) p
-    reset-on r ReS.Done p = ap (λ (rs : List Row). next (plug (Sites.resetting j.host initial frequency) (rows_from rs)) h) p
+    reset-on r (Some r') p = ap (λ (rs : List Row). next (plug (Sites.resetting j.host initial frequency) (rows_from rs)) h) p
+    reset-on r None p = ap (λ (rs : List Row). next (plug (Sites.resetting j.host initial frequency) (rows_from rs)) h) p
 
-    pub close-on : (r : Reset) (e : Why) (s : ResetStep) → step_left s ≡ rest_left r → follows k ws (close_on s e) ≡ next (told_plan j k (R.Close r e)) h
+    pub close-on : (r : Reset) (e : Why) (s : Option Reset) → step_left s ≡ rest_left r → follows k ws (close_on s e) ≡ next (told_plan j k (R.Close r e)) h
     unfolding follow_plan close_on writes_plan end_plan told_plan step_left rows_from handle plug
-    close-on r e (ReS.At r') p = ap (λ (rs : List Row). next (plug (Sites.refused j.host initial frequency e) (rows_from rs)) h) p
-    close-on r e ReS.Done p = ap (λ (rs : List Row). next (plug (Sites.refused j.host initial frequency e) (rows_from rs)) h) p
+    close-on r e (Some r') p = ap (λ (rs : List Row). next (plug (Sites.refused j.host initial frequency e) (rows_from rs)) h) p
+    close-on r e None p = ap (λ (rs : List Row). next (plug (Sites.refused j.host initial frequency e) (rows_from rs)) h) p
 
     pub power-on : follows k ws (F.Tells R.Open) ≡ next (told_plan j k R.Power) h
     unfolding follow_plan writes_plan told_plan handle plug

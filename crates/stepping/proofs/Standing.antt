@@ -1,4 +1,5 @@
 -- Where a call stands by what follows: the same is ahead of it.
+use Rattle.std.specs.Prelude.{Some, None, Ok, Err}
 use Prim.Native.Nat.{ℕ, suc, ◌*◌, ◌^◌}
 use mathlib.Core.Path.{◌≡◌, refl, ap, sym, ◌∙◌}
 use mathlib.Core.Bool.{Bool, true, false}
@@ -16,17 +17,12 @@ use Rattle.bus.specs.declared.response.Response.TheVariants.{R1}
 use Rattle.bus.specs.Command.{command, app_command}
 use Rattle.bus.specs.Ready.{wait_ready}
 use Rattle.init.specs.Initialise.{class_of, high_capacity, block_length}
-use Rattle.step.specs.declared.command.Begun.TheVariants as B
 use Rattle.step.specs.declared.command.Command.{Command}
-use Rattle.step.specs.declared.command.CommandStep.TheVariants as C
-use Rattle.step.specs.declared.command.Ended.TheVariants as X
+use Rattle.step.specs.declared.why.Step.TheVariants as St
 use Rattle.step.specs.declared.command.Words.{Words}
 use Rattle.step.specs.declared.ready.Ready.{Ready}
-use Rattle.step.specs.declared.ready.ReadyStep.TheVariants as RS
-use Rattle.step.specs.declared.ready.Waits.TheVariants as Wa
 use Rattle.step.specs.declared.reset.Reset.TheVariants as Re
 use Rattle.step.specs.declared.transfer.Data.{Data}
-use Rattle.step.specs.declared.transfer.DataStep.TheVariants as DS
 use Rattle.step.specs.Command.{command_plan, command_next, end_next, list_of, begun_plan, begun_next}
 use Rattle.step.specs.Context.{plug, plug_next, next_plug}
 use Rattle.step.specs.Next.{Next, next, heard, missed, Lent}
@@ -123,12 +119,12 @@ module _ (j : Job) (k : Known) (h : Line) where
       begins : next (plug (sent_site j k s) (begun_plan (limit_at j) index argument response gated)) h ≡ next (plug (sent_site j k s) (command (limit_at j) index argument response)) h
       begins = same-plug (sent_site j k s) _ _ h (parts.begins (limit_at j) index argument response gated h (sym gate))
 
-      pub sends-on : (c : Command) → begun_next (B.On c) h ≡ next (begun_plan (limit_at j) index argument response gated) h
+      pub sends-on : (c : Command) → begun_next (Some c) h ≡ next (begun_plan (limit_at j) index argument response gated) h
           → next (at_plan j k held g (A.Command (T.Init s) c)) h ≡ next (plug (sent_site j k s) (command (limit_at j) index argument response)) h
       unfolding at_plan site_of begun_next
       sends-on c e = same-plug (sent_site j k s) _ _ h e ∙ begins
 
-      pub sends-spent : begun_next B.Spent h ≡ next (begun_plan (limit_at j) index argument response gated) h
+      pub sends-spent : begun_next None h ≡ next (begun_plan (limit_at j) index argument response gated) h
           → next (refusal j (Y.Failed E.SoftwareTimeout)) h ≡ next (plug (sent_site j k s) (command (limit_at j) index argument response)) h
       unfolding begun_next follow_plan
       sends-spent e =
@@ -136,22 +132,22 @@ module _ (j : Job) (k : Known) (h : Line) where
           ∙ same-plug (sent_site j k s) (fail E.SoftwareTimeout) (begun_plan (limit_at j) index argument response gated) h e ∙ begins
 
     -- a ready wait at its start
-    pub waits-on : (w : Waiting) (r : Ready) → waits_next (bus_with j (wait_rca j k w)) (Wa.On r) h ≡ next (wait_ready j.host.settings.source.0 j.host.settings.config (wait_rca j k w)) h
+    pub waits-on : (w : Waiting) (r : Ready) → waits_next (bus_with j (wait_rca j k w)) (Some r) h ≡ next (wait_ready j.host.settings.source.0 j.host.settings.config (wait_rca j k w)) h
         → next (at_plan j k held g (A.Ready w r)) h ≡ next (plug (wait_site j k g.sent w) (wait_ready j.host.settings.source.0 j.host.settings.config (wait_rca j k w))) h
     unfolding at_plan waits_next
     waits-on w r e = same-plug (wait_site j k g.sent w) _ _ h e
 
-    waits-spent : (w : Waiting) → waits_next (bus_with j (wait_rca j k w)) Wa.Spent h ≡ next (wait_ready j.host.settings.source.0 j.host.settings.config (wait_rca j k w)) h
+    waits-spent : (w : Waiting) → waits_next (bus_with j (wait_rca j k w)) None h ≡ next (wait_ready j.host.settings.source.0 j.host.settings.config (wait_rca j k w)) h
         → next (plug (wait_site j k g.sent w) (fail E.SoftwareTimeout)) h ≡ next (plug (wait_site j k g.sent w) (wait_ready j.host.settings.source.0 j.host.settings.config (wait_rca j k w))) h
     unfolding waits_next next
     waits-spent w e = same-plug (wait_site j k g.sent w) (fail E.SoftwareTimeout) (wait_ready j.host.settings.source.0 j.host.settings.config (wait_rca j k w)) h e
 
-    pub waits_read : waits_next (bus_with j (wait_rca j k W.Blocks)) Wa.Spent h ≡ next (wait_ready j.host.settings.source.0 j.host.settings.config (wait_rca j k W.Blocks)) h
+    pub waits_read : waits_next (bus_with j (wait_rca j k W.Blocks)) None h ≡ next (wait_ready j.host.settings.source.0 j.host.settings.config (wait_rca j k W.Blocks)) h
         → next (at_plan j k held g (A.Over (Z.Keeping (Y.Failed E.SoftwareTimeout)))) h ≡ next (plug (wait_site j k g.sent W.Blocks) (wait_ready j.host.settings.source.0 j.host.settings.config (wait_rca j k W.Blocks))) h
     unfolding at_plan follow_plan
     waits_read e = unready_read (words_in j G.Asked held g) (Y.Failed E.SoftwareTimeout) ∙ waits-spent W.Blocks e
 
-    pub waits-selected : waits_next (bus_with j (wait_rca j k W.Selected)) Wa.Spent h ≡ next (wait_ready j.host.settings.source.0 j.host.settings.config (wait_rca j k W.Selected)) h
+    pub waits-selected : waits_next (bus_with j (wait_rca j k W.Selected)) None h ≡ next (wait_ready j.host.settings.source.0 j.host.settings.config (wait_rca j k W.Selected)) h
         → next (refusal j (Y.Failed E.SoftwareTimeout)) h ≡ next (plug (wait_site j k g.sent W.Selected) (wait_ready j.host.settings.source.0 j.host.settings.config (wait_rca j k W.Selected))) h
     unfolding follow_plan
     waits-selected e = unready_selected g (Y.Failed E.SoftwareTimeout) ∙ waits-spent W.Selected e
@@ -193,41 +189,41 @@ module _ (j : Job) (k : Known) (h : Line) where
     gets_on gets d e = same-plug (gets_site j k gets) _ _ h (e (words_in j gets held g) h)
 
     -- a part after an answer
-    pub command-on : (s : Site) (c : Command) → next (at_plan j k held g (A.Command s c)) h ≡ plug_next (site_of j k g.sent s) (command_next (C.On c) h)
+    pub command-on : (s : Site) (c : Command) → next (at_plan j k held g (A.Command s c)) h ≡ plug_next (site_of j k g.sent s) (command_next (St.On c) h)
     unfolding at_plan command_next
     command-on s c = next_plug (site_of j k g.sent s) (command_plan c) h
 
-    pub command_well : (s : Site) (w : Words) → next (plug (site_of j k g.sent s) (give (list_of w))) h ≡ plug_next (site_of j k g.sent s) (command_next (C.Over (X.Well w)) h)
+    pub command_well : (s : Site) (w : Words) → next (plug (site_of j k g.sent s) (give (list_of w))) h ≡ plug_next (site_of j k g.sent s) (command_next (St.Over (Ok w)) h)
     unfolding command_next end_next plug_next next
     command_well s w = refl
 
-    pub command_badly : (s : Site) (e : Why) → next (plug (site_of j k g.sent s) (refuse (cause_of e))) h ≡ plug_next (site_of j k g.sent s) (command_next (C.Over (X.Badly e)) h)
+    pub command_badly : (s : Site) (e : Why) → next (plug (site_of j k g.sent s) (refuse (cause_of e))) h ≡ plug_next (site_of j k g.sent s) (command_next (St.Over (Err e)) h)
     unfolding command_next end_next plug_next next
     command_badly s e = refl
 
-    pub ready_on : (w : Waiting) (r : Ready) → next (at_plan j k held g (A.Ready w r)) h ≡ plug_next (wait_site j k g.sent w) (ready_next (bus_with j (wait_rca j k w)) (RS.On r) h)
+    pub ready_on : (w : Waiting) (r : Ready) → next (at_plan j k held g (A.Ready w r)) h ≡ plug_next (wait_site j k g.sent w) (ready_next (bus_with j (wait_rca j k w)) (St.On r) h)
     unfolding at_plan ready_next
     ready_on w r = next_plug (wait_site j k g.sent w) (ready_plan (bus_with j (wait_rca j k w)) r) h
 
-    pub ready-done : (w : Waiting) → next (plug (wait_site j k g.sent w) (give tt)) h ≡ plug_next (wait_site j k g.sent w) (ready_next (bus_with j (wait_rca j k w)) RS.Done h)
+    pub ready-done : (w : Waiting) → next (plug (wait_site j k g.sent w) (give tt)) h ≡ plug_next (wait_site j k g.sent w) (ready_next (bus_with j (wait_rca j k w)) (St.Over (Ok tt)) h)
     unfolding ready_next plug_next
     ready-done w = refl
 
-    pub ready-failed : (w : Waiting) (e : Why) → next (plug (wait_site j k g.sent w) (refuse (cause_of e))) h ≡ plug_next (wait_site j k g.sent w) (ready_next (bus_with j (wait_rca j k w)) (RS.Failed e) h)
+    pub ready-failed : (w : Waiting) (e : Why) → next (plug (wait_site j k g.sent w) (refuse (cause_of e))) h ≡ plug_next (wait_site j k g.sent w) (ready_next (bus_with j (wait_rca j k w)) (St.Over (Err e)) h)
     unfolding ready_next plug_next
     ready-failed w e = refl
 
     pub data_on : (gets : Gets) (d : Data) → next (at_plan j k held g (A.Data gets d)) h
-        ≡ plug_next (gets_site j k gets) (data_next (bus_with j (rca_of j k gets)) (phase_of j.asked gets) (words_in j gets held g) (DS.On d) h)
+        ≡ plug_next (gets_site j k gets) (data_next (bus_with j (rca_of j k gets)) (phase_of j.asked gets) (words_in j gets held g) (St.On d) h)
     unfolding at_plan data_next
     data_on gets d = next_plug (gets_site j k gets) (data_plan (bus_with j (rca_of j k gets)) (phase_of j.asked gets) (words_in j gets held g) d) h
 
     pub data_done : (gets : Gets) → next (plug (gets_site j k gets) (give (all_of (phase_of j.asked gets) (words_in j gets held g)))) h
-        ≡ plug_next (gets_site j k gets) (data_next (bus_with j (rca_of j k gets)) (phase_of j.asked gets) (words_in j gets held g) DS.Done h)
+        ≡ plug_next (gets_site j k gets) (data_next (bus_with j (rca_of j k gets)) (phase_of j.asked gets) (words_in j gets held g) (St.Over (Ok tt)) h)
     unfolding data_next plug_next
     data_done gets = refl
 
     pub data_failed : (gets : Gets) (e : Why) → next (plug (gets_site j k gets) (refuse (cause_of e))) h
-        ≡ plug_next (gets_site j k gets) (data_next (bus_with j (rca_of j k gets)) (phase_of j.asked gets) (words_in j gets held g) (DS.Failed e) h)
+        ≡ plug_next (gets_site j k gets) (data_next (bus_with j (rca_of j k gets)) (phase_of j.asked gets) (words_in j gets held g) (St.Over (Err e)) h)
     unfolding data_next plug_next
     data_failed gets e = refl

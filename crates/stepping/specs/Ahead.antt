@@ -1,5 +1,5 @@
 -- What is ahead of a call at each of its places. `g` are the words that it is to send, and those that were handed out so far.
-use Rattle.std.specs.Prelude.{ℕ, suc, Bool, true, false, List}
+use Rattle.std.specs.Prelude.{ℕ, suc, Bool, true, false, List, Option, Some, None}
 use Rattle.types.specs.Leaf.{rounded_up}
 use Rattle.types.specs.declared.card.Card.{Card}
 use Rattle.types.specs.declared.card.Signalling.TheVariants.{SDR25}
@@ -14,8 +14,6 @@ use Rattle.bus.specs.Ready.{retry_delay, wait_ready}
 use Rattle.init.specs.Initialise.{source_of, timed_out, no_clock, card_of, with_scr}
 use Rattle.host.specs.declared.host.Sdmmc.{Sdmmc}
 use Rattle.step.specs.declared.ready.Bus.{Bus}
-use Rattle.step.specs.declared.reset.ResetStep.{ResetStep}
-use Rattle.step.specs.declared.reset.ResetStep.TheVariants as ReS
 use Rattle.step.specs.declared.phase.Phase.{Phase}
 use Rattle.step.specs.declared.phase.Phase.TheVariants as P
 use Rattle.step.specs.Command.{command_plan, list_of}
@@ -54,6 +52,7 @@ use Rattle.stepping.specs.declared.call.Waiting.{Waiting}
 use Rattle.stepping.specs.declared.call.Waiting.TheVariants as W
 use Rattle.stepping.specs.declared.call.Writes.{Writes}
 use Rattle.stepping.specs.declared.call.Writes.TheVariants as R
+use Rattle.step.specs.declared.reset.Reset.{Reset}
 
 -- the record of a card that said this of itself, its SCR not read yet
 abbrev pub card_by : Known → Card
@@ -125,13 +124,13 @@ line_set k (R.Settle v) h = h
 line_set k (R.Close r why) h = h
 
 -- after a row of the first reset, and of the guard's
-unfoldable pub reset_on : ResetStep → Follow
-reset_on (ReS.At r) = F.Tells (R.Reset r)
-reset_on ReS.Done = F.Idles C.Initial
+unfoldable pub reset_on : Option Reset → Follow
+reset_on (Some r) = F.Tells (R.Reset r)
+reset_on None = F.Idles C.Initial
 
-unfoldable pub close_on : ResetStep → Why → Follow
-close_on (ReS.At r) why = F.Tells (R.Close r why)
-close_on ReS.Done why = F.Over (Z.Dropping why)
+unfoldable pub close_on : Option Reset → Why → Follow
+close_on (Some r) why = F.Tells (R.Close r why)
+close_on None why = F.Over (Z.Dropping why)
 
 module _ (j : Job) where
   abbrev initial : Clock

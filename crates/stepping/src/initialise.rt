@@ -21,7 +21,7 @@ use init::identify::Ocr;
 use init::speed::Switch;
 use init::{begin, identify, speed};
 use step::command::Words;
-use step::reset::ResetStep;
+use step::reset::Reset;
 use step::why::Why;
 use types::clock::{Clock, Hertz, clock_setting};
 use types::error::{Error, Field};
@@ -447,21 +447,21 @@ impl Job {
 }
 
 // After a row of the first reset: the next one, or the idle wait.
-fn reset_on(step: ResetStep) -> Follow
+fn reset_on(step: Option<Reset>) -> Follow
     ensures { result ≡ reset_on step }
 {
     match step {
-        ResetStep::At(reset) => Follow::Tells(Writes::Reset(reset)),
-        ResetStep::Done => Follow::Idles(Change::Initial),
+        Some(reset) => Follow::Tells(Writes::Reset(reset)),
+        None => Follow::Idles(Change::Initial),
     }
 }
 
 // After a row of the guard's reset: the next one, or the end.
-fn close_on(step: ResetStep, why: Why) -> Follow
+fn close_on(step: Option<Reset>, why: Why) -> Follow
     ensures { result ≡ close_on step why }
 {
     match step {
-        ResetStep::At(reset) => Follow::Tells(Writes::Close(reset, why)),
-        ResetStep::Done => Follow::Over(End::Dropping(why)),
+        Some(reset) => Follow::Tells(Writes::Close(reset, why)),
+        None => Follow::Over(End::Dropping(why)),
     }
 }

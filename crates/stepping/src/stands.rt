@@ -17,11 +17,11 @@ use crate::call::{
 };
 use bus::response::Response;
 use init::identify;
-use step::command::{Begun, Command, CommandStep, Ended, Words};
-use step::ready::{ReadyStep, Waits};
+use step::command::{Command, Words};
+use step::ready::Ready;
 use step::reset::Reset;
-use step::transfer::DataStep;
-use step::why::Why;
+use step::transfer::Data;
+use step::why::{Step, Why};
 use tape::progress::Line;
 use tape::script::Sta;
 use types::card::CardCapacity;
@@ -105,8 +105,8 @@ impl Job {
         let limit = self.host.settings.config.poll_limit;
         let begun = Command::begin(limit, index, argument, response, gated);
         match begun {
-            Begun::On(command) => At::Command(Site::Init(sent), command),
-            Begun::Spent => self.closes(known, Why::Failed(Error::SoftwareTimeout)),
+            Some(command) => At::Command(Site::Init(sent), command),
+            None => self.closes(known, Why::Failed(Error::SoftwareTimeout)),
         }
     }
 
@@ -117,8 +117,8 @@ impl Job {
         let bus = self.bus(self.wait_rca(known, waiting));
         let begun = bus.wait_ready(gated);
         match begun {
-            Waits::On(ready) => At::Ready(waiting, ready),
-            Waits::Spent => match waiting {
+            Some(ready) => At::Ready(waiting, ready),
+            None => match waiting {
                 Waiting::Blocks => At::Over(End::Keeping(Why::Failed(Error::SoftwareTimeout))),
                 Waiting::Selected => self.closes(known, Why::Failed(Error::SoftwareTimeout)),
             },
@@ -180,30 +180,34 @@ impl Job {
     }
 
     // A command after an answer.
-    pub fn commanded(self, known: Known, gated: bool, site: Site, step: CommandStep) -> Stand
+    pub fn commanded(
+        self,
+        known: Known,
+        gated: bool,
+        site: Site,
+        step: Step<Command, Words>,
+    ) -> Stand
         ensures { (held : List ℕ) (g : Lent) (h : Line) → h.gated ≡ gated → stand_next self held g result h ≡ plug_next (site_of self known g.sent site) (command_next step h) }
     {
         match step {
-            CommandStep::On(command) => known.at(At::Command(site, command)),
-            CommandStep::Over(ended) => match ended {
-                Ended::Well(words) => self.follows(gated, self.answered(known, site, words)),
-                Ended::Badly(why) => self.follows(gated, self.refused(known, site, why)),
+            Step::On(command) => known.at(At::Command(site, command)),
+            Step::Over(ended) => match ended {
+                Ok(words) => self.follows(gated, self.answered(known, site, words)),
+                Err(why) => self.follows(gated, self.refused(known, site, why)),
             },
         }
     }
 
     // A ready wait after an answer.
-    pub fn waited(self, known: Known, gated: bool, waiting: Waiting, step: ReadyStep) -> Stand
+    pub fn waited(self, known: Known, gated: bool, waiting: Waiting, step: Step<Ready, ()>) -> Stand
         ensures { (held : List ℕ) (g : Lent) (h : Line) → h.gated ≡ gated → stand_next self held g result h ≡ plug_next (wait_site self known g.sent waiting) (ready_next (bus_with self (wait_rca self known waiting)) step h) }
     {
         match step {
-            ReadyStep::On(ready) => known.at(At::Ready(waiting, ready)),
-            ReadyStep::Done => known.at(self.stands(known, gated, self.readied(known, waiting))),
-            ReadyStep::Failed(why) => known.at(self.stands(
-                known,
-                gated,
-                self.unready(known, waiting, why),
-            )),
+            Step::On(ready) => known.at(At::Ready(waiting, ready)),
+            Step::Over(ended) => match ended {
+                Ok(()) => known.at(self.stands(known, gated, self.readied(known, waiting))),
+                Err(why) => known.at(self.stands(known, gated, self.unready(known, waiting, why))),
+            },
         }
     }
 
@@ -214,19 +218,17 @@ impl Job {
         held: [u32; 16],
         line: Line,
         gets: Gets,
-        step: DataStep,
+        step: Step<Data, ()>,
     ) -> Stand
         ensures { (g : Lent) → stand_next self held g result line ≡ plug_next (gets_site self known gets) (data_next (bus_with self (rca_of self known gets)) (phase_of self.asked gets) (words_in self gets held g) step line) }
     {
         let clock = line.clock;
         match step {
-            DataStep::On(part) => known.at(At::Data(gets, part)),
-            DataStep::Done => self.follows(line.gated, self.got(known, held, gets, clock)),
-            DataStep::Failed(why) => known.at(self.stands(
-                known,
-                line.gated,
-                self.lost(known, gets, why),
-            )),
+            Step::On(part) => known.at(At::Data(gets, part)),
+            Step::Over(ended) => match ended {
+                Ok(()) => self.follows(line.gated, self.got(known, held, gets, clock)),
+                Err(why) => known.at(self.stands(known, line.gated, self.lost(known, gets, why))),
+            },
         }
     }
 

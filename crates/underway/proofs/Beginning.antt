@@ -1,5 +1,5 @@
 -- A call at its start: what is ahead of it there is its one plan.
-use Rattle.std.specs.Prelude.{Result, Ok, Err}
+use Rattle.std.specs.Prelude.{Result, Ok, Err, Some, None}
 use Prim.Native.Nat.{ℕ, ◌*◌, ◌/◌, ◌^◌, ◌≤◌}
 use mathlib.Core.Path.{◌≡◌, refl, ap, sym, ◌∙◌}
 use mathlib.Core.Bool.{Bool, true, false, cond}
@@ -20,7 +20,6 @@ use Rattle.bus.specs.Transfer.{Buffer, incoming, outgoing}
 use Rattle.host.specs.declared.host.Sdmmc.{Sdmmc}
 use Rattle.host.specs.Calls.{fresh_line, blocks_judged, sends}
 use Rattle.host.proofs.Ran.{judged-good}
-use Rattle.step.specs.declared.command.Begun.TheVariants as B
 use Rattle.step.specs.declared.command.Command.{Command}
 use Rattle.step.specs.declared.reset.Reset.TheVariants as Re
 use Rattle.step.specs.Command.{begun_plan, begun_next}
@@ -91,7 +90,7 @@ module _ (j : Job) (k : Known) (held : List ℕ) (g : Lent) (h : Line) where
     begins : next (plug (site_of j k g.sent T.App) (begun_plan limit 55 argument R1 gated)) h ≡ next (plug (site_of j k g.sent T.App) (command limit 55 argument R1)) h
     begins = same-plug (site_of j k g.sent T.App) _ _ h (parts.begins limit 55 argument R1 gated h (sym gate))
 
-    pub app-on : (c : Command) → begun_next (B.On c) h ≡ next (begun_plan limit 55 argument R1 gated) h
+    pub app-on : (c : Command) → begun_next (Some c) h ≡ next (begun_plan limit 55 argument R1 gated) h
         → next (at_plan j k held g (A.Command T.App c)) h ≡ next (plug (site_of j k g.sent T.App) (command limit 55 argument R1)) h
     unfolding at_plan begun_next
     app-on c e = same-plug (site_of j k g.sent T.App) _ _ h e ∙ begins
@@ -100,7 +99,7 @@ module _ (j : Job) (k : Known) (held : List ℕ) (g : Lent) (h : Line) where
     unfolding at_plan end_plan site_of handle plug
     app-failed = refl
 
-    pub app-spent : begun_next B.Spent h ≡ next (begun_plan limit 55 argument R1 gated) h
+    pub app-spent : begun_next None h ≡ next (begun_plan limit 55 argument R1 gated) h
         → next (at_plan j k held g (A.Over (Z.Keeping (Y.Failed E.SoftwareTimeout)))) h ≡ next (plug (site_of j k g.sent T.App) (command limit 55 argument R1)) h
     unfolding begun_next
     app-spent e = app-failed ∙ same-plug (site_of j k g.sent T.App) (fail E.SoftwareTimeout) (begun_plan limit 55 argument R1 gated) h e ∙ begins

@@ -1,4 +1,5 @@
 -- What a call has come to, by whether it is over.
+use Rattle.std.specs.Prelude.{Some, None}
 use Prim.Native.Nat.{ℕ}
 use mathlib.Core.Path.{◌≡◌, refl, ap, sym}
 use mathlib.Core.Bool.{true}
@@ -23,13 +24,11 @@ use Rattle.stepping.specs.declared.call.Known.{Known}
 use Rattle.underway.specs.Under.{under, ends_at, closed_at, closed_of}
 use Rattle.underway.specs.declared.call.Call.{Call}
 use Rattle.underway.specs.declared.call.Closed.{Closed}
-use Rattle.underway.specs.declared.call.Outcome.TheVariants as O
-use Rattle.underway.specs.declared.ends.Ends.TheVariants as Z
 use Rattle.underway.proofs.Rowing.{idle-waits, row-waits}
 
 module _ (j : Job) (k : Known) (h : Line) (held : List ℕ) (g : Lent) where
   -- a call that is not over waits
-  at-waits : (at : At) → ends_at at ≡ Z.Not → waits (next (at_plan j k held g at) h) ≡ true
+  at-waits : (at : At) → ends_at at ≡ None → waits (next (at_plan j k held g at) h) ≡ true
   unfolding at_plan ends_at
   at-waits (A.Command s c) e = inside-waits (site_of j k g.sent s) (command_plan c) h (command-waits c h)
   at-waits (A.Ready t r) e =
@@ -41,7 +40,7 @@ module _ (j : Job) (k : Known) (h : Line) (held : List ℕ) (g : Lent) where
   at-waits (A.Tells t) e = row-waits j k h t
   at-waits (A.Over x) e = cc
 
-  at-ends : (at : At) (x : End) → ends_at at ≡ Z.Over x → next (end_plan j k (words_in j G.Asked held g) x) h ≡ next (at_plan j k held g at) h
+  at-ends : (at : At) (x : End) → ends_at at ≡ Some x → next (end_plan j k (words_in j G.Asked held g) x) h ≡ next (at_plan j k held g at) h
   unfolding at_plan ends_at
   at-ends (A.Command s c) x e = cc
   at-ends (A.Ready t r) x e = cc
@@ -51,7 +50,7 @@ module _ (j : Job) (k : Known) (h : Line) (held : List ℕ) (g : Lent) where
   at-ends (A.Over y) x e = let same : y ≡ x = cc in ap (λ (z : End). next (end_plan j k (words_in j G.Asked held g) z) h) (sym same)
 
 closed-waits : (host : Sdmmc) (x : Next Closing) → waits x ≡ true
-    → ◌≡◌ {A = Closed} (record { outcome = O.Not; host = host }) (closed_at host x)
+    → ◌≡◌ {A = Closed} (record { outcome = None; host = host }) (closed_at host x)
 unfolding waits
 closed-waits host (asks h r f z) e = refl
 closed-waits host (tells h r p) e = refl
@@ -59,11 +58,11 @@ closed-waits host (over h a) e = cc
 closed-waits host (refused h c) e = cc
 
 module _ (c : Call) (g : Lent) where
-  pub closed-over : (x : End) → ends_at c.at ≡ Z.Over x
+  pub closed-over : (x : End) → ends_at c.at ≡ Some x
       → closed_at c.job.host (next (end_plan c.job c.known (words_in c.job G.Asked c.held g) x) c.line) ≡ closed_of (under g c)
   unfolding closed_of
   closed-over x e = ap (closed_at c.job.host) (at-ends c.job c.known c.line c.held g c.at x e)
 
-  pub closed-under : ends_at c.at ≡ Z.Not → ◌≡◌ {A = Closed} (record { outcome = O.Not; host = c.job.host }) (closed_of (under g c))
+  pub closed-under : ends_at c.at ≡ None → ◌≡◌ {A = Closed} (record { outcome = None; host = c.job.host }) (closed_of (under g c))
   unfolding closed_of
   closed-under e = closed-waits c.job.host (under g c).ahead (at-waits c.job c.known c.line c.held g c.at e)

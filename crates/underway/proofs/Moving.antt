@@ -13,14 +13,12 @@ use Rattle.tape.specs.Run.{noted}
 use Rattle.tape.specs.Steps.{word, wait_idle, data_from}
 use Rattle.bus.specs.Transfer.{data_complete, poll_transfer, settle}
 use Rattle.step.specs.declared.command.Command.{Command}
-use Rattle.step.specs.declared.command.CommandStep.{CommandStep}
+use Rattle.step.specs.declared.why.Step.{Step}
 use Rattle.step.specs.declared.ready.Bus.{Bus}
 use Rattle.step.specs.declared.ready.Ready.{Ready}
 use Rattle.step.specs.declared.ready.Ready.TheVariants as R
-use Rattle.step.specs.declared.ready.ReadyStep.{ReadyStep}
 use Rattle.step.specs.declared.transfer.Data.{Data}
 use Rattle.step.specs.declared.transfer.Data.TheVariants as D
-use Rattle.step.specs.declared.transfer.DataStep.{DataStep}
 use Rattle.step.specs.declared.phase.Phase.{Phase}
 use Rattle.step.specs.declared.transfer.Reads.{Reads}
 use Rattle.step.specs.declared.transfer.Reads.TheVariants as Re
@@ -50,6 +48,7 @@ use Rattle.underway.specs.Under.{Under, under, written}
 use Rattle.underway.specs.declared.call.Call.{Call}
 use Rattle.underway.proofs.Lines as Lines
 use Rattle.underway.proofs.Rowing.{idle-held, row-held, end-held, end_wants}
+use Rattle.step.specs.declared.command.Words.{Words}
 
 -- a row changes nothing of the clock's gate
 module _ (bus : Bus) (h : Line) where
@@ -96,17 +95,17 @@ module _ (j : Job) (k : Known) (h : Line) (held : List ℕ) (g : Lent) where
     unfolding at_plan
     command_wants v e = ap (filled_in g.sent) e ∙ filled_want g.sent _ ∙ inside_wants (site_of j k g.sent s) (command_plan c) h (command-waits c h)
 
-    pub command-heard : (x : CommandStep) (w : ℕ) → command_next x h ≡ heard (next (command_plan c) h) w
+    pub command-heard : (x : Step Command Words) (w : ℕ) → command_next x h ≡ heard (next (command_plan c) h) w
         → plug_next (site_of j k g.sent s) (command_next x h) ≡ heard command w
     unfolding at_plan
     command-heard x w e = ap (plug_next (site_of j k g.sent s)) e ∙ inside-heard (site_of j k g.sent s) (command_plan c) h (command-waits c h) w
 
-    pub command-missed : (x : CommandStep) → command_next x h ≡ missed (next (command_plan c) h)
+    pub command-missed : (x : Step Command Words) → command_next x h ≡ missed (next (command_plan c) h)
         → plug_next (site_of j k g.sent s) (command_next x h) ≡ missed command
     unfolding at_plan
     command-missed x e = ap (plug_next (site_of j k g.sent s)) e ∙ inside-missed (site_of j k g.sent s) (command_plan c) h (command-waits c h)
 
-    pub command-moved : (x : CommandStep) (l : Line) → l ≡ line_after command
+    pub command-moved : (x : Step Command Words) (l : Line) → l ≡ line_after command
         → command_next x (line_after (next (command_plan c) h)) ≡ told (next (command_plan c) h)
         → plug_next (site_of j k g.sent s) (command_next x l) ≡ told command
     unfolding at_plan
@@ -124,17 +123,17 @@ module _ (j : Job) (k : Known) (h : Line) (held : List ℕ) (g : Lent) where
     unfolding at_plan
     ready_wants v e = ap (filled_in g.sent) e ∙ filled_want g.sent _ ∙ inside_wants (wait_site j k g.sent t) (ready_plan bus r) h (ready-waits bus h r)
 
-    pub ready-heard : (x : ReadyStep) (w : ℕ) → ready_next bus x h ≡ heard (next (ready_plan bus r) h) w
+    pub ready-heard : (x : Step Ready (Unit {0})) (w : ℕ) → ready_next bus x h ≡ heard (next (ready_plan bus r) h) w
         → plug_next (wait_site j k g.sent t) (ready_next bus x h) ≡ heard ready w
     unfolding at_plan
     ready-heard x w e = ap (plug_next (wait_site j k g.sent t)) e ∙ inside-heard (wait_site j k g.sent t) (ready_plan bus r) h (ready-waits bus h r) w
 
-    pub ready-missed : (x : ReadyStep) → ready_next bus x h ≡ missed (next (ready_plan bus r) h)
+    pub ready-missed : (x : Step Ready (Unit {0})) → ready_next bus x h ≡ missed (next (ready_plan bus r) h)
         → plug_next (wait_site j k g.sent t) (ready_next bus x h) ≡ missed ready
     unfolding at_plan
     ready-missed x e = ap (plug_next (wait_site j k g.sent t)) e ∙ inside-missed (wait_site j k g.sent t) (ready_plan bus r) h (ready-waits bus h r)
 
-    pub ready_moved : (x : ReadyStep) (l : Line) → l ≡ line_after ready
+    pub ready_moved : (x : Step Ready (Unit {0})) (l : Line) → l ≡ line_after ready
         → ((h : Line) → h.gated ≡ l.gated → ready_next bus x (line_after (next (ready_plan bus r) h)) ≡ told (next (ready_plan bus r) h))
         → plug_next (wait_site j k g.sent t) (ready_next bus x l) ≡ told ready
     unfolding at_plan
@@ -174,7 +173,7 @@ module _ (j : Job) (k : Known) (h : Line) (held : List ℕ) (g : Lent) where
         (Lines.data_hands line phase words h d w g g'
         (Lines.inside_hands (gets_site j k gets) (data_plan line phase words d) h w g g' waiting e))
 
-    pub data_heard : (x : DataStep) (held' : List ℕ) (g' : Lent) (w : ℕ)
+    pub data_heard : (x : Step Data (Unit {0})) (held' : List ℕ) (g' : Lent) (w : ℕ)
         → ((ws ws' : Lent) → HandedAt phase d w ws ws' → data_next line phase ws' x h ≡ heard (next (data_plan line phase ws d) h) w)
         → HandedAt phase d w words (words_in j gets held' g')
         → plug_next (gets_site j k gets) (data_next line phase (words_in j gets held' g') x h) ≡ heard data' w
@@ -183,12 +182,12 @@ module _ (j : Job) (k : Known) (h : Line) (held : List ℕ) (g : Lent) where
         ap (plug_next (gets_site j k gets)) (goes words (words_in j gets held' g') more)
         ∙ inside-heard (gets_site j k gets) (data_plan line phase words d) h waiting w
 
-    pub data_missed : (x : DataStep) → ((ws : Lent) → data_next line phase ws x h ≡ missed (next (data_plan line phase ws d) h))
+    pub data_missed : (x : Step Data (Unit {0})) → ((ws : Lent) → data_next line phase ws x h ≡ missed (next (data_plan line phase ws d) h))
         → plug_next (gets_site j k gets) (data_next line phase words x h) ≡ missed data'
     unfolding at_plan
     data_missed x goes = ap (plug_next (gets_site j k gets)) (goes words) ∙ inside-missed (gets_site j k gets) (data_plan line phase words d) h waiting
 
-    pub data_moved : (x : DataStep) (l : Line) → l ≡ line_after data'
+    pub data_moved : (x : Step Data (Unit {0})) (l : Line) → l ≡ line_after data'
         → ((ws : Lent) (h : Line) → h.gated ≡ l.gated → data_next line phase ws x (line_after (next (data_plan line phase ws d) h)) ≡ told (next (data_plan line phase ws d) h))
         → plug_next (gets_site j k gets) (data_next line phase words x l) ≡ told data'
     unfolding at_plan

@@ -1,5 +1,5 @@
 -- A call under way, told by the host before it and by what is ahead of it: its next reading, its next row, or its end.
-use Rattle.std.specs.Prelude.{ℕ, List, ◌≡◌}
+use Rattle.std.specs.Prelude.{ℕ, List, ◌≡◌, Option, Some, None}
 use Rattle.tape.specs.declared.progress.Line.{Line}
 use Rattle.host.specs.declared.host.Sdmmc.{Sdmmc}
 use Rattle.host.specs.Calls.{answer_for}
@@ -14,9 +14,7 @@ use Rattle.stepping.specs.declared.call.Gets.TheVariants as G
 use Rattle.stepping.specs.declared.call.Known.{Known}
 use Rattle.underway.specs.declared.call.Call.{Call}
 use Rattle.underway.specs.declared.call.Closed.{Closed}
-use Rattle.underway.specs.declared.call.Outcome.TheVariants as O
-use Rattle.underway.specs.declared.ends.Ends.{Ends}
-use Rattle.underway.specs.declared.ends.Ends.TheVariants as Z
+use Rattle.stepping.specs.declared.call.End.{End}
 
 pub record Under : Type 0 where
   pub before : Sdmmc
@@ -38,10 +36,10 @@ written u = record { before = u.before; ahead = told u.ahead }
 
 -- what it has come to: its answer and the next host, once it is over
 abbrev pub closed_at : Sdmmc → Next Closing → Closed
-closed_at host (over h c) = record { outcome = O.Over c.answer; host = c.host }
-closed_at host (refused h c) = record { outcome = O.Over (answer_for c); host = host }
-closed_at host (asks h r k z) = record { outcome = O.Not; host = host }
-closed_at host (tells h r p) = record { outcome = O.Not; host = host }
+closed_at host (over h c) = record { outcome = Some c.answer; host = c.host }
+closed_at host (refused h c) = record { outcome = Some (answer_for c); host = host }
+closed_at host (asks h r k z) = record { outcome = None; host = host }
+closed_at host (tells h r p) = record { outcome = None; host = host }
 
 unfoldable pub closed_of : Under → Closed
 closed_of u = closed_at u.before u.ahead
@@ -74,10 +72,10 @@ line_at k (A.Tells t) h = line_set k t h
 line_at k (A.Over e) h = h
 
 -- whether it is over
-unfoldable pub ends_at : At → Ends
-ends_at (A.Command s c) = Z.Not
-ends_at (A.Ready t r) = Z.Not
-ends_at (A.Data gets d) = Z.Not
-ends_at (A.Idle c n) = Z.Not
-ends_at (A.Tells t) = Z.Not
-ends_at (A.Over e) = Z.Over e
+unfoldable pub ends_at : At → Option End
+ends_at (A.Command s c) = None
+ends_at (A.Ready t r) = None
+ends_at (A.Data gets d) = None
+ends_at (A.Idle c n) = None
+ends_at (A.Tells t) = None
+ends_at (A.Over e) = Some e

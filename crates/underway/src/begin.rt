@@ -14,7 +14,7 @@ ghost use Rattle.underway.specs.First.{first_plan, asked_by, line_by};
 use crate::call::Call;
 use bus::response::Response;
 use host::host::{Sdmmc, fresh_line};
-use step::command::{Begun, Command, Words};
+use step::command::{Command, Words};
 use step::reset::Reset;
 use step::why::Why;
 use stepping::call::{Asked, At, End, Job, Known, Site, Waiting, Writes};
@@ -139,8 +139,8 @@ fn app(limit: u32, rca: u16, gated: bool) -> At
 {
     let begun = Command::begin(limit, 55, rca as u32 * 0x1_0000, Response::R1, gated);
     match begun {
-        Begun::On(command) => At::Command(Site::App, command),
-        Begun::Spent => At::Over(End::Keeping(Why::Failed(Error::SoftwareTimeout))),
+        Some(command) => At::Command(Site::App, command),
+        None => At::Over(End::Keeping(Why::Failed(Error::SoftwareTimeout))),
     }
 }
 

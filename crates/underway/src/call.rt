@@ -15,16 +15,9 @@ pub struct Call {
     pub at: At,
 }
 
-// Whether a call is over, and with which answer.
-#[derive(Clone, Copy)]
-pub enum Outcome {
-    Over(Answer),
-    Not,
-}
-
 // What a call has come to: its answer and the next host, once it is over; until then the host is the one before it.
 #[derive(Clone, Copy)]
 pub struct Closed {
-    pub outcome: Outcome,
+    pub outcome: Option<Answer>,
     pub host: Sdmmc,
 }

@@ -8,7 +8,7 @@ ghost use Rattle.step.specs.Why.{cause_of};
 ghost use Rattle.stepping.specs.Ahead.{phase_by, host_by, words_in, end_plan};
 ghost use Rattle.underway.specs.Under.{under, ends_at, closed_at, closed_of};
 
-use crate::call::{Call, Closed, Outcome};
+use crate::call::{Call, Closed};
 use host::calls;
 use host::host::Sdmmc;
 use init::identify;
@@ -51,10 +51,10 @@ fn answer_for(why: Why) -> Answer
 }
 
 fn closes(answer: Answer, host: Sdmmc) -> Closed
-    ensures { result ≡ record { outcome = Outcome.Over answer; host = host } }
+    ensures { result ≡ record { outcome = Some answer; host = host } }
 {
     Closed {
-        outcome: Outcome::Over(answer),
+        outcome: Some(answer),
         host: host,
     }
 }
@@ -73,23 +73,17 @@ fn ended(job: Job, known: Known, held: [u32; 16], line: Line, end: End) -> Close
     }
 }
 
-// Whether a call is over, and how it ended.
-#[derive(Clone, Copy)]
-pub enum Ends {
-    Over(End),
-    Not,
-}
-
-fn end_of(at: At) -> Ends
+// How a call ended, once it is over.
+fn end_of(at: At) -> Option<End>
     ensures { result ≡ ends_at at }
 {
     match at {
-        At::Command(_, _) => Ends::Not,
-        At::Ready(_, _) => Ends::Not,
-        At::Data(_, _) => Ends::Not,
-        At::Idle(_, _) => Ends::Not,
-        At::Tells(_) => Ends::Not,
-        At::Over(end) => Ends::Over(end),
+        At::Command(_, _) => None,
+        At::Ready(_, _) => None,
+        At::Data(_, _) => None,
+        At::Idle(_, _) => None,
+        At::Tells(_) => None,
+        At::Over(end) => Some(end),
     }
 }
 
@@ -104,9 +98,9 @@ impl Call {
         let line = self.line;
         let at = self.at;
         match end_of(at) {
-            Ends::Over(end) => ended(job, self.known, held, line, end),
-            Ends::Not => Closed {
-                outcome: Outcome::Not,
+            Some(end) => ended(job, self.known, held, line, end),
+            None => Closed {
+                outcome: None,
                 host: host,
             },
         }

@@ -1,4 +1,5 @@
 -- A line for each public function of `step`.
+use Rattle.std.specs.Prelude.{Option, Some, None}
 use Prim.Native.Nat.{ℕ, zero, suc}
 use mathlib.Core.List.{List, [], ◌∷◌}
 use mathlib.Core.Path.{◌≡◌, refl, ap, sym, ◌∙◌}
@@ -9,14 +10,8 @@ use Rattle.tape.specs.declared.rows.Row.{Row}
 use Rattle.tape.specs.Plan.{Nothing}
 use Rattle.bus.specs.declared.transfer.Transfer.{Transfer}
 use Rattle.step.specs.declared.arm.Arm.TheVariants as A
-use Rattle.step.specs.declared.arm.ArmStep.{ArmStep}
-use Rattle.step.specs.declared.arm.ArmStep.TheVariants as AS
 use Rattle.step.specs.declared.arm.Stop.TheVariants as S
-use Rattle.step.specs.declared.arm.StopStep.{StopStep}
-use Rattle.step.specs.declared.arm.StopStep.TheVariants as SS
 use Rattle.step.specs.declared.reset.Reset.TheVariants as R
-use Rattle.step.specs.declared.reset.ResetStep.{ResetStep}
-use Rattle.step.specs.declared.reset.ResetStep.TheVariants as RS
 use Rattle.step.specs.Arm.{arm_rest, arm_next, stop_rest, stop_next}
 use Rattle.step.specs.Command.{begun_next, command_next, command_plan}
 use Rattle.step.specs.declared.wants.Wants.{Wants}
@@ -34,6 +29,9 @@ use Rattle.step.proofs.reset
 use Rattle.step.proofs.transfer
 use Rattle.unique.specs.Unique.{Unique, UniqueIn}
 use Rattle.unique.proofs.Determined.{determined, part-determined}
+use Rattle.step.specs.declared.reset.Reset.{Reset}
+use Rattle.step.specs.declared.arm.Arm.{Arm}
+use Rattle.step.specs.declared.arm.Stop.{Stop}
 
 arm-arm-row : Unique arm.Arm.row.Kinds.ps arm.Arm.row.Kinds.r arm.Arm.row.Reads.Learnt
 arm-arm-row = determined _ λ _ _ _ p. p
@@ -138,70 +136,70 @@ none = record { index = 0; argument = 0; block_size = 0; words = 0 }
 
 -- After a row: which one comes next is told by how many are left.
 
-abbrev arm_at : List Row → ArmStep
-arm_at [] = AS.Done
-arm_at (_ ∷ []) = AS.At A.Dlen
-arm_at (_ ∷ _ ∷ []) = AS.At A.Dtimer
-arm_at (_ ∷ _ ∷ _ ∷ []) = AS.At A.Icr
-arm_at (_ ∷ _ ∷ _ ∷ _ ∷ []) = AS.At A.Off
-arm_at (_ ∷ _ ∷ _ ∷ _ ∷ _ ∷ []) = AS.At A.Mask
-arm_at (_ ∷ _ ∷ _ ∷ _ ∷ _ ∷ _ ∷ _) = AS.At A.Dctrl2
+abbrev arm_at : List Row → Option Arm
+arm_at [] = None
+arm_at (_ ∷ []) = Some A.Dlen
+arm_at (_ ∷ _ ∷ []) = Some A.Dtimer
+arm_at (_ ∷ _ ∷ _ ∷ []) = Some A.Icr
+arm_at (_ ∷ _ ∷ _ ∷ _ ∷ []) = Some A.Off
+arm_at (_ ∷ _ ∷ _ ∷ _ ∷ _ ∷ []) = Some A.Mask
+arm_at (_ ∷ _ ∷ _ ∷ _ ∷ _ ∷ _ ∷ _) = Some A.Dctrl2
 
-arm-told : (timeout : ℕ) (transfer : Transfer) (s : ArmStep) → s ≡ arm_at (arm_next timeout transfer s)
+arm-told : (timeout : ℕ) (transfer : Transfer) (s : Option Arm) → s ≡ arm_at (arm_next timeout transfer s)
 unfolding arm_next arm_rest
-arm-told timeout transfer (AS.At A.Dctrl2) = refl
-arm-told timeout transfer (AS.At A.Mask) = refl
-arm-told timeout transfer (AS.At A.Off) = refl
-arm-told timeout transfer (AS.At A.Icr) = refl
-arm-told timeout transfer (AS.At A.Dtimer) = refl
-arm-told timeout transfer (AS.At A.Dlen) = refl
-arm-told timeout transfer AS.Done = refl
+arm-told timeout transfer (Some A.Dctrl2) = refl
+arm-told timeout transfer (Some A.Mask) = refl
+arm-told timeout transfer (Some A.Off) = refl
+arm-told timeout transfer (Some A.Icr) = refl
+arm-told timeout transfer (Some A.Dtimer) = refl
+arm-told timeout transfer (Some A.Dlen) = refl
+arm-told timeout transfer None = refl
 
 arm-arm-after : Unique arm.Arm.after.Kinds.ps arm.Arm.after.Kinds.r arm.Arm.after.Reads.Learnt
 arm-arm-after = determined _ λ _ _ x p. arm-told 0 none x.0 ∙ ap arm_at (p 0 none)
 
-abbrev stop_at : List Row → StopStep
-stop_at [] = SS.Done
-stop_at (_ ∷ []) = SS.At S.Icr
-stop_at (_ ∷ _ ∷ []) = SS.At S.Dctrl
-stop_at (_ ∷ _ ∷ _ ∷ _) = SS.At S.Mask
+abbrev stop_at : List Row → Option Stop
+stop_at [] = None
+stop_at (_ ∷ []) = Some S.Icr
+stop_at (_ ∷ _ ∷ []) = Some S.Dctrl
+stop_at (_ ∷ _ ∷ _ ∷ _) = Some S.Mask
 
-stop_told : (s : StopStep) → s ≡ stop_at (stop_next s)
+stop_told : (s : Option Stop) → s ≡ stop_at (stop_next s)
 unfolding stop_next stop_rest
-stop_told (SS.At S.Mask) = refl
-stop_told (SS.At S.Dctrl) = refl
-stop_told (SS.At S.Icr) = refl
-stop_told SS.Done = refl
+stop_told (Some S.Mask) = refl
+stop_told (Some S.Dctrl) = refl
+stop_told (Some S.Icr) = refl
+stop_told None = refl
 
 arm_stop_after : Unique arm.Stop.after.Kinds.ps arm.Stop.after.Kinds.r arm.Stop.after.Reads.Learnt
 arm_stop_after = determined _ λ _ _ x p. stop_told x.0 ∙ ap stop_at p
 
-abbrev reset_at : List Row → ResetStep
-reset_at [] = RS.Done
-reset_at (_ ∷ []) = RS.At R.Icr
-reset_at (_ ∷ _ ∷ []) = RS.At R.Dlen
-reset_at (_ ∷ _ ∷ _ ∷ []) = RS.At R.Dtimer
-reset_at (_ ∷ _ ∷ _ ∷ _ ∷ []) = RS.At R.Arg
-reset_at (_ ∷ _ ∷ _ ∷ _ ∷ _ ∷ []) = RS.At R.Clkcr
-reset_at (_ ∷ _ ∷ _ ∷ _ ∷ _ ∷ _ ∷ []) = RS.At R.Power
-reset_at (_ ∷ _ ∷ _ ∷ _ ∷ _ ∷ _ ∷ _ ∷ []) = RS.At R.Cmd
-reset_at (_ ∷ _ ∷ _ ∷ _ ∷ _ ∷ _ ∷ _ ∷ _ ∷ []) = RS.At R.Dctrl
-reset_at (_ ∷ _ ∷ _ ∷ _ ∷ _ ∷ _ ∷ _ ∷ _ ∷ _ ∷ []) = RS.At R.Dctrl2
-reset_at (_ ∷ _ ∷ _ ∷ _ ∷ _ ∷ _ ∷ _ ∷ _ ∷ _ ∷ _ ∷ _) = RS.At R.Mask
+abbrev reset_at : List Row → Option Reset
+reset_at [] = None
+reset_at (_ ∷ []) = Some R.Icr
+reset_at (_ ∷ _ ∷ []) = Some R.Dlen
+reset_at (_ ∷ _ ∷ _ ∷ []) = Some R.Dtimer
+reset_at (_ ∷ _ ∷ _ ∷ _ ∷ []) = Some R.Arg
+reset_at (_ ∷ _ ∷ _ ∷ _ ∷ _ ∷ []) = Some R.Clkcr
+reset_at (_ ∷ _ ∷ _ ∷ _ ∷ _ ∷ _ ∷ []) = Some R.Power
+reset_at (_ ∷ _ ∷ _ ∷ _ ∷ _ ∷ _ ∷ _ ∷ []) = Some R.Cmd
+reset_at (_ ∷ _ ∷ _ ∷ _ ∷ _ ∷ _ ∷ _ ∷ _ ∷ []) = Some R.Dctrl
+reset_at (_ ∷ _ ∷ _ ∷ _ ∷ _ ∷ _ ∷ _ ∷ _ ∷ _ ∷ []) = Some R.Dctrl2
+reset_at (_ ∷ _ ∷ _ ∷ _ ∷ _ ∷ _ ∷ _ ∷ _ ∷ _ ∷ _ ∷ _) = Some R.Mask
 
-reset-told : (s : ResetStep) → s ≡ reset_at (step_left s)
+reset-told : (s : Option Reset) → s ≡ reset_at (step_left s)
 unfolding step_left rest_left
-reset-told (RS.At R.Mask) = refl
-reset-told (RS.At R.Dctrl2) = refl
-reset-told (RS.At R.Dctrl) = refl
-reset-told (RS.At R.Cmd) = refl
-reset-told (RS.At R.Power) = refl
-reset-told (RS.At R.Clkcr) = refl
-reset-told (RS.At R.Arg) = refl
-reset-told (RS.At R.Dtimer) = refl
-reset-told (RS.At R.Dlen) = refl
-reset-told (RS.At R.Icr) = refl
-reset-told RS.Done = refl
+reset-told (Some R.Mask) = refl
+reset-told (Some R.Dctrl2) = refl
+reset-told (Some R.Dctrl) = refl
+reset-told (Some R.Cmd) = refl
+reset-told (Some R.Power) = refl
+reset-told (Some R.Clkcr) = refl
+reset-told (Some R.Arg) = refl
+reset-told (Some R.Dtimer) = refl
+reset-told (Some R.Dlen) = refl
+reset-told (Some R.Icr) = refl
+reset-told None = refl
 
 reset-reset-after : Unique reset.Reset.after.Kinds.ps reset.Reset.after.Kinds.r reset.Reset.after.Reads.Learnt
 reset-reset-after = determined _ λ _ _ x p. reset-told x.0 ∙ ap reset_at p

@@ -7,9 +7,9 @@ pub returns-in-On : goal.returns-in-On
 unfolding ready_next
 returns-in-On c = λ h. rw c.in-On.is (W.asking-on _ h _ _)
 
-pub returns-in-Well : goal.returns-in-Well
-returns-in-Well c = λ h. rw (c.in-Over.is, c.in-Well.is) (c.answered.ensures h ∙ W.asking_well _ h _ _)
+pub returns-in-Ok : goal.returns-in-Ok
+returns-in-Ok c = λ h. rw (c.in-Over.is, c.in-Ok.is) (c.answered.ensures h ∙ W.asking_well _ h _ _)
 
-pub returns-in-Badly : goal.returns-in-Badly
+pub returns-in-Err : goal.returns-in-Err
 unfolding ready_next
-returns-in-Badly c = λ h. rw (c.in-Over.is, c.in-Badly.is) (W.asking_badly _ h _ _)
+returns-in-Err c = λ h. rw (c.in-Over.is, c.in-Err.is) (W.asking_badly _ h _ _)

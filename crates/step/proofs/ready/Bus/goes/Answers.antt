@@ -3,21 +3,21 @@ use Rattle.step.specs.Transfer.{transfer_of, data_plan, data_next, told_plan}
 use Rattle.step.proofs.Phases as P
 use Rattle.step.proofs.ready.Bus.goes.Goals as goal
 
-pub returns-in-At : goal.returns-in-At
+pub returns-in-Some : goal.returns-in-Some
 unfolding data_next data_plan
-returns-in-At c = λ ws h gate. rw c.in-Reset.is (P.reset-on c.args.self c.args.phase h ws _ _ _ (rw c.in-At.is at c.after-step.ensures))
+returns-in-Some c = λ ws h gate. rw c.in-Reset.is (P.reset-on c.args.self c.args.phase h ws _ _ _ (rw c.in-Some.is at c.after-step.ensures))
 
-pub returns-in-Done : goal.returns-in-Done
+pub returns-in-None : goal.returns-in-None
 unfolding data_next
-returns-in-Done c = λ ws h gate. rw c.in-Reset.is (P.reset-done c.args.self c.args.phase h ws _ _ (rw c.in-Done.is at c.after-step.ensures))
+returns-in-None c = λ ws h gate. rw c.in-Reset.is (P.reset-done c.args.self c.args.phase h ws _ _ (rw c.in-None.is at c.after-step.ensures))
 
-pub returns-in-At-step : goal.returns-in-At-step
+pub returns-in-Some-step : goal.returns-in-Some-step
 unfolding data_next data_plan
-returns-in-At-step c = λ ws h gate. rw c.in-Arm.is (P.arm-on c.args.self c.args.phase h ws _ _ (rw c.in-At-step.is at (c.after-step-in-Arm.ensures c.args.self.config.data_transfer_timeout (transfer_of c.args.phase))))
+returns-in-Some-step c = λ ws h gate. rw c.in-Arm.is (P.arm-on c.args.self c.args.phase h ws _ _ (rw c.in-Some-step.is at (c.after-step-in-Arm.ensures c.args.self.config.data_transfer_timeout (transfer_of c.args.phase))))
 
-pub returns-in-Done-step : goal.returns-in-Done-step
+pub returns-in-None-step : goal.returns-in-None-step
 unfolding data_next
-returns-in-Done-step c = λ ws h gate. rw c.in-Arm.is (c.readied.ensures ws h ∙ P.arm_done c.args.self c.args.phase h ws _ (rw c.in-Done-step.is at (c.after-step-in-Arm.ensures c.args.self.config.data_transfer_timeout (transfer_of c.args.phase))))
+returns-in-None-step c = λ ws h gate. rw c.in-Arm.is (c.readied.ensures ws h ∙ P.arm_done c.args.self c.args.phase h ws _ (rw c.in-None-step.is at (c.after-step-in-Arm.ensures c.args.self.config.data_transfer_timeout (transfer_of c.args.phase))))
 
 pub returns-in-Control : goal.returns-in-Control
 unfolding data_next
@@ -27,12 +27,12 @@ pub returns-in-Open : goal.returns-in-Open
 unfolding data_next
 returns-in-Open c = λ ws h gate. rw c.in-Open.is (c.starts.ensures ws h)
 
-pub returns-in-At-step-2 : goal.returns-in-At-step-2
+pub returns-in-Some-step-2 : goal.returns-in-Some-step-2
 unfolding data_next data_plan
-returns-in-At-step-2 c = λ ws h gate. rw c.in-Stop.is (P.stop_on c.args.self c.args.phase h ws _ _ (rw c.in-At-step-2.is at c.after-step-in-Stop.ensures))
+returns-in-Some-step-2 c = λ ws h gate. rw c.in-Stop.is (P.stop_on c.args.self c.args.phase h ws _ _ (rw c.in-Some-step-2.is at c.after-step-in-Stop.ensures))
 
-pub returns-in-Done-step-2 : goal.returns-in-Done-step-2
-returns-in-Done-step-2 c = λ ws h gate. rw c.in-Stop.is (c.closes.ensures ws h gate ∙ P.stop_done c.args.self c.args.phase h ws _ (rw c.in-Done-step-2.is at c.after-step-in-Stop.ensures))
+pub returns-in-None-step-2 : goal.returns-in-None-step-2
+returns-in-None-step-2 c = λ ws h gate. rw c.in-Stop.is (c.closes.ensures ws h gate ∙ P.stop_done c.args.self c.args.phase h ws _ (rw c.in-None-step-2.is at c.after-step-in-Stop.ensures))
 
 pub returns-in-Gate : goal.returns-in-Gate
 unfolding told_plan

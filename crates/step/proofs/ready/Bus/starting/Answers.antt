@@ -5,8 +5,8 @@ use Rattle.step.proofs.ready.Bus.starting.Goals as goal
 pub returns-in-On : goal.returns-in-On
 returns-in-On c = λ ws h. rw c.in-On.is (P.starting_on _ _ h ws _)
 
-pub returns-in-Well : goal.returns-in-Well
-returns-in-Well c = λ ws h. rw (c.in-Over.is, c.in-Well.is) (c.ordered.ensures ws h ∙ P.starting_well _ _ h ws _)
+pub returns-in-Ok : goal.returns-in-Ok
+returns-in-Ok c = λ ws h. rw (c.in-Over.is, c.in-Ok.is) (c.ordered.ensures ws h ∙ P.starting_well _ _ h ws _)
 
-pub returns-in-Badly : goal.returns-in-Badly
-returns-in-Badly c = λ ws h. rw (c.in-Over.is, c.in-Badly.is) (c.drops.ensures ws h ∙ P.starting_badly _ _ h ws _)
+pub returns-in-Err : goal.returns-in-Err
+returns-in-Err c = λ ws h. rw (c.in-Over.is, c.in-Err.is) (c.drops.ensures ws h ∙ P.starting_badly _ _ h ws _)

@@ -7,10 +7,10 @@ pub returns-in-On : goal.returns-in-On
 unfolding data_next
 returns-in-On c = λ ws h. rw c.in-On.is (P.waiting-on _ _ h ws _)
 
-pub returns-in-Done : goal.returns-in-Done
+pub returns-in-Ok : goal.returns-in-Ok
 unfolding data_next
-returns-in-Done c = λ ws h. rw c.in-Done.is (P.waiting-done _ _ h ws)
+returns-in-Ok c = λ ws h. rw (c.in-Over.is, c.in-Ok.is) (P.waiting-done _ _ h ws)
 
-pub returns-in-Failed : goal.returns-in-Failed
+pub returns-in-Err : goal.returns-in-Err
 unfolding data_next
-returns-in-Failed c = λ ws h. rw c.in-Failed.is (c.drops.ensures ws h ∙ P.waiting-failed _ _ h ws _)
+returns-in-Err c = λ ws h. rw (c.in-Over.is, c.in-Err.is) (c.drops.ensures ws h ∙ P.waiting-failed _ _ h ws _)
