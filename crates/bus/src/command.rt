@@ -15,7 +15,13 @@ use types::error::{Error, Field};
 use types::status::CardStatus;
 
 // The three rows of a command.
-fn issue(head: &mut Head, rows: &mut [u64], index: u8, argument: u32, form: Form) -> Result<(), Halt>
+fn issue(
+    head: &mut Head,
+    rows: &mut [u64],
+    index: u8,
+    argument: u32,
+    form: Form,
+) -> Result<(), Halt>
     ensures { (s : List ℕ) → Went s (issue index argument form) head.old (rows_in rows.old) result head.new (rows_in rows.new) }
 {
     let order = rows::cmd(index, form.wait);
@@ -35,7 +41,13 @@ fn poll_completion(head: &mut Head, rest: &[u32], start: usize) -> Result<u32, H
 }
 
 // Polls the status, at most `limit` times, until it has a bit that completes the command.
-fn wait_completion(head: &mut Head, rest: &[u32], start: usize, limit: u32, form: Form) -> Result<u32, Halt>
+fn wait_completion(
+    head: &mut Head,
+    rest: &[u32],
+    start: usize,
+    limit: u32,
+    form: Form,
+) -> Result<u32, Halt>
     requires { (start ≤ head.old.used) × (start + length rest.now < 2 ^ 64) }
     ensures { (s : List ℕ) (l : List Row) → Behind start rest.now s → Took s ℕ 0 (wait_completion limit form) head.old l result head.new l }
 {
@@ -49,7 +61,13 @@ fn wait_completion(head: &mut Head, rest: &[u32], start: usize, limit: u32, form
 }
 
 // The index of the command that the card answers, where the response has it.
-fn check_echo(head: &mut Head, rest: &[u32], start: usize, index: u8, form: Form) -> Result<(), Halt>
+fn check_echo(
+    head: &mut Head,
+    rest: &[u32],
+    start: usize,
+    index: u8,
+    form: Form,
+) -> Result<(), Halt>
     requires { (start ≤ head.old.used) × (start + length rest.now < 2 ^ 64) }
     ensures { (s : List ℕ) (l : List Row) → Behind start rest.now s → Went s (echo index form) head.old l result head.new l }
 {
@@ -80,7 +98,14 @@ fn judge(words: [u32; 4], form: Form) -> Result<[u32; 4], Halt>
 }
 
 // The response, after the status word that completed the command.
-fn take_answer(head: &mut Head, rest: &[u32], start: usize, index: u8, form: Form, status: u32) -> Result<[u32; 4], Halt>
+fn take_answer(
+    head: &mut Head,
+    rest: &[u32],
+    start: usize,
+    index: u8,
+    form: Form,
+    status: u32,
+) -> Result<[u32; 4], Halt>
     requires { (start ≤ head.old.used) × (start + length rest.now < 2 ^ 64) }
     ensures { (s : List ℕ) (l : List Row) → Behind start rest.now s → Took s (List ℕ) zeros (answer index form status) head.old l result head.new l }
 {
@@ -94,7 +119,14 @@ fn take_answer(head: &mut Head, rest: &[u32], start: usize, index: u8, form: For
 }
 
 // Waits until the command is complete, and takes its response.
-fn complete(head: &mut Head, rest: &[u32], start: usize, limit: u32, index: u8, form: Form) -> Result<[u32; 4], Halt>
+fn complete(
+    head: &mut Head,
+    rest: &[u32],
+    start: usize,
+    limit: u32,
+    index: u8,
+    form: Form,
+) -> Result<[u32; 4], Halt>
     requires { (start ≤ head.old.used) × (start + length rest.now < 2 ^ 64) }
     ensures { (s : List ℕ) (l : List Row) → Behind start rest.now s → Took s (List ℕ) zeros (complete limit index form) head.old l result head.new l }
 {
@@ -123,7 +155,11 @@ pub fn command_inner(
 }
 
 // What the gate makes of a command's answer: the clock off, after a value and after a stop alike, unless there is no room.
-fn close_clock(head: &mut Head, rows: &mut [u64], answer: Result<[u32; 4], Halt>) -> Result<[u32; 4], Halt>
+fn close_clock(
+    head: &mut Head,
+    rows: &mut [u64],
+    answer: Result<[u32; 4], Halt>,
+) -> Result<[u32; 4], Halt>
     ensures { (s : List ℕ) → Settled s (List ℕ) (List ℕ) zeros (giving (set_clken false)) (refusing (set_clken false)) (value_of zeros answer) (left_at answer head.old (rows_in rows.old)) (value_of zeros result) (left_at result head.new (rows_in rows.new)) }
 {
     match answer {
@@ -195,7 +231,13 @@ pub fn send(
 }
 
 // Tells the card that an application command follows.
-pub fn app_command(head: &mut Head, script: &[u32], rows: &mut [u64], limit: u32, rca: u16) -> Result<(), Halt>
+pub fn app_command(
+    head: &mut Head,
+    script: &[u32],
+    rows: &mut [u64],
+    limit: u32,
+    rca: u16,
+) -> Result<(), Halt>
     ensures { Went script.now (app_command limit rca) head.old (rows_in rows.old) result head.new (rows_in rows.new) }
 {
     let argument = rca as u32 * 0x1_0000;

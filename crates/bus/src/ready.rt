@@ -8,8 +8,8 @@ ghost use Rattle.bus.specs.Ready.{retry_delay, read_status, try_ready, wait_read
 use crate::command;
 use crate::response::Response;
 use tape::progress::{Halt, Head};
-use tape::rows::Row;
 use tape::rows;
+use tape::rows::Row;
 use types::clock::Hertz;
 use types::config::Config;
 use types::error::Error;
@@ -31,7 +31,13 @@ pub fn retry_delay(head: &mut Head, rows: &mut [u64], source: Hertz) -> Result<(
 }
 
 // The card's status.
-pub fn read_status(head: &mut Head, script: &[u32], rows: &mut [u64], limit: u32, rca: u16) -> Result<u32, Halt>
+pub fn read_status(
+    head: &mut Head,
+    script: &[u32],
+    rows: &mut [u64],
+    limit: u32,
+    rca: u16,
+) -> Result<u32, Halt>
     ensures { Took script.now ℕ 0 (read_status limit rca) head.old (rows_in rows.old) result head.new (rows_in rows.new) }
 {
     let argument = rca as u32 * 0x1_0000;

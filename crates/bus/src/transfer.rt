@@ -116,7 +116,12 @@ fn start_sending(
 }
 
 // Waits until the transfer is complete, and takes its words.
-fn receive<'a>(head: &mut Head, script: &'a [u32], limit: u32, count: u16) -> Result<&'a [u32], Halt>
+fn receive<'a>(
+    head: &mut Head,
+    script: &'a [u32],
+    limit: u32,
+    count: u16,
+) -> Result<&'a [u32], Halt>
     ensures { (l : List Row) → Took script.now (List ℕ) [] (receive limit incoming count) head.old l (words_in result) head.new l }
 {
     let start = head.used;

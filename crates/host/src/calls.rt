@@ -91,7 +91,9 @@ impl Sdmmc {
     {
         let mut head = host::start(host::fresh_line(initial.frequency));
         match card::initialise(&mut head, script, rows, self.settings, initial, frequency) {
-            Ok(found) => self.with(head.line, true, found).called(Answer::Accepted, head),
+            Ok(found) => self
+                .with(head.line, true, found)
+                .called(Answer::Accepted, head),
             Err(halt) => self.ends_without(head, halt),
         }
     }
@@ -212,7 +214,8 @@ impl Sdmmc {
         match transfer::blocking_data(&mut head, script, rows, source, config, asked, card.rca) {
             Ok(words) => {
                 blocks::fill_blocks(buffer, words);
-                self.with(head.line, self.known, card).called(Answer::Accepted, head)
+                self.with(head.line, self.known, card)
+                    .called(Answer::Accepted, head)
             }
             Err(halt) => self.ends_without(head, halt),
         }
@@ -300,8 +303,12 @@ impl Sdmmc {
         let config = self.settings.config;
         let card = self.card;
         let asked = blocks_transfer(true, address, blocks);
-        match transfer::blocking_send(&mut head, script, rows, source, config, asked, card.rca, data) {
-            Ok(()) => self.with(head.line, self.known, card).called(Answer::Accepted, head),
+        match transfer::blocking_send(
+            &mut head, script, rows, source, config, asked, card.rca, data,
+        ) {
+            Ok(()) => self
+                .with(head.line, self.known, card)
+                .called(Answer::Accepted, head),
             Err(halt) => self.ends_without(head, halt),
         }
     }

@@ -56,13 +56,7 @@ fn judge_version(answer: Result<[u32; 4], Halt>) -> Result<bool, Halt>
     match answer {
         Ok(words) => version(words[0]),
         Err(halt) => match halt {
-            Halt::Refused(e) => {
-                if timed_out(e) {
-                    Ok(false)
-                } else {
-                    Err(halt)
-                }
-            }
+            Halt::Refused(e) => { if timed_out(e) { Ok(false) } else { Err(halt) } }
             Halt::ScriptEnded => Err(halt),
             Halt::TraceFull => Err(halt),
         },

@@ -45,7 +45,13 @@ pub fn condition(version2: bool) -> u32
 }
 
 // One ACMD41: the card's OCR.
-fn power_up(head: &mut Head, script: &[u32], rows: &mut [u64], limit: u32, version2: bool) -> Result<u32, Halt>
+fn power_up(
+    head: &mut Head,
+    script: &[u32],
+    rows: &mut [u64],
+    limit: u32,
+    version2: bool,
+) -> Result<u32, Halt>
     ensures { Took script.now ℕ 0 (power_up limit version2) head.old (rows_in rows.old) result head.new (rows_in rows.new) }
 {
     let asked = condition(version2);
@@ -197,7 +203,13 @@ fn publish(head: &mut Head, script: &[u32], rows: &mut [u64], limit: u32) -> Res
 }
 
 // Has the card tell its CID, its address and its CSD, and selects it.
-pub fn identify(head: &mut Head, script: &[u32], rows: &mut [u64], limit: u32, ocr: u32) -> Result<Card, Halt>
+pub fn identify(
+    head: &mut Head,
+    script: &[u32],
+    rows: &mut [u64],
+    limit: u32,
+    ocr: u32,
+) -> Result<Card, Halt>
     ensures { Took script.now Card no_card (identify limit ocr) head.old (rows_in rows.old) result head.new (rows_in rows.new) }
 {
     let cid = command::send(head, script, rows, limit, 2, 0, Response::R2)?;

@@ -1,4 +1,3 @@
-use Rattle.bus.specs.Command.{command_inner}
 use Rattle.tape.proofs.Took.{handles}
 use Rattle.bus.proofs.command.command_closing.Goals as goal
 

@@ -1,4 +1,3 @@
-use mathlib.Core.List.{[]}
 use native.Mathlib.Omega.{arith}
 use Rattle.bus.specs.Command.{answer}
 use Rattle.tape.proofs.Took.{gives, next, carry, cut, on_true, on_false, read_further}

@@ -18,7 +18,7 @@ use Rattle.tape.specs.Polls.{leading}
 use Rattle.tape.specs.Run.{State, at, After, over_at, run, does_at, Behind, Did, Gave}
 use Rattle.tape.specs.Steps.{word}
 use Rattle.tape.proofs.Behind.{long, at_place, in_place, out-of-place, further}
-use Rattle.tape.proofs.Laws.{bind, refusal, from-going, from-stopped}
+use Rattle.tape.proofs.Laws.{bind, refusal, from-going}
 use Rattle.tape.proofs.Loops.{Turned, last_turn, out-of-turns}
 use Rattle.tape.proofs.Took.{refuses}
 use Rattle.tape.proofs.Polls.{on, counted-within, leads-within, leads, leads-to, skipped, reads}
@@ -96,11 +96,11 @@ overflow_add-head c = let part = long c.rest-left.ensures.part in
 pub returns-then-waiting-limit : goal.returns-then-waiting-limit
 unfolding wait_completion
 returns-then-waiting-limit c = λ s l part. record {
-    gave = found _ c.args.limit refl (further part c.requires.0 c.rest-left.ensures.part) c.quiet-waiting.ensures refl c.if-waiting-limit.true (c.poll_completion.ensures s l part).gave
-  }
+  gave = found _ c.args.limit refl (further part c.requires.0 c.rest-left.ensures.part) c.quiet-waiting.ensures refl c.if-waiting-limit.true (c.poll_completion.ensures s l part).gave;
+}
 
 pub returns : goal.returns
 unfolding wait_completion
 returns c = λ s l part. record {
-    gave = spent _ c.args.limit refl (further part c.requires.0 c.rest-left.ensures.part) c.quiet-waiting.ensures refl c.if-waiting-limit.false refuses.gave
-  }
+  gave = spent _ c.args.limit refl (further part c.requires.0 c.rest-left.ensures.part) c.quiet-waiting.ensures refl c.if-waiting-limit.false refuses.gave;
+}

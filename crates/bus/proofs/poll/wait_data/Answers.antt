@@ -2,7 +2,7 @@ use native.Mathlib.Omega.{arith}
 use mathlib.Core.Path.{refl}
 use Rattle.tape.specs.Plan.{give}
 use Rattle.bus.specs.Transfer.{wait_data}
-use Rattle.tape.proofs.Behind.{long, further}
+use Rattle.tape.proofs.Behind.{further}
 use Rattle.tape.proofs.Took.{gives, carry, cut}
 use Rattle.tape.proofs.Tries.{none_tried, tried_on, enough-now, stopped-now, once-more, spent}
 use Rattle.bus.proofs.poll.wait_data.Goals as goal

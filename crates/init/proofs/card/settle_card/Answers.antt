@@ -1,5 +1,5 @@
 use Rattle.init.specs.Initialise.{settle_card}
-use Rattle.tape.proofs.Took.{passed, gives, next, carry, cut}
+use Rattle.tape.proofs.Took.{gives, next, carry, cut}
 use Rattle.init.proofs.card.settle_card.Goals as goal
 
 pub returns-in_err-scr : goal.returns-in_err-scr

@@ -1,4 +1,3 @@
-use mathlib.Core.Path.{refl, ◌∙◌}
 use Rattle.host.specs.Calls.{ends}
 use Rattle.host.proofs.host.Sdmmc.ends.Goals as goal
 

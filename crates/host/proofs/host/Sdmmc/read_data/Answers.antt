@@ -1,5 +1,5 @@
 use mathlib.Core.List.{List, []}
-use mathlib.Core.Path.{◌≡◌, refl, ap, sym, ◌∙◌}
+use mathlib.Core.Path.{refl, ap, sym, ◌∙◌}
 use Prim.Native.Nat.{ℕ}
 use Rattle.bus.specs.Transfer.{incoming}
 use Rattle.host.specs.Calls.{blocks_plan, blocks_next, blocks_filled}
