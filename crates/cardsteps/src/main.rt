@@ -7,7 +7,7 @@ use desk::room::Program;
 use desk::{input, room};
 use streams::console::{Console, Standard};
 
-// Tells a book.
+// Tells a book. This and `run` are as in cardtrace but for what is called and said; shared, they would be told both.
 fn show(bytes: &[u8], room: usize, words: &mut [u32], out: &mut [u8], console: &mut Standard) {
     if let Err(why) = telling::tell_book(bytes, room, words, out, &mut console.output) {
         console.tell(b"cardsteps: standard output", why);

@@ -37,6 +37,7 @@ fn with_digit(base: u8, value: u32, b: u8) -> Result<u32, Cause>
     u32::try_from(next).map_err(|_| Cause::TooLarge)
 }
 
+// The next two differ in their base and variant alone: one function for both would be told both at each of its calls.
 fn decimal(value: u32, b: u8) -> Token
     ensures { result ≡ decimal_of value b }
 {
