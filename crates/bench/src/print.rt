@@ -1,4 +1,4 @@
-// What is printed of a book: a line for its host, and one for each call.
+// What is printed of a book, by a pen (text/src/pen.rt says why not by `Display`): a line for its host, and one for each call.
 ghost use Rattle.std.specs.Prelude.{false, map, ◌≡◌, ◌+◌, ◌*◌, ◌≤◌, ◌<◌, length, get_or};
 ghost use Rattle.text.specs.Ink.{Laid};
 ghost use Rattle.text.specs.Pens.{written};
@@ -78,7 +78,7 @@ fn print_in(bytes: &[u8], words: &mut [u32], pen: &mut Pen<'_>)
 {
     match layout::open(bytes, words) {
         Some(n) => serve_book(&words[..n], pen),
-        None => lines::put_host(pen, 23),
+        None => lines::put_host(pen, Answer::BadBook.number()),
     }
 }
 

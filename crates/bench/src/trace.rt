@@ -199,7 +199,7 @@ fn open_bad(pen: &mut Pen<'_>) -> Opening
         },
         wide: false,
     });
-    lines::put_host(pen, 23);
+    lines::put_host(pen, Answer::BadBook.number());
     Opening {
         host: none.host,
         calls: 0,

@@ -1,5 +1,6 @@
 pub mod Rows
 pub mod Numbers
+pub mod Fields
 pub mod Causes
 pub mod Load
 pub mod Written

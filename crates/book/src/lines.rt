@@ -1,11 +1,12 @@
-// The lines that the program prints of a book.
+// The lines that the program prints of a book, by a pen (text/src/pen.rt says why not by `Display`).
 ghost use Rattle.std.specs.Prelude.{◌≡◌};
 ghost use Rattle.text.specs.Pens.{written};
-ghost use Rattle.book.specs.Lines.{host_line, answer_text, protect_text, call_line};
+ghost use Rattle.types.specs.declared.error.Answer.TheVariants.{Refused};
+ghost use Rattle.book.specs.Lines.{host_line, field_text, answer_text, protect_text, call_line};
 
 use crate::layout::Kind;
 use text::pen::Pen;
-use types::error::Answer;
+use types::error::{Answer, Error};
 use types::register::Protection;
 
 // The first line: the answer at making the host, or of a book that is none.
@@ -16,14 +17,24 @@ pub fn put_host(pen: &mut Pen<'_>, answer: u8)
     pen.put_byte(b'\n');
 }
 
-// An answer's number, and at 13 the field that made the card unsupported.
+// The field that made a card unsupported; nothing of any other error.
+fn put_field(pen: &mut Pen<'_>, error: Error)
+    ensures { pen.new ≡ written (field_text (Refused error)) pen.old }
+{
+    match error {
+        Error::UnsupportedCardType(field) => pen.put_named(b" field ", field.number() as u64),
+        _ => {}
+    }
+}
+
+// An answer's number, and what is told of the error that it refuses with.
 fn put_answer(pen: &mut Pen<'_>, answer: Answer)
     ensures { pen.new ≡ written (answer_text answer) pen.old }
 {
-    let number = answer.number();
-    pen.put_named(b" answer ", number as u64);
-    if number == 13 {
-        pen.put_named(b" field ", answer.word() as u64);
+    pen.put_named(b" answer ", answer.number() as u64);
+    match answer {
+        Answer::Refused(error) => put_field(pen, error),
+        _ => {}
     }
 }
 

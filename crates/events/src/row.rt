@@ -38,6 +38,7 @@ fn put_argument(pen: &mut Pen<'_>, value: u32)
     pen.put_hex(8, value as u64);
 }
 
+// How a command waits, by the register's two bits for it.
 fn put_wait(pen: &mut Pen<'_>, kind: u32)
     ensures { pen.new ≡ written (waits kind) pen.old }
 {

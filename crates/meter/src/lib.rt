@@ -19,6 +19,7 @@ use feed::feed::{init_card, read_blocks, read_sd_status, write_blocks};
 use host::blocks;
 use host::host::{Called, Sdmmc};
 use types::clock::Hertz;
+use types::error::Answer;
 
 // A call was served: the next host, where the next body lies, and what the call came to, as one number.
 #[derive(Clone, Copy)]
@@ -28,7 +29,8 @@ struct Turn {
     told: u64,
 }
 
-// The answer's number in the top byte, the rows in the three below, the words in the low four.
+// What the C interface gives as one number: the answer's in the top byte, the rows in the three below, the words in the low
+// four.
 fn told(number: u8, rows: usize, words: usize) -> u64
     ensures { result ≡ told_with number rows words }
 {
@@ -70,7 +72,8 @@ fn feed_write(
     write_blocks(host, script, rows, index, buffer)
 }
 
-// One call as `serve::ask` has it, one answer at a time.
+// One call as `serve::ask` has it, one answer at a time. A trait over both would state the contracts of all four calls again,
+// and be longer than these arms.
 fn feed_call(
     host: Sdmmc,
     words: &[u32],
@@ -203,7 +206,7 @@ fn serve_list<S: Serves>(way: &S, words: &[u32], rows: &mut [u64], buffer: &mut 
 {
     let heading = layout::head(words);
     if heading.ready_attempts > 65535 {
-        return told(23, 0, 0);
+        return told(Answer::BadBook.number(), 0, 0);
     }
     let made = Sdmmc::new(serve::settings(heading));
     let calls = trace::served(made.answer, heading.calls);

@@ -1,5 +1,5 @@
 // What happened in a call, as text in a lent buffer: its rows, the word its answer carries, the host it left, and what it
-// read.
+// read. All of it is written with a pen (text/src/pen.rt says why not by `Display`).
 #![tactic(auto, using(text::proofs::Pens::writing))]
 
 pub mod rows; // rows.rt: the rows, and the word that the answer carries

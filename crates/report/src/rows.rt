@@ -2,11 +2,12 @@
 ghost use Rattle.std.specs.Prelude.{◌≡◌, get_or};
 ghost use Rattle.text.specs.Pens.{written};
 ghost use Rattle.tape.specs.Layout.{row_of, rows_in};
+ghost use Rattle.types.specs.declared.error.Answer.TheVariants.{Refused};
 ghost use Rattle.report.specs.Report.{row_text, row_line, rows_text, carried_text};
 
 use tape::rows::Row;
 use text::pen::Pen;
-use types::error::Answer;
+use types::error::{Answer, Error};
 
 // Row i, of zeros where it is past the list.
 fn row_at(rows: &[u64], i: usize) -> Row
@@ -39,13 +40,26 @@ pub fn put_rows(pen: &mut Pen<'_>, rows: &[u64], n: usize)
     }
 }
 
-// The card's status word, at the answer that carries one; nothing at any other.
+// The card's status word, where it is the error; nothing of any other.
+fn put_error(pen: &mut Pen<'_>, error: Error)
+    ensures { pen.new ≡ written (carried_text (Refused error)) pen.old }
+{
+    match error {
+        Error::CardStatus(word) => {
+            pen.put(b"carried ");
+            pen.put_hex(8, word as u64);
+            pen.put_byte(b'\n');
+        }
+        _ => {}
+    }
+}
+
+// The word that an answer carries, where it refuses with the card's status.
 pub fn put_carried(pen: &mut Pen<'_>, answer: Answer)
     ensures { pen.new ≡ written (carried_text answer) pen.old }
 {
-    if answer.number() == 10 {
-        pen.put(b"carried ");
-        pen.put_hex(8, answer.word() as u64);
-        pen.put_byte(b'\n');
+    match answer {
+        Answer::Refused(error) => put_error(pen, error),
+        _ => {}
     }
 }

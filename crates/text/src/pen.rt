@@ -46,10 +46,12 @@ impl<'a> Pen<'a> {
     pub fn put_decimal(&mut self, n: u64)
         ensures { self.new ≡ written (decimal_of n) self.old }
     {
-        if n >= 10 {
+        if n < 10 {
+            self.put_byte(b'0' + n as u8);
+        } else {
             self.put_decimal(n / 10);
+            self.put_byte(b'0' + (n % 10) as u8);
         }
-        self.put_byte(b'0' + (n % 10) as u8);
     }
 
     // The low digits of a number in hexadecimal, lower case, exactly so many.

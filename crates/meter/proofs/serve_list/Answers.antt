@@ -14,7 +14,7 @@ pub returns-then-heading-gt65535 : goal.returns-then-heading-gt65535
 unfolding answer_told
 returns-then-heading-gt65535 g c = let attempts = ap (λ (h : Heading). h.ready_attempts) c.head-heading.ensures in
     let none = no_book c.args.words.now (rows_in c.args.rows.now) c.args.buffer.now (omega (arith, attempts, c.if-heading-gt65535.true)) in
-    record { told = c.told.ensures ∙ ap (λ (x : Served). x.told) none; listed = ap (λ (x : Served). x.list) none; filled = ap (λ (x : Served). x.buffer) none }
+    record { told = (rw c.number.ensures at c.told.ensures) ∙ ap (λ (x : Served). x.told) none; listed = ap (λ (x : Served). x.list) none; filled = ap (λ (x : Served). x.buffer) none }
 
 pub returns : goal.returns
 returns g c = let ws = c.args.words.now in
@@ -23,6 +23,6 @@ returns g c = let ws = c.args.words.now in
     let host : c.new-made.result ≡ made (settings_in (heading_of ws)) =
     c.new-made.ensures ∙ ap made (c.settings.ensures ∙ ap settings_in heading) in
     let on = on-host ws (rows_in c.args.rows.now) c.args.buffer.now (omega (arith, attempts, c.if-heading-gt65535.false)) in
-    let number = c.number.ensures in
+    let number = c.number-2.ensures in
     let done = rw (c.served-calls.ensures, c.told-before.ensures, number, host, ap (λ (h : Heading). h.calls) heading) at c.serve_calls.ensures in
     record { told = done.told ∙ ap (λ (x : Served). x.told) on; listed = done.listed ∙ ap (λ (x : Served). x.list) on; filled = done.filled ∙ ap (λ (x : Served). x.buffer) on }

@@ -1,7 +1,6 @@
 use mathlib.Core.Path.{sym, ◌∙◌}
 use native.Mathlib.Omega.{arith}
 use lib.ListN.{length, length-take}
-use Rattle.types.specs.Answer.{answer_told}
 use Rattle.book.proofs.Opening.{opened-none, opened_some}
 use Rattle.bench.proofs.Opens.{words_lie, words-good, words-fit}
 use Rattle.bench.proofs.print.print_in.Goals as goal
@@ -28,6 +27,5 @@ returns-in-Some c =
     rw (opened_some bytes (length words) _ good).0 (rw same at c.serve_book.ensures)
 
 pub returns-in-None : goal.returns-in-None
-unfolding answer_told
 returns-in-None c =
-    rw (opened-none c.args.bytes.now (length c.args.words.now) c.requires (sym c.open.ensures.answered ∙ c.in-None.is)) c.put_host.ensures
+    rw (opened-none c.args.bytes.now (length c.args.words.now) c.requires (sym c.open.ensures.answered ∙ c.in-None.is)) (rw c.number.ensures at c.put_host.ensures)

@@ -9,5 +9,5 @@ pub returns : goal.returns
 unfolding answer_told made judged_host made_of
 returns c = record {
   opened = record { host = ap (λ (m : Made). m.host) c.new-none.ensures; calls = refl; words = refl; place = refl };
-  printed = c.put_host.ensures;
+  printed = rw c.number.ensures at c.put_host.ensures;
 }

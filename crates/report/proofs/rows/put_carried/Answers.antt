@@ -1,11 +1,10 @@
-use mathlib.Core.Path.{◌≡◌, sym, ◌∙◌}
-use borrow.Author.Tests.{eq-eqb}
-use Rattle.types.specs.Answer.{answer_told}
-use Rattle.text.proofs.Pens.{and_written}
+use mathlib.Core.Path.{sym}
+use Rattle.text.proofs.Pens.{written_nothing}
+use Rattle.report.proofs.Carries.{not_refused}
 use Rattle.report.proofs.rows.put_carried.Goals as goal
 
-pub returns-then-number-eq10 : goal.returns-then-number-eq10
-returns-then-number-eq10 c =
-    let ten : (answer_told c.args.answer).number ≡ 10 = sym c.number.ensures ∙ c.if-number-eq10.true in
-    let word = rw c.word.ensures at c.put_hex.ensures in
-    simp (eq-eqb _ _ ten) (and_written _ _ _ (and_written _ _ _ c.put.ensures word) c.put_byte.ensures)
+pub returns-in-Refused : goal.returns-in-Refused
+returns-in-Refused c = rw (← c.in-Refused.is) at c.put_error.ensures
+
+pub returns-in_default : goal.returns-in_default
+returns-in_default c = rw (not_refused c.args.answer c.in_default.not-Refused) (sym (written_nothing _))

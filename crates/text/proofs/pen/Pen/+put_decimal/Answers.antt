@@ -1,10 +1,14 @@
-use Rattle.text.proofs.Pens.{written_append}
+use Prim.Native.Nat.{◌+◌, ◌%◌}
+use mathlib.Core.Path.{◌≡◌}
+use native.Mathlib.Omega.{arith}
+use Rattle.text.proofs.Pens.{and_written}
 use Rattle.text.proofs.Decimal.{decimal_one, decimal_more}
-use Rattle.text.proofs.pen.Pen.+put_decimal.Goals.{then-n-ge10, else-n-ge10}
 use Rattle.text.proofs.pen.Pen.+put_decimal.Goals as goal
 
-pub returns : goal.returns
-returns t c = elim c.if-n-ge10.branch [
-  | then-n-ge10 w ↦ rw (decimal_more c.args.n w.if-n-ge10.true, written_append, ← w.put_decimal.ensures, ← w.self-is) c.put_byte.ensures
-  | else-n-ge10 w ↦ rw (decimal_one c.args.n w.if-n-ge10.false, ← w.self-is) c.put_byte.ensures
-]
+pub returns-then-n-lt10 : goal.returns-then-n-lt10
+returns-then-n-lt10 t c =
+    let digit : 48 + c.args.n % 10 ≡ 48 + c.args.n = omega arith in
+    rw (decimal_one c.args.n c.if-n-lt10.true, digit) c.put_byte.ensures
+
+pub returns-else-n-lt10 : goal.returns-else-n-lt10
+returns-else-n-lt10 t c = rw (decimal_more c.args.n c.if-n-lt10.false) (and_written _ _ _ c.put_decimal.ensures c.put_byte-else-n-lt10.ensures)

@@ -1,6 +1,0 @@
-use Rattle.bench.proofs.serve.ask_write.Goals as goal
-
-pub returns : goal.returns
-returns c = let filled = c.fill_blocks.ensures in
-    let done = rw filled at c.blocking_write_blocks.ensures in
-    record { answered = done.answered; listed = done.listed; filled = filled }
