@@ -98,6 +98,7 @@ impl BlockCount {
 
 impl Protection {
     // Bit 13 of a CSD, PERM_WRITE_PROTECT, and bit 12, TMP_WRITE_PROTECT.
+    // No From: any register would convert then, a CID too, and only a CSD has the two bits.
     #[tactic(auto, using(std::proofs::lemmas::Bool::Decides::nat_tests), unfolding(crate::specs::Leaf::protection_of))]
     pub fn of(csd: Wide) -> Protection
         ensures { result ≡ protection_of (wide_of csd) }

@@ -18,7 +18,7 @@ card-block-address = determined _ λ _ _ _ p. p
 clock-clock-setting : Unique clock.clock_setting.Kinds.ps clock.clock_setting.Kinds.r clock.clock_setting.Reads.Learnt
 clock-clock-setting = determined _ λ _ _ _ p. p
 
-config_config_default : Unique config.Config.default.Kinds.ps config.Config.default.Kinds.r config.Config.default.Reads.Learnt
+config_config_default : Unique config.ConfigDefault.default.Kinds.ps config.ConfigDefault.default.Kinds.r config.ConfigDefault.default.Reads.Learnt
 config_config_default = determined _ λ _ _ _ p. p
 
 config-config-judge : Unique config.Config.judge.Kinds.ps config.Config.judge.Kinds.r config.Config.judge.Reads.Learnt

@@ -1,10 +1,10 @@
 use Rattle.stepping.specs.Ahead.{reset_on}
 use Rattle.stepping.proofs.initialise.reset_on.Goals as goal
 
-pub returns-in-At : goal.returns-in-At
+pub returns-in-Some : goal.returns-in-Some
 unfolding reset_on
-returns-in-At c = rw c.in-At.is
+returns-in-Some c = rw c.in-Some.is
 
-pub returns-in-Done : goal.returns-in-Done
+pub returns-in-None : goal.returns-in-None
 unfolding reset_on
-returns-in-Done c = rw c.in-Done.is
+returns-in-None c = rw c.in-None.is
