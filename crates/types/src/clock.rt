@@ -26,6 +26,7 @@ impl Clock {
 
 // The least divisor that brings a source down to a request, or none that the register has room for.
 // The request is added up until it reaches the source, at most 256 times: the boot stage links no division routine.
+// A `find` over the multiples, or `checked_add`, takes 26 to 34 bytes more of its flash.
 fn divisor_for(source: Hertz, requested: Hertz) -> Option<u32>
     ensures { Searched source.0 requested.0 result }
 {

@@ -13,6 +13,7 @@ pub fn little(a: u8, b: u8, c: u8, d: u8) -> u32
 }
 
 // Lays words over the start of the bytes, the lowest byte first, as far as whole words go; the other bytes stay.
+// By index and not by `chunks_exact_mut`: once a chunk's borrow is over, a proof knows none of its bytes.
 pub fn fill(bytes: &mut [u8], words: &[u32])
     ensures { bytes.new ≡ filled words.now bytes.old }
 {
