@@ -85,12 +85,12 @@ module _ {E : Type 0} (bytes words last : List ℕ) (room : ℕ) (r : Opening) (
       rw lie at t
   by O.None e s t = none-traced (take r.words last) (words_of bytes) room _ all out'' t
 
-  pub book-traced : OpensAs (opened_of bytes (length words)) (words_of bytes) r → Laid 0 (head_of (opened_of bytes (length words)) (words_of bytes)) out at out'
-      → Traces (take r.words last) room (record { host = r.host; place = r.body_at; out = out' }) r.calls all out''
+  pub book-traced : {rows : ℕ} → rows ≡ room → OpensAs (opened_of bytes (length words)) (words_of bytes) r → Laid 0 (head_of (opened_of bytes (length words)) (words_of bytes)) out at out'
+      → Traces (take r.words last) rows (record { host = r.host; place = r.body_at; out = out' }) r.calls all out''
       → Traces (words_of bytes) room (start_of (opened_of bytes (length words)) (words_of bytes) out) (calls_of (opened_of bytes (length words)) (words_of bytes)) all out''
-  book-traced s l t =
+  book-traced same s l t =
       let o = opened_of bytes (length words) in
-      by o refl s (rw (opened-start o (words_of bytes) out out' at r s l, opened-calls o (words_of bytes) r s) at t)
+      by o refl s (rw (same, opened-start o (words_of bytes) out out' at r s l, opened-calls o (words_of bytes) r s) at t)
 
 -- its first text could not be written
 pub not-begun : {E : Type 0} (o : O.Option ℕ) (ws : List ℕ) (room : ℕ) (r : Opening) (out out' : List ℕ) (at : ℕ) → OpensAs o ws r → Laid 0 (head_of o ws) out at out'

@@ -42,4 +42,4 @@ returns-clause-traced g c = let opened = c.open-opening in
     let said = opened.ensures in
     let made = c.new-pen.ensures in
     let name = same_name _ _ said.printed made.same in
-    book-traced _ _ _ _ opened.result _ _ _ _ _ said.laid said.opened (made_over _ made.stands made.held said.printed (search rules)) c.trace_calls.ensures
+    book-traced _ _ _ _ opened.result _ _ _ _ _ said.laid (search rules) said.opened (made_over _ made.stands made.held said.printed (search rules)) c.trace_calls.ensures
