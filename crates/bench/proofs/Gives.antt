@@ -2,7 +2,9 @@
 use Prim.Native.Nat.{ℕ, ◌/◌}
 use mathlib.Core.Bool.{Bool, true, false, cond}
 use mathlib.Core.List.{List, [], ◌++◌}
-use mathlib.Core.Path.{◌≡◌, refl}
+use mathlib.Core.Path.{◌≡◌, refl, ap, ◌∙◌}
+use Rattle.text.specs.Pens.{written}
+use Rattle.text.specs.declared.pen.Pen.{Pen}
 use lib.Dec.{eqb}
 use lib.ListN.{length}
 use Rattle.types.specs.declared.error.Answer.{Answer}
@@ -61,6 +63,12 @@ by_test number m n c e = rw e
 pub its_line : (number : ℕ) (l : List Row) (lent : List ℕ) (c : L.Call) (x : Came) {called : Called} → called ≡ called_of x
     → call_line number c.kind called.answer called.words called.rows called.host.card.protection ≡ came_line number (call_with l lent c) x
 its_line number l lent c x e = rw e (by_test number c.kind (kind_of (call_with l lent c)) (called_of x) (of-kind l lent c))
+
+-- the pen that wrote it
+pub line_written : (number : ℕ) (l : List Row) (lent : List ℕ) (c : L.Call) (x : Came) (pen : Pen) {called : Called} {after : Pen} → called ≡ called_of x
+    → after ≡ written (call_line number c.kind called.answer called.words called.rows called.host.card.protection) pen
+    → after ≡ written (came_line number (call_with l lent c) x) pen
+line_written number l lent c x pen e p = p ∙ ap (λ (t : List ℕ). written t pen) (its_line number l lent c x e)
 
 -- what is printed of a call, put together from what it came to
 module _ (number : ℕ) (host : Sdmmc) (l : List Row) (buffer ws : List ℕ) (asked : Asked) where

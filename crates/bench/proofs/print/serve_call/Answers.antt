@@ -1,15 +1,13 @@
-use Prim.Native.Nat.{ℕ, ◌+◌, ◌*◌, ◌≤◌}
-use mathlib.Core.List.{List}
-use mathlib.Core.Path.{◌≡◌, ap, ◌∙◌}
+use Prim.Native.Nat.{◌+◌, ◌*◌, ◌≤◌}
+use mathlib.Core.Path.{◌≡◌, ap}
 use native.Mathlib.Omega.{arith}
 use lib.ListN.{get_or, replicate}
-use Rattle.text.specs.Pens.{written}
 use Rattle.tape.specs.Layout.{rows_in}
 use Rattle.host.specs.Calls.{called_of}
 use Rattle.host.specs.declared.host.Called.{Called}
 use Rattle.book.specs.Readers.{asked_at, call_asked}
 use Rattle.bench.specs.Bench.{came_of}
-use Rattle.bench.proofs.Gives.{its_line}
+use Rattle.bench.proofs.Gives.{line_written}
 use Rattle.bench.proofs.Zeros.{part-of-zeros}
 use Rattle.bench.proofs.print.serve_call.Goals as goal
 
@@ -30,5 +28,5 @@ returns-clause-printed c =
     let few : b ≤ 16 = c.requires.1 in
     let called : c.ask_in-called.result ≡ called_of (came_of turn.host ws k turn.body_at) =
     rw (c.call_at-asked.ensures, part-of-zeros (512 * b) 8192 (omega (arith, few))) at c.ask_in-called.ensures.answered in
-    let line = its_line (k + 1) (rows_in (replicate 4096 0)) (replicate (512 * b) 0) (call_asked ws (asked_at ws k turn.body_at)) (came_of turn.host ws k turn.body_at) called in
-    (rw c.call_at-asked.ensures at c.put_call.ensures) ∙ ap (λ (t : List ℕ). written t c.args.pen.now) line
+    line_written (k + 1) (rows_in (replicate 4096 0)) (replicate (512 * b) 0) (call_asked ws (asked_at ws k turn.body_at)) (came_of turn.host ws k turn.body_at) c.args.pen.now called
+    (rw c.call_at-asked.ensures at c.put_call.ensures)
