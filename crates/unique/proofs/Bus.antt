@@ -4,6 +4,7 @@ use mathlib.Core.List.{List, []}
 use mathlib.Core.Path.{◌≡◌, refl, ap, ◌∙◌}
 use Rattle.tape.specs.Plan.{Nothing, Plan, give, refuse, read, write, look, hold, failed, ended}
 use Rattle.tape.specs.declared.progress.Halt.{Halt}
+use Rattle.tape.specs.declared.progress.Head.{Head}
 use Rattle.tape.specs.Layout.{rows_in}
 use Rattle.tape.specs.Run.{words_in}
 use Rattle.tape.specs.Steps.{row}
@@ -93,5 +94,5 @@ transfer_blocking_send : Unique transfer.blocking_send.Kinds.ps transfer.blockin
 transfer_blocking_send = determined _ λ _ _ x p i. (left p i, by-words (rows-left p) (none-back x.0 ∙ ap none_in (answer p)) i)
 
 -- An exception: what it gives is lent. What it holds is promised, and not where it lies.
-transfer_blocking_data : UniqueIn transfer.blocking_data.Kinds.ps transfer.blocking_data.Kinds.r transfer.blocking_data.Reads.Learnt (λ _ _ x. (x.1.0, x.1.1.1.0, words_in x.0))
+transfer_blocking_data : UniqueIn transfer.blocking_data.Kinds.ps transfer.blocking_data.Kinds.r transfer.blocking_data.Reads.Learnt {X = λ _ _. Head × (List ℕ × Result (List ℕ) Halt)} (λ _ _ x. (x.1.0, (x.1.1.1.0, words_in x.0)))
 transfer_blocking_data = part-determined _ λ _ _ _ p. listed p

@@ -25,9 +25,9 @@ answer_of x = answer_at x.value x.state.progress.pace
 abbrev pub head_of : {A : Type 0} → After A → Head
 head_of x = record { used = x.state.progress.used; rows = x.state.progress.rows; line = x.state.progress.line }
 
-told-back : {A : Type 0} {d : A} {h : Head} {l : List Row} (r : Result A Halt) → r ≡ answer_of (record { value = value_of d r; state = left_at r h l })
-told-back (Ok v) = refl
-told-back (Err x) = refl
+told-back : {A : Type 0} (d : A) (h : Head) (l : List Row) (r : Result A Halt) → r ≡ answer_of (record { value = value_of d r; state = left_at r h l })
+told-back d h l (Ok v) = refl
+told-back d h l (Err x) = refl
 
 -- the list's words, from the rows that they tell
 pub by-words : {Z : Type 0} {ws : List ℕ} {rs : List Row} {z z' : Z} → rows_in ws ≡ rs → z ≡ z' → ◌≡◌ {A = List ℕ × Z} (ws, z) (words_of rs, z')
@@ -41,7 +41,7 @@ module _ {s : List ℕ} {A : Type 0} {d : A} {p : Plan A} {h h' : Head} {l l' : 
   rows-left = ap (λ (x : After A). x.state.list) e.gave.same
 
   pub answer : r ≡ answer_of (does s d p (going_at h l))
-  answer = told-back r ∙ ap answer_of e.gave.same
+  answer = told-back d h' l' r ∙ ap answer_of e.gave.same
 
 -- of a step that leaves every row list as it is
 pub answered : {s : List ℕ} {A : Type 0} {d : A} {p : Plan A} {h h' : Head} {l l' : List Row} {r : Result A Halt} → Took s A d p h l r h' l'
@@ -50,7 +50,7 @@ answered e = λ i. (left e i, answer e i)
 
 -- of one that reads and writes
 pub listed : {s : List ℕ} {A : Type 0} {d : A} {p : Plan A} {h h' : Head} {l : List Row} {ws : List ℕ} {r : Result A Halt} → Took s A d p h l r h' (rows_in ws)
-    → let x = does s d p (going_at h l) in ◌≡◌ {A = Head × List ℕ × Result A Halt} (h', ws, r) (head_of x, words_of x.state.list, answer_of x)
+    → let x = does s d p (going_at h l) in ◌≡◌ {A = Head × (List ℕ × Result A Halt)} (h', (ws, r)) (head_of x, (words_of x.state.list, answer_of x))
 listed e = λ i. (left e i, by-words (rows-left e) (answer e) i)
 
 -- what holds of every script of which the rest lies behind n words

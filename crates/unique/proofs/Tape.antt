@@ -1,6 +1,8 @@
 -- A line for each public function of `tape`.
 use mathlib.Core.Bool.{false}
-use mathlib.Core.List.{[]}
+use mathlib.Core.List.{List, []}
+use Prim.Native.Nat.{ℕ}
+use Rattle.std.specs.Prelude.{Result}
 use mathlib.Core.Path.{ap}
 use Rattle.types.specs.declared.card.Signalling.TheVariants.{SDR12}
 use Rattle.tape.specs.declared.progress.Halt.{Halt}
@@ -103,5 +105,5 @@ steps-hold-signalling = determined _ λ _ _ _ p i. (left (p [] []) i, tt)
 script-rest : UniqueIn script.rest.Kinds.ps script.rest.Kinds.r script.rest.Reads.Learnt (λ _ _ x. x.0.now)
 script-rest = part-determined _ λ _ _ _ p. p.0.part
 
-script_take_data : UniqueIn script.take_data.Kinds.ps script.take_data.Kinds.r script.take_data.Reads.Learnt (λ _ _ x. (x.1.0, words_in x.0))
+script_take_data : UniqueIn script.take_data.Kinds.ps script.take_data.Kinds.r script.take_data.Reads.Learnt {X = λ _ _. Head × Result (List ℕ) Halt} (λ _ _ x. (x.1.0, words_in x.0))
 script_take_data = part-determined _ λ _ _ _ p. answered (on-any p)
