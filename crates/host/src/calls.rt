@@ -313,7 +313,8 @@ impl Sdmmc {
         }
     }
 
-    // A write to an address that was judged, of so many blocks.
+    // A write to an address that was judged, of so many blocks. It is not one with a read: a buffer that is lent to be filled and
+    // data that is lent to be sent have no type in common but one that holds the borrow, which each contract would have to name.
     fn write_from(
         self,
         script: &[u32],

@@ -37,7 +37,8 @@ pub struct Held {
     pub card: Card,
 }
 
-// What a call comes to: its answer, the words it used of its script, the rows it wrote, and the next host.
+// What a call comes to: its answer, the words it used of its script, the rows it wrote, and the next host. No `Result`, here and
+// at a status call: a refusal hands back a next host too.
 #[derive(Clone, Copy)]
 pub struct Called {
     pub answer: Answer,

@@ -10,6 +10,7 @@ use tape::progress::Line;
 use text::pen::Pen;
 use types::card::{Card, Signalling};
 
+// Beside `put_class`, which it is like: two texts of another enum.
 fn put_signalling(pen: &mut Pen<'_>, signalling: Signalling)
     ensures { pen.new ≡ written (typed " signalling=" ++ signalling_text signalling) pen.old }
 {

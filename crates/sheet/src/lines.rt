@@ -86,6 +86,7 @@ pub fn tell_called<W: Write>(
     turned.filled(pen.at)
 }
 
+// As the other three: what turns the sheet is shared, and what is written is the line of each.
 pub fn tell_state<W: Write>(
     sheet: Sheet,
     host: Sdmmc,

@@ -151,7 +151,7 @@ impl Bus {
         }
     }
 
-    // The polls, with so many left.
+    // The polls, with so many left. As there: not one with the wait before.
     fn polls(self, phase: Phase, polls: u32) -> Data
         ensures { (ws : Lent) (h : Line) → next (data_plan self phase ws result) h ≡ next (polling self phase ws polls) h }
     {
@@ -375,7 +375,7 @@ impl Bus {
         }
     }
 
-    // After the second status word.
+    // After the second status word. Not one with the first: they go on to readings of their own.
     fn looks(self, phase: Phase, more: u32, word: u32) -> Data
         ensures { (ws : Lent) (h : Line) → next (data_plan self phase ws result) h ≡ heard (next (reads_plan self phase ws (Reads.Again more)) h) word }
     {

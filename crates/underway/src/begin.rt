@@ -25,7 +25,8 @@ use types::register::BlockCount;
 use types::status::Scr;
 
 // What a call begins with: a refusal; the reset rows of an initialisation, by its clock of identification and the asked
-// frequency; the ready wait of a read or of a write, by its address and blocks; or CMD55 of a status call.
+// frequency; the ready wait of a read or of a write, by its address and blocks; or CMD55 of a status call. A refusal is one of
+// these and no `Err`, since it makes a call too: one that is over.
 #[derive(Clone, Copy)]
 pub enum First {
     Refused(Error),
