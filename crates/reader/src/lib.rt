@@ -48,7 +48,12 @@ impl<'a> Reader<'a> {
 pub fn word(script: &[u32], place: usize) -> Option<u32>
     ensures { result ≡ word_at script.now place }
 {
-    script.get(place).copied()
+    // not `get`: the module that is compiled for the reader's processor too has no option of a reference as a result
+    if place < script.len() {
+        Some(script[place])
+    } else {
+        None
+    }
 }
 
 // How many words a reader of this script has left from this place on, none past the end.
