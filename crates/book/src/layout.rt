@@ -68,7 +68,7 @@ pub fn load(bytes: &[u8], words: &mut [u32]) -> usize
 pub fn word(words: &[u32], i: usize) -> u32
     ensures { result ≡ get_or words.now i 0 }
 {
-    // not `get`: as in `reader::word`, an option of a reference is no result on the reader's processor
+    // not `get`: as in `Reader::here`, for the module's sake
     if i < words.len() { words[i] } else { 0 }
 }
 

@@ -40,6 +40,7 @@ pub fn feed(call: Call, script: &[u32], data: &[u8], rows: &mut [u64]) -> Fed
     ensures placed { result.place ≡ place_from script.now (starts (under (lent (words_of «data».now) []) call)) (rows_in rows.old) }
 {
     let mut feeding = Feeding::begin(call);
+    // a call's turns are as many as its script and its rows make them, so there is no range to go through
     loop {
         let turn = feeding.turn(script, data, rows);
         let event = turn.event;

@@ -32,14 +32,19 @@ impl<'a> Reader<'a> {
     pub fn here(self) -> Option<u32>
         ensures { result ≡ word_at self.entry.script.now self.entry.place }
     {
-        word(self.script, self.place)
+        // not `get`: the module that is compiled for a 32-bit processor too has no option of a reference as a result
+        if self.place < self.script.len() {
+            Some(self.script[self.place])
+        } else {
+            None
+        }
     }
 
     // How many words are left from its place on.
     pub fn left(self) -> usize
         ensures { result ≡ left_at self.entry.script.now self.entry.place }
     {
-        left_from(self.script, self.place)
+        self.script.len().saturating_sub(self.place)
     }
 }
 
@@ -48,17 +53,12 @@ impl<'a> Reader<'a> {
 pub fn word(script: &[u32], place: usize) -> Option<u32>
     ensures { result ≡ word_at script.now place }
 {
-    // not `get`: the module that is compiled for the reader's processor too has no option of a reference as a result
-    if place < script.len() {
-        Some(script[place])
-    } else {
-        None
-    }
+    Reader::new(script).moved(place).here()
 }
 
 // How many words a reader of this script has left from this place on, none past the end.
 pub fn left_from(script: &[u32], place: usize) -> usize
     ensures { result ≡ left_at script.now place }
 {
-    script.len().saturating_sub(place)
+    Reader::new(script).moved(place).left()
 }

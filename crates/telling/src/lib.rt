@@ -108,6 +108,7 @@ fn take_turns<W: Write>(
 {
     let mut feeding = Feeding::begin(call);
     let mut page = sheet;
+    // a call's turns are as many as its script and its rows make them, so there is no range to go through
     loop {
         let turn = feeding.turn(script, data, rows);
         let event = turn.event;

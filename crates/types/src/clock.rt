@@ -91,6 +91,7 @@ pub fn clock_setting(source: Hertz, requested: Hertz, allow_bypass: bool) -> Res
             frequency: source,
         });
     }
+    // not by `?`, which takes 14 bytes more of the boot stage's flash
     let Some(divisor) = divisor_for(source, requested) else {
         return Err(Error::BadClock);
     };
