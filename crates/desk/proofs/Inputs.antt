@@ -1,7 +1,9 @@
 -- What a buffer holds, reading by reading.
-use Rattle.std.proofs.Common.{◌≡◌, ℕ, ◌+◌, ◌≤◌, List, ◌++◌, Option, length, take, drop, sym, ap, ◌∙◌, subst, le_refl, drop_at, length-take-le}
+use Rattle.std.proofs.Common.{◌≡◌, ℕ, zero, suc, ◌+◌, ◌≤◌, List, ◌++◌, Option, Some, Result, Ok, Err, length, take, drop, sym, ap, ◌∙◌, subst, le_refl, drop_at, length-take-le}
 use Rattle.std.proofs.lemmas.Slice.{take-put_mid_below}
 use Rattle.std.specs.Io.KnownBytes.{Consumes}
+use Rattle.std.specs.declared.io.Error.{Error}
+use Rattle.desk.specs.Input.{came}
 use Rattle.std.proofs.KnownBytes.{Consumes-trans}
 use borrow.Rule.Slice.PartMut.{put_mid, post_of}
 use lib.Seq.{take-add, take-append-le}
@@ -18,3 +20,9 @@ part a k n xs ys within fits =
 pub more_read : (a b c : Option (List ℕ)) (at k n : ℕ) (xs ys : List ℕ) → at ≤ length xs → n ≤ length ys → Consumes a b (take at xs) → Consumes b c (take n ys)
     → Consumes a c (take (at + n) (put_mid at k xs ys))
 more_read a b c at k n xs ys within fits before read = subst (Consumes a c) (part at k n xs ys within fits) (Consumes-trans a b c _ _ before read)
+
+-- bytes came where a reading gave them
+pub came_some : (got : Result ℕ Error) (more : ℕ) → came got ≡ Ok (Some more) → got ≡ Ok more
+came_some (Ok zero) more told = cc
+came_some (Ok (suc n)) more told = cc
+came_some (Err why) more told = cc

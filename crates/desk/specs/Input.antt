@@ -1,8 +1,15 @@
 -- What a reading of a whole buffer comes to: how many bytes came before the input's end, or why they did not come whole.
-use Rattle.std.specs.Prelude.{ℕ, ◌<◌, ◌≤◌, Option, Result, Ok, Err, List, length, take}
+use Rattle.std.specs.Prelude.{ℕ, zero, suc, ◌<◌, ◌≤◌, Option, None, Some, Result, Ok, Err, List, length, take}
 use Rattle.std.specs.Io.KnownBytes.{Consumes, IsAtEnd}
+use Rattle.std.specs.declared.io.Error.{Error}
 use Rattle.desk.specs.declared.input.InputError.{InputError}
 use Rattle.desk.specs.declared.input.InputError.TheVariants.{Full, Failed}
+
+-- what a reading gave: so many bytes, none at the end of the input, or that it failed
+abbrev pub came : Result ℕ Error → Result (Option ℕ) InputError
+came (Ok zero) = Ok None
+came (Ok (suc n)) = Ok (Some (suc n))
+came (Err why) = Err (Failed why)
 
 -- the input ended before the buffer was filled; and nothing is read into no room, so that nothing fails
 abbrev pub Within : Result ℕ InputError → ℕ → Type 0

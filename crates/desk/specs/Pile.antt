@@ -1,5 +1,5 @@
 -- A pile: what is read of it until its next book is there.
-use Rattle.std.specs.Prelude.{ℕ, ◌+◌, ◌*◌, ◌-◌, ◌≤◌, ◌<◌, min, Option, None, Some, Result, Ok, Err, List, [], ◌++◌, ◌≡◌, get_or, length, take}
+use Rattle.std.specs.Prelude.{ℕ, zero, suc, ◌+◌, ◌*◌, ◌-◌, ◌≤◌, ◌<◌, min, Option, None, Some, Result, Ok, Err, List, [], ◌++◌, ◌≡◌, get_or, length, take}
 use Rattle.std.specs.Io.KnownBytes.{Consumes, IsAtEnd}
 use Rattle.desk.specs.declared.input.InputError.{InputError}
 use Rattle.desk.specs.declared.input.InputError.TheVariants as I
@@ -19,6 +19,14 @@ abbrev pub part_of : Result ℕ InputError → Result (Unit {0}) PileError
 part_of (Err Full) = Ok tt
 part_of (Ok n) = Err Cut
 part_of (Err (I.Failed why)) = Err (Failed why)
+
+-- the four bytes of a length were to be read. An input that ends before the first of them is the pile's end, and one that
+-- ends among them is cut short
+abbrev pub announced_of : Result ℕ InputError → ℕ → Result (Option ℕ) PileError
+announced_of (Ok zero) size = Ok None
+announced_of (Ok (suc n)) size = Err Cut
+announced_of (Err Full) size = Ok (Some size)
+announced_of (Err (I.Failed why)) size = Err (Failed why)
 
 -- What a reader gives is known where its bytes are; what it has left is told as `old` before and `new` after.
 

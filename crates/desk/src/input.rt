@@ -1,7 +1,7 @@
 // All of standard input.
 ghost use Rattle.std.specs.Prelude.{◌≡◌, length};
 ghost use Rattle.desk.specs.declared.input.InputError.TheVariants.{Failed};
-ghost use Rattle.desk.specs.Input.{Begins, Reads, Within};
+ghost use Rattle.desk.specs.Input.{came, Begins, Reads, Within};
 
 use std::io;
 use std::io::Read;
@@ -22,6 +22,16 @@ impl From<io::Error> for InputError {
     }
 }
 
+// What a reading gave: so many bytes, or none at the end of the input. It fails where the reading did, and nowhere else.
+fn came(got: io::Result<usize>) -> Result<Option<usize>, InputError>
+    ensures { result ≡ came got }
+{
+    match got? {
+        0 => Ok(None),
+        more => Ok(Some(more)),
+    }
+}
+
 // Reads to the end of the input, and answers how many bytes came. A buffer that is filled counts as too small, since more
 // may come.
 pub fn read_all<R: Read>(buffer: &mut [u8], source: &mut Source<R>) -> Result<usize, InputError>
@@ -31,10 +41,9 @@ pub fn read_all<R: Read>(buffer: &mut [u8], source: &mut Source<R>) -> Result<us
     let mut done = 0;
     // how far a turn comes is what the reading says, so there is no range to go through
     while done < buffer.len() {
-        let more = source.get(&mut buffer[done..])?;
-        if more == 0 {
+        let Some(more) = came(source.get(&mut buffer[done..]))? else {
             return Ok(done);
-        }
+        };
         done += more;
     }
     Err(InputError::Full)

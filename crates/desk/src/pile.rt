@@ -1,7 +1,7 @@
 // Standard input book by book. In a pile each book has its length in bytes in front, as a 32-bit little-endian word.
 ghost use Rattle.std.specs.Prelude.{◌≡◌, OnOk, length};
 ghost use Rattle.std.specs.Io.KnownBytes.{Consumes};
-ghost use Rattle.desk.specs.Pile.{part_of, Passes, Lengths, Books, Holds};
+ghost use Rattle.desk.specs.Pile.{part_of, little_of, announced_of, Passes, Lengths, Books, Holds};
 
 use crate::input;
 use crate::input::InputError;
@@ -53,15 +53,23 @@ fn skip<R: Read>(count: usize, source: &mut Source<R>) -> Result<(), PileError>
     Ok(())
 }
 
+// The length of the next book, by what a reading of its four bytes gave: none where the pile ended before them.
+fn announced(read: Result<usize, InputError>, bytes: [u8; 4]) -> Result<Option<usize>, PileError>
+    ensures { result ≡ announced_of read (little_of bytes) }
+{
+    match read {
+        Ok(0) => Ok(None),
+        _ => part_of(read).map(|()| Some(u32::from_le_bytes(bytes) as usize)),
+    }
+}
+
 // The length of the next book; none at the pile's end.
 fn read_length<R: Read>(source: &mut Source<R>) -> Result<Option<usize>, PileError>
     ensures { Lengths (R.remaining source.old.from) (R.remaining source.new.from) result }
 {
     let mut bytes = [0u8; 4];
-    match input::read_all(&mut bytes, source) {
-        Ok(0) => Ok(None),
-        read => part_of(read).map(|()| Some(u32::from_le_bytes(bytes) as usize)),
-    }
+    let read = input::read_all(&mut bytes, source);
+    announced(read, bytes)
 }
 
 // Reads the next book of the pile, and answers how many of its bytes are in the buffer: none at the pile's end. What the
