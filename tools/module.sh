@@ -10,9 +10,11 @@ links() { # FROM TO: links each entry that TO has not
 }
 
 # Whether the library that stands in a crate's out/ is the one that `rt ci` built of the sources as they stand. Those of other
-# commands have a stamp, by which rt knows them; what a run of `rt ci` found it puts back behind it.
+# commands have a stamp, by which rt knows them; what a run of `rt ci` found it puts back behind it. A run that kept a crate's
+# proof, from another run on this machine, leaves the library that was there, so that it may be an older one.
 is_of_ci() { # REPOSITORY CRATE
-    [ -d "$1/crates/$2/out/rlib/$2.rlib" ] && [ ! -f "$1/crates/$2/out/rlib/stamp" ] && is_fresh "$1" "$2"
+    rlib=$1/crates/$2/out/rlib
+    [ -d "$rlib/$2.rlib" ] && [ ! -f "$rlib/stamp" ] && is_fresh "$1" "$2" && is_younger "$1" "$rlib/$2.rlib"
 }
 
 # Proves the crate as a static library and writes FOLDER/module.bc, FOLDER/x86_64/libCRATE.a and FOLDER/proof.log; on failure
