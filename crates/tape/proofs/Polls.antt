@@ -56,7 +56,7 @@ module _ {like : ℕ → Bool} {n : ℕ} {ws : List ℕ} where
         none (suc m) (v ∷ vs) h = absurd (omega (arith, h))
 
   -- by a loop over the words in front, of which there are m
-  module _ {m : ℕ} (most : m ≡ min (length ws) n) where
+  module _ {m : ℕ} (most : m ≡ min n (length ws)) where
     module _ {i : ℕ} (t : Led like n ws i) (here : i < length (take m ws)) where
       below : i < m
       below = let all = length-take-le m ws (omega (arith, most)) in rw all at here

@@ -79,26 +79,33 @@ pub fn read_word(head: &mut Head, rest: &[u32], start: usize) -> Result<u32, Hal
     Ok(word)
 }
 
+// At most so many of the words.
+fn most(words: &[u32], limit: u32) -> usize
+    ensures { result ≡ min limit (length words.now) }
+{
+    words.len().min(limit as usize)
+}
+
 // How many of the words in front, at most so many, have a bit of the mask: polls that find the controller busy. A loop over
 // plain words, since a card may keep its host waiting for a million of them.
 pub fn busy(words: &[u32], limit: u32, mask: u32) -> usize
     ensures { result ≡ leading limit (λ w. not (clear mask w)) words.now }
 {
-    let most = words.len().min(limit as usize);
-    for (i, &word) in words[..most].iter().enumerate() {
+    let count = most(words, limit);
+    for (i, &word) in words[..count].iter().enumerate() {
         if word & mask == 0 {
             return i;
         }
     }
-    most
+    count
 }
 
 // How many of the words in front, at most so many, have no bit of either mask: polls that find nothing done and nothing wrong.
 pub fn quiet(words: &[u32], limit: u32, done: u32, wrong: u32) -> usize
     ensures { result ≡ leading limit (λ w. clear done w && clear wrong w) words.now }
 {
-    let most = words.len().min(limit as usize);
-    for (i, &word) in words[..most].iter().enumerate() {
+    let count = most(words, limit);
+    for (i, &word) in words[..count].iter().enumerate() {
         if word & done != 0 {
             return i;
         }
@@ -106,7 +113,7 @@ pub fn quiet(words: &[u32], limit: u32, done: u32, wrong: u32) -> usize
             return i;
         }
     }
-    most
+    count
 }
 
 // Takes so many data words of a script of which `rest` is what lies behind its first `start` words: they are lent on, so

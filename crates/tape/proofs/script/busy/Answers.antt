@@ -3,10 +3,10 @@ use Rattle.tape.proofs.Polls.{one-more-led, led-to-one, led-to-the-end}
 use Rattle.tape.proofs.script.busy.Goals as goal
 
 pub returns-then-word-mask-eq0 : goal.returns-then-word-mask-eq0
-returns-then-word-mask-eq0 c = led-to-one c.min-most.ensures c.loop-i.invariant c.loop-i-test.true (rw (eq-eqb _ 0 c.if-word-mask-eq0.true))
+returns-then-word-mask-eq0 c = led-to-one c.most-count.ensures c.loop-i.invariant c.loop-i-test.true (rw (eq-eqb _ 0 c.if-word-mask-eq0.true))
 
 pub loop-i-preserved : goal.loop-i-preserved
-loop-i-preserved c = one-more-led c.min-most.ensures c.loop-i.invariant c.loop-i-test.true (rw (ne_eqb _ 0 c.if-word-mask-eq0.false))
+loop-i-preserved c = one-more-led c.most-count.ensures c.loop-i.invariant c.loop-i-test.true (rw (ne_eqb _ 0 c.if-word-mask-eq0.false))
 
 pub returns : goal.returns
-returns c = led-to-the-end c.min-most.ensures c.loop-i.invariant c.loop-i-test.false
+returns c = led-to-the-end c.most-count.ensures c.loop-i.invariant c.loop-i-test.false
