@@ -13,7 +13,9 @@ use Rattle.types.specs.Leaf.{data_of}
 use Rattle.types.specs.Sd.{ready_of}
 use Rattle.tape.specs.Pace.{Going}
 use Rattle.tape.specs.Plan.{refusing}
-use Rattle.tape.specs.Run.{State, Gave}
+use Rattle.tape.specs.declared.progress.Head.{Head}
+use Rattle.tape.specs.declared.rows.Row.{Row}
+use Rattle.tape.specs.Run.{State, going_at, left_at, Gave, Took, Lies}
 use Rattle.tape.specs.Steps.{wait_idle, reset_controller, stop_data, set_clken}
 use Rattle.tape.proofs.Words.{AtMost, at-most-handle, at-most-give, at-most-fail, at-most-word, at-most-row, at-most-look}
 use Rattle.tape.proofs.Words.{at_most_test, at-most-ensure, at_most_then, at-most-after, at-most-until, at_most_data, at_most_send, taken}
@@ -25,7 +27,7 @@ use Rattle.bus.specs.Command.{complete, command_inner, command, app_command}
 use Rattle.bus.specs.declared.transfer.Transfer.{Transfer}
 use Rattle.bus.specs.Ready.{retry_delay, read_status, try_ready, wait_ready}
 use Rattle.bus.specs.Transfer.{Buffer, incoming, outgoing, arm, ready_data, order_data, before_command, after_command, landed, start_data, heeded, clean, poll_transfer, drained, settle, data_complete, wait_data}
-use Rattle.bus.specs.Transfer.{receive, close_gate, of_many, stop_transmission, end_data, transfer_data, blocking_data}
+use Rattle.bus.specs.Transfer.{receive, close_gate, of_many, stop_transmission, end_data, transfer_data, data_place, blocking_data}
 
 idle-words : (limit : ℕ) (transfer : Bool) → AtMost limit (wait_idle limit transfer)
 unfolding wait_idle
@@ -253,7 +255,7 @@ own-length zero l = refl
 own-length (suc n) [] = refl
 own-length (suc n) (x ∷ l) = ap (λ (r : List ℕ). x ∷ r) (own-length n l)
 
--- which lie in the script from the place on that is handed back.
+-- which lie in the script from the place on that is told of them.
 pub data-place : (source : ℕ) (config : Config) (transfer : Transfer) (rca : ℕ) (s : List ℕ) (place count : ℕ) {w w' : State}
     → Gave s (List ℕ) [] (blocking_data source config incoming transfer rca) w (take count (drop place s)) w' → w'.progress.pace ≡ Going
     → (take count (drop place s) ≡ take transfer.words (drop place s)) × (transfer.words ≤ length s - place)
@@ -261,3 +263,9 @@ unfolding count_in
 data-place source config transfer rca s place count e g =
     let long : length (take count (drop place s)) ≡ transfer.words = given (gives-words source config incoming transfer rca) e g in
     (sym (own-length count (drop place s)) ∙ ap (λ (n : ℕ). take n (drop place s)) long, omega (arith, long, length-take count (drop place s), length-drop place s))
+
+-- The clauses of the function `blocking_data` tell it: `data_place`.
+pub data_placed : (source : ℕ) (config : Config) (transfer : Transfer) (rca : ℕ) {s ws : List ℕ} {h h' : Head} {l l' : List Row}
+    → Took s (List ℕ) [] (blocking_data source config incoming transfer rca) h l (Ok ws) h' l' → Lies s (data_place s config transfer (going_at h l)) transfer.words (Ok ws)
+    → Gave s (List ℕ) [] (blocking_data source config incoming transfer rca) (going_at h l) (take transfer.words (drop (data_place s config transfer (going_at h l)) s)) (left_at (Ok ws) h' l')
+data_placed source config transfer rca took lies = rw lies.there at took.gave

@@ -8,7 +8,7 @@ use Rattle.types.specs.Leaf.{data_of}
 use Rattle.tape.specs.declared.script.Reading.TheVariants as Reading
 use Rattle.tape.specs.Plan.{Nothing, Plan, give, look, ◌then◌, guard, fail, ensure, until}
 use Rattle.tape.specs.declared.progress.Halt.{Halt}
-use Rattle.tape.specs.Run.{seen_as}
+use Rattle.tape.specs.Run.{State, does, seen_as}
 use Rattle.tape.specs.Rows.{DTIMER, DLEN, DCTRL, DCTRL2, dctrl_of}
 use Rattle.tape.specs.Steps.{word, row, data_words, send_words, wait_idle, reset_controller, stop_data, set_clken}
 use Rattle.bus.specs.declared.poll.Poll.{Poll}
@@ -134,6 +134,13 @@ transfer_data source config buffer transfer rca =
     then λ _. receive config.poll_limit buffer transfer.words
     then λ ws. end_data source config transfer.index rca
     then λ _. give ws
+
+-- where a read's data words lie: behind the words used up to the poll that completes
+abbrev pub place_after : List ℕ → Plan Nothing → State → ℕ
+place_after s p w = (does s (tt {0}) p w).state.progress.used
+
+abbrev pub data_place : List ℕ → Config → Transfer → State → ℕ
+data_place s config transfer w = place_after s (start_data config incoming transfer then λ _. wait_data config.poll_limit) w
 
 -- a refusal in a data phase: reset rows
 unfoldable pub blocking_data : ℕ → Config → Buffer → Transfer → ℕ → Plan (List ℕ)

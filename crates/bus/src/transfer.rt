@@ -3,9 +3,9 @@ ghost use Rattle.std.specs.Prelude.{◌≡◌, List, [], ℕ, ◌*◌, ◌/◌, 
 ghost use Rattle.types.specs.Words.{words_of};
 ghost use Rattle.tape.specs.Layout.{rows_in};
 ghost use Rattle.tape.specs.Rows.{DCTRL, dctrl_of};
-ghost use Rattle.tape.specs.Run.{words_in, Took, Went};
+ghost use Rattle.tape.specs.Run.{going_at, words_in, Took, Went, Lies};
 ghost use Rattle.tape.specs.Steps.{row};
-ghost use Rattle.bus.specs.Transfer.{incoming, outgoing, sent_in, arm, ready_data, order_data, start_data, receive, close_gate, of_many, stop_transmission, end_data, transfer_data, blocking_data};
+ghost use Rattle.bus.specs.Transfer.{incoming, outgoing, sent_in, arm, ready_data, order_data, start_data, wait_data, receive, close_gate, of_many, stop_transmission, end_data, transfer_data, place_after, data_place, blocking_data};
 
 use crate::response::Response;
 use crate::{command, poll, ready};
@@ -122,7 +122,8 @@ fn receive<'a>(
     limit: u32,
     count: u16,
 ) -> Result<&'a [u32], Halt>
-    ensures { (l : List Row) → Took script.now (List ℕ) [] (receive limit incoming count) head.old l (words_in result) head.new l }
+    ensures took { (l : List Row) → Took script.now (List ℕ) [] (receive limit incoming count) head.old l (words_in result) head.new l }
+    ensures lie { (l : List Row) → Lies script.now (place_after script.now (wait_data limit) (going_at head.old l)) count (words_in result) }
 {
     let start = head.used;
     let rest = script::rest(script, start);
@@ -191,7 +192,8 @@ fn transfer_data<'a>(
     transfer: Transfer,
     rca: u16,
 ) -> Result<&'a [u32], Halt>
-    ensures { Took script.now (List ℕ) [] (transfer_data source.0 config incoming transfer rca) head.old (rows_in rows.old) (words_in result) head.new (rows_in rows.new) }
+    ensures took { Took script.now (List ℕ) [] (transfer_data source.0 config incoming transfer rca) head.old (rows_in rows.old) (words_in result) head.new (rows_in rows.new) }
+    ensures lie { Lies script.now (data_place script.now config transfer (going_at head.old (rows_in rows.old))) transfer.words (words_in result) }
 {
     start_data(head, script, rows, config, transfer)?;
     let words = receive(head, script, config.poll_limit, transfer.words)?;
@@ -209,7 +211,8 @@ pub fn blocking_data<'a>(
     transfer: Transfer,
     rca: u16,
 ) -> Result<&'a [u32], Halt>
-    ensures { Took script.now (List ℕ) [] (blocking_data source.0 config incoming transfer rca) head.old (rows_in rows.old) (words_in result) head.new (rows_in rows.new) }
+    ensures took { Took script.now (List ℕ) [] (blocking_data source.0 config incoming transfer rca) head.old (rows_in rows.old) (words_in result) head.new (rows_in rows.new) }
+    ensures lie { Lies script.now (data_place script.now config transfer (going_at head.old (rows_in rows.old))) transfer.words (words_in result) }
 {
     match transfer_data(head, script, rows, source, config, transfer, rca) {
         Ok(words) => Ok(words),

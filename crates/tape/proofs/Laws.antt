@@ -192,6 +192,11 @@ pub bind : {s : List ℕ} {A B : Type 0} {d : A} {d' : B} {p : Plan A} (f : A �
 bind {s} {A} {B} {d} {d'} {p} f {w} {w'} {w''} {v} {v'} e g =
     record { same = g.same ∙ ap (λ (x : After A). does s d' (f x.value) x.state) e.same ∙ sym (does_then s d d' p f w) }
 
+-- a step that gives nothing, and then the next
+pub seq : {s : List ℕ} {B : Type 0} {d : B} {p : Plan Nothing} {q : Plan B} {w w' w'' : State} {v : B}
+    → Did s p w w' → Gave s B d q w' v w'' → Gave s B d (p then λ _. q) w v w''
+seq {s} {B} {d} {p} {q} e g = bind (λ _. q) e g
+
 -- a step whose value is not asked for
 pub forget : {s : List ℕ} {A : Type 0} {d : A} {p : Plan A} {w w' : State} {v : A}
     → Gave s A d p w v w' → Did s (p then λ _. give tt) w w'

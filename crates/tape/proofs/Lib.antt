@@ -3,6 +3,7 @@ pub mod Ends
 pub mod Laws
 pub mod Layouts
 pub mod Loops
+pub mod Lying
 pub mod Converts
 pub mod Room
 pub mod Sending

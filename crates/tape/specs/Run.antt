@@ -1,6 +1,6 @@
 -- What a plan does to a call under way, on a script. A step's contract says it by `Took`, or by `Went` where it gives
 -- nothing.
-use Rattle.std.specs.Prelude.{ℕ, ◌+◌, ◌≡◌, Bool, true, cond, List, length, get_or, drop, set, ltb, eqb, Result, Ok, Err}
+use Rattle.std.specs.Prelude.{ℕ, ◌+◌, ◌-◌, ◌≤◌, ◌≡◌, Bool, true, cond, List, length, get_or, take, drop, set, ltb, eqb, Result, Ok, Err, IfOk}
 use Rattle.std.specs.Borrow.{Bor}
 use Rattle.tape.specs.declared.progress.Head.{Head}
 use Rattle.tape.specs.declared.progress.Halt.{Halt}
@@ -148,3 +148,8 @@ seen_as f (Err x) = Err x
 -- lent words, as the list that they are
 abbrev pub words_in : Result (Bor (List ℕ)) Halt → Result (List ℕ) Halt
 words_in r = seen_as (λ (lent : Bor (List ℕ)). lent.now) r
+
+-- the words of an answer, by where they lie in a script: n of them from a place on, all there; an answer without words tells none
+pub record Lies (s : List ℕ) (from n : ℕ) (r : Result (List ℕ) Halt) : Type 0 where
+  pub there : IfOk r (λ words. words ≡ take n (drop from s))
+  pub whole : IfOk r (λ words. n ≤ length s - from)

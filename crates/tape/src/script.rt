@@ -2,7 +2,7 @@
 ghost use Rattle.std.specs.Prelude.{◌≡◌, not, ◌&&◌, List, [], ℕ, ◌+◌, ◌^◌, ◌<◌, ◌≤◌, min, length, take, drop};
 ghost use Rattle.types.specs.Bits.{clear};
 ghost use Rattle.tape.specs.Polls.{leading};
-ghost use Rattle.tape.specs.Run.{Behind, Took, words_in};
+ghost use Rattle.tape.specs.Run.{Behind, Took, words_in, Lies};
 ghost use Rattle.tape.specs.Steps.{word, data_words};
 
 use crate::progress::{Halt, Head};
@@ -125,7 +125,8 @@ pub fn take_data<'a>(
     count: usize,
 ) -> Result<&'a [u32], Halt>
     requires { (start ≤ head.old.used) × (start + length rest.now < 2 ^ 64) }
-    ensures { (s : List ℕ) (l : List Row) → Behind start rest.now s → Took s (List ℕ) [] (data_words count) head.old l (words_in result) head.new l }
+    ensures took { (s : List ℕ) (l : List Row) → Behind start rest.now s → Took s (List ℕ) [] (data_words count) head.old l (words_in result) head.new l }
+    ensures lie { (s : List ℕ) → Behind start rest.now s → Lies s head.old.used count (words_in result) }
 {
     let from = head.used - start;
     let more = reader::left_from(rest, from);

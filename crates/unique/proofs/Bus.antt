@@ -93,6 +93,6 @@ none-back (Err x) = refl
 transfer_blocking_send : Unique transfer.blocking_send.Kinds.ps transfer.blocking_send.Kinds.r transfer.blocking_send.Reads.Learnt
 transfer_blocking_send = determined _ λ _ _ x p i. (left p i, by-words (rows-left p) (none-back x.0 ∙ ap none_in (answer p)) i)
 
--- An exception: what it gives is lent. What it holds is promised, and not where it lies.
+-- An exception: what it gives is lent. What it holds is promised, and from which place of the script on; not which loan it is.
 transfer_blocking_data : UniqueIn transfer.blocking_data.Kinds.ps transfer.blocking_data.Kinds.r transfer.blocking_data.Reads.Learnt {X = λ _ _. Head × (List ℕ × Result (List ℕ) Halt)} (λ _ _ x. (x.1.0, (x.1.1.1.0, words_in x.0)))
-transfer_blocking_data = part-determined _ λ _ _ _ p. listed p
+transfer_blocking_data = part-determined _ λ _ _ _ p. listed p.0

@@ -101,9 +101,10 @@ steps-hold-clock = determined _ λ _ _ _ p i. (left (p [] []) i, tt)
 steps-hold-signalling : Unique steps.hold_signalling.Kinds.ps steps.hold_signalling.Kinds.r steps.hold_signalling.Reads.Learnt
 steps-hold-signalling = determined _ λ _ _ _ p i. (left (p [] []) i, tt)
 
--- Exceptions: what they give is lent. What it holds is promised, and not where it lies.
+-- Exceptions: what they give is lent. What it holds is promised, and of data words from which place of the script on they are;
+-- not which loan it is.
 script-rest : UniqueIn script.rest.Kinds.ps script.rest.Kinds.r script.rest.Reads.Learnt (λ _ _ x. x.0.now)
 script-rest = part-determined _ λ _ _ _ p. p.0.part
 
 script_take_data : UniqueIn script.take_data.Kinds.ps script.take_data.Kinds.r script.take_data.Reads.Learnt {X = λ _ _. Head × Result (List ℕ) Halt} (λ _ _ x. (x.1.0, words_in x.0))
-script_take_data = part-determined _ λ _ _ _ p. answered (on-any p)
+script_take_data = part-determined _ λ _ _ _ p. answered (on-any p.0)

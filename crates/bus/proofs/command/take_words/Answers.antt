@@ -61,19 +61,19 @@ four : {n : ℕ} {rest ws : List ℕ} {h h' : Head} → ((s : List ℕ) (l : Lis
 four {n} {rest} e = some-script n rest (λ s part. given (gives_data 0 4) (e s [] part).gave refl)
 
 pub returns-in_err-words : goal.returns-in_err-words
-returns-in_err-words c = λ s l part. passed c.from_residual.ensures.1 (responds (c.in_err-words.ensures s l part))
+returns-in_err-words c = λ s l part. passed c.from_residual.ensures.1 (responds (c.in_err-words.ensures.took s l part))
 
 pub bounds-words-0 : goal.bounds-words-0
-bounds-words-0 c = omega (arith, four c.in_ok-words.ensures)
+bounds-words-0 c = omega (arith, four c.in_ok-words.ensures.took)
 
 pub bounds-words-1 : goal.bounds-words-1
-bounds-words-1 c = omega (arith, four c.in_ok-words.ensures)
+bounds-words-1 c = omega (arith, four c.in_ok-words.ensures.took)
 
 pub bounds-words-2 : goal.bounds-words-2
-bounds-words-2 c = omega (arith, four c.in_ok-words.ensures)
+bounds-words-2 c = omega (arith, four c.in_ok-words.ensures.took)
 
 pub bounds-words-3 : goal.bounds-words-3
-bounds-words-3 c = omega (arith, four c.in_ok-words.ensures)
+bounds-words-3 c = omega (arith, four c.in_ok-words.ensures.took)
 
 pub returns : goal.returns
-returns c = λ s l part. responds (c.in_ok-words.ensures s l part)
+returns c = λ s l part. responds (c.in_ok-words.ensures.took s l part)

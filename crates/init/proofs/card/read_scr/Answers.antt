@@ -16,8 +16,8 @@ returns-in_err-app_command c = next (c.in_ok-wait_ready.ensures) (next (c.in_ok-
 
 pub returns-in_err-read : goal.returns-in_err-read
 unfolding read_scr
-returns-in_err-read c = next (c.in_ok-wait_ready.ensures) (next (c.in_ok-set_block_length.ensures) (next (c.in_ok-app_command.ensures) (cut _ (c.in_err-read.ensures) (passed-as _ c.from_residual-in_err-read.result _ c.from_residual-in_err-read.ensures.1))))
+returns-in_err-read c = next (c.in_ok-wait_ready.ensures) (next (c.in_ok-set_block_length.ensures) (next (c.in_ok-app_command.ensures) (cut _ (c.in_err-read.ensures.took) (passed-as _ c.from_residual-in_err-read.result _ c.from_residual-in_err-read.ensures.1))))
 
 pub returns : goal.returns
 unfolding read_scr
-returns c = next (c.in_ok-wait_ready.ensures) (next (c.in_ok-set_block_length.ensures) (next (c.in_ok-app_command.ensures) (carry _ (c.in_ok-read.ensures) (rw (c.scr_value.ensures, c.word-first.ensures, c.word-second.ensures) gives))))
+returns c = next (c.in_ok-wait_ready.ensures) (next (c.in_ok-set_block_length.ensures) (next (c.in_ok-app_command.ensures) (carry _ (c.in_ok-read.ensures.took) (rw (c.scr_value.ensures, c.word-first.ensures, c.word-second.ensures) gives))))

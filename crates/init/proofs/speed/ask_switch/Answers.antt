@@ -6,14 +6,14 @@ use Rattle.init.proofs.speed.ask_switch.Goals as goal
 
 pub returns-in_err-read : goal.returns-in_err-read
 unfolding ask_switch
-returns-in_err-read c = cut _ c.in_err-read.ensures c.from_residual.ensures.1
+returns-in_err-read c = cut _ c.in_err-read.ensures.took c.from_residual.ensures.1
 
 pub returns-then-offers : goal.returns-then-offers
 unfolding ask_switch
 returns-then-offers c = let says = sym (c.offers.ensures ∙ ap offered c.sixteen.ensures ∙ offered_sixteen _) ∙ c.if-offers.true in
-    carry _ c.in_ok-read.ensures (on_true _ says c.take_switch.ensures)
+    carry _ c.in_ok-read.ensures.took (on_true _ says c.take_switch.ensures)
 
 pub returns : goal.returns
 unfolding ask_switch
 returns c = let says = sym (c.offers.ensures ∙ ap offered c.sixteen.ensures ∙ offered_sixteen _) ∙ c.if-offers.false in
-    carry _ c.in_ok-read.ensures (on_false _ says gives)
+    carry _ c.in_ok-read.ensures.took (on_false _ says gives)

@@ -57,17 +57,28 @@ module _ (s : List ℕ) where
           let all : u + (length s - u) ≡ u = omega arith in
           rw (le-ltb u (length s) (omega arith), all)
 
-pub returns-then-more-count : goal.returns-then-more-count
-returns-then-more-count c = let a = c.args in
+pub returns-then-more-count-clause-took : goal.returns-then-more-count-clause-took
+returns-then-more-count-clause-took c = let a = c.args in
     let more : c.left_from-more.result ≡ length a.rest.now - (a.head.now.used - a.start) = c.left_from-more.ensures in
     λ s l part.
     let left = more ∙ sym (left-used part c.requires.0) in
     took (rw left (sym (ended s 0 _ _ _ _ l (omega (arith, left)))))
 
-pub returns : goal.returns
-returns c = let a = c.args in
+pub returns-then-more-count-clause-lie : goal.returns-then-more-count-clause-lie
+returns-then-more-count-clause-lie c = λ s part. record { there = tt; whole = tt }
+
+pub returns-clause-took : goal.returns-clause-took
+returns-clause-took c = let a = c.args in
     let more : c.left_from-more.result ≡ length a.rest.now - (a.head.now.used - a.start) = c.left_from-more.ensures in
     λ s l part.
     let left = more ∙ sym (left-used part c.requires.0) in
     let lent = (further part c.requires.0 c.rest-left.ensures.part).part in
     took (rw lent (sym (there s 0 _ _ _ _ l (omega (arith, left)))))
+
+pub returns-clause-lie : goal.returns-clause-lie
+returns-clause-lie c = let a = c.args in
+    let more : c.left_from-more.result ≡ length a.rest.now - (a.head.now.used - a.start) = c.left_from-more.ensures in
+    λ s part. record {
+      there = rw (further part c.requires.0 c.rest-left.ensures.part).part;
+      whole = omega (arith, more, left-used part c.requires.0);
+    }

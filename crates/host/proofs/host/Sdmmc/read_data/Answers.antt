@@ -10,7 +10,7 @@ use Rattle.host.proofs.host.Sdmmc.read_data.Goals as goal
 pub returns-in-Ok : goal.returns-in-Ok
 returns-in-Ok c = let host = c.args.self in
     let plan = blocks_plan host incoming c.args.address c.args.blocks in
-    let gave = (rw (c.blocks_transfer-asked.ensures []) at c.in-Ok.ensures).gave in
+    let gave = (rw (c.blocks_transfer-asked.ensures []) at c.in-Ok.ensures.took).gave in
     let came = data-told host plan (blocks_next host) _ {r = c.called.result} refl gave (accepted-told _ _ _ _ _ _ (rw c.with.ensures at c.called.ensures)) in
     record {
       answered = came.0;
@@ -21,7 +21,7 @@ returns-in-Ok c = let host = c.args.self in
 pub returns-in-Err : goal.returns-in-Err
 returns-in-Err c = let host = c.args.self in
     let plan = blocks_plan host incoming c.args.address c.args.blocks in
-    let gave = (rw (c.blocks_transfer-asked.ensures []) at c.in-Err.ensures).gave in
+    let gave = (rw (c.blocks_transfer-asked.ensures []) at c.in-Err.ensures.took).gave in
     let came = data-told host plan (blocks_next host) _ {r = c.ends_without.result} refl gave (c.ends_without.ensures _ _ _) in
     record {
       answered = came.0;

@@ -20,10 +20,10 @@ returns-in-Ok c = let host = c.args.self in
     let status = c.sd_status-status.ensures ∙ ap sd_status_of c.sixteen.ensures ∙ status_sixteen ws in
     let left = going_at c.blocking_data.new.head (rows_in c.blocking_data.new.rows) in
     let next : c.with-next.result ≡ status_next host left ws = rw (c.with_status.ensures, status) at c.with-next.ensures in
-    let came = data-told host (status_plan host) (status_next host) _ {r = c.called.result} refl c.in-Ok.ensures.gave (accepted-told _ _ _ _ _ _ (rw next at c.called.ensures)) in
+    let came = data-told host (status_plan host) (status_next host) _ {r = c.called.result} refl c.in-Ok.ensures.took.gave (accepted-told _ _ _ _ _ _ (rw next at c.called.ensures)) in
     record { answered = came.0; listed = came.1 }
 
 pub returns-in-Err : goal.returns-in-Err
 returns-in-Err c = let host = c.args.self in
-    let came = data-told host (status_plan host) (status_next host) _ {r = c.ends_without.result} refl c.in-Err.ensures.gave (c.ends_without.ensures _ _ _) in
+    let came = data-told host (status_plan host) (status_next host) _ {r = c.ends_without.result} refl c.in-Err.ensures.took.gave (c.ends_without.ensures _ _ _) in
     record { answered = came.0; listed = came.1 }
