@@ -2,7 +2,7 @@
 // what cardtrace prints of it. One book is held at a time, so a pile may be of any size.
 #![tactic(auto)]
 
-ghost use Rattle.std.specs.Prelude.{◌≡◌};
+ghost use Rattle.std.specs.Prelude.{false, ◌≡◌};
 ghost use Rattle.text.specs.Pens.{written};
 ghost use Rattle.cardpile.specs.Said.{book_line, end_text};
 
@@ -41,12 +41,17 @@ fn end_text(error: PileError) -> &'static [u8]
     }
 }
 
-// Says why no book comes next.
-fn end(error: PileError, console: &mut Standard) {
-    let _ = console.errors.put(end_text(error));
-    if let PileError::Failed(why) = error {
-        console.tell(b"cardpile: standard input", why);
+// Says why no book comes next, where that is not the pile's end, and answers not to go on.
+fn end(error: Option<PileError>, console: &mut Standard) -> bool
+    ensures { result ≡ false }
+{
+    if let Some(error) = error {
+        let _ = console.errors.put(end_text(error));
+        if let PileError::Failed(why) = error {
+            console.tell(b"cardpile: standard input", why);
+        }
     }
+    false
 }
 
 // Writes book k.
@@ -91,11 +96,8 @@ fn step(
 ) -> bool {
     match pile::next_book(buffer, &mut console.input) {
         Ok(Some(count)) => show(k, &buffer[..count], room, words, out, console),
-        Ok(None) => false,
-        Err(error) => {
-            end(error, console);
-            false
-        }
+        Ok(None) => end(None, console),
+        Err(error) => end(Some(error), console),
     }
 }
 
