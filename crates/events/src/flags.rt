@@ -15,10 +15,17 @@ struct Flag {
     text: &'static [u8],
 }
 
-// A response came, and its checksum matches.
-const RESPONSE: u32 = 0x40;
+#[derive(Clone, Copy)]
+pub struct Flags {}
 
-const TABLE: [Flag; 12] = [
+impl Flags {
+    // Lines of the table.
+    pub const LINES: usize = 12;
+    // A response came, and its checksum matches.
+    pub const RESPONSE: u32 = 0x40;
+}
+
+const TABLE: [Flag; Flags::LINES] = [
     Flag {
         mask: Sta::TIMED_OUT,
         text: b"no response in time",
@@ -28,7 +35,7 @@ const TABLE: [Flag; 12] = [
         text: b"response whose checksum does not match",
     },
     Flag {
-        mask: RESPONSE,
+        mask: Flags::RESPONSE,
         text: b"response came",
     },
     Flag {

@@ -14,7 +14,11 @@ fn block_byte(buffer: &[u8], i: usize, k: usize) -> u8
         return 0;
     }
     let at = 512 * i + k;
-    buffer.get(at).copied().unwrap_or(0)
+    // not `get`, as in reader
+    if at < buffer.len() {
+        return buffer[at];
+    }
+    0
 }
 
 // The bytes of block i, two digits each.

@@ -13,7 +13,11 @@ use types::error::{Answer, Error};
 fn row_at(rows: &[u64], i: usize) -> Row
     ensures { result ≡ get_or (rows_in rows.now) i (row_of 0) }
 {
-    Row::of(rows.get(i).copied().unwrap_or(0))
+    // not `get`, as in reader
+    if rows.len() <= i {
+        return Row::of(0);
+    }
+    Row::of(rows[i])
 }
 
 pub fn put_row(pen: &mut Pen<'_>, register: u32, value: u32)
