@@ -151,7 +151,9 @@ impl Feeding {
         }
     }
 
-    // One turn. The data is what a write sends.
+    // One turn. The data is what a write sends. By itself: where it is copied into the loop that takes the turns, the compiler
+    // carries each field of the call from turn to turn, a fifth to a quarter more time (docs/LOOK-BACK.md).
+    #[inline(never)]
     pub fn turn(self, script: &[u32], data: &[u8], rows: &mut [u64]) -> Turn
         ensures { (taken : List ℕ) → turned_of (lent (words_of «data».now) taken) result (rows_in rows.new) ≡ turn_of script.now (way_of (lent (words_of «data».now) taken) self) (rows_in rows.old) }
     {
